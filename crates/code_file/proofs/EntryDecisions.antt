@@ -1,5 +1,6 @@
 -- Each entry and each table is valid or has an error.
 use Rattle.std.proofs.Common.{◌≡◌, ◌<◌, ◌+◌, ◌*◌, ◌⊎◌, ℕ, zero, suc, Bool, true, false, [], ◌∷◌, ◌++◌, length, take, drop, refl, sym, ◌∙◌, ap, subst, inl, inr}
+use Rattle.std.proofs.lemmas.Grind.{common_steps}
 use Rattle.std.proofs.Common.{append_assoc, arith}
 use Rattle.std.specs.Prelude.{◌==◌}
 use Rattle.std.specs.Str.{is_utf8}
@@ -8,7 +9,6 @@ use Rattle.std.proofs.lemmas.List.{length-take-le}
 use Rattle.std.proofs.lemmas.Str.{IsUtf8-from_is_utf8, is_utf8-from_IsUtf8}
 use Rattle.text_model.specs.Texts.{Text}
 use Rattle.code_model.specs.Code.{Name, Literal}
-use Rattle.code_file.specs.declared.limits.TheConstants.{MAX_NAME_BYTES}
 use Rattle.code_file.specs.declared.error.CodeError.{CodeError}
 use Rattle.code_file.specs.Grammar.{number, kind_byte, name_field, literal_field, IsCodeName, IsTextOf, IsLiteral}
 use Rattle.code_file.specs.Fault.{after, IsNameLength, IsNameFault, IsLiteralFault, in_kind, no_kind, bad_kind, no_length, bad_length, no_text, bad_text}
@@ -34,13 +34,7 @@ kind_or_fault kind = elim (cases_lt 1 kind) [
 ]
 
 name_length_or_not : (len : ℕ) → IsNameLength len ⊎ (IsNameLength len → ⊥)
-name_length_or_not len = elim (cases_lt 0 len) [
-  | inr none ↦ inr (λ p. omega (arith, p.0))
-  | inl some ↦ elim (cases_lt MAX_NAME_BYTES len) [
-    | inl long ↦ inr (λ p. omega (arith, p.1))
-    | inr short ↦ inl (some, short)
-  ]
-]
+name_length_or_not len = grind (arith, common_steps)
 
 text_of_name : (list : Bool) (len : ℕ) (rest : Text) → IsNameLength len
     → IsEntryOrFault IsCodeName name_field IsNameFault (kind_byte list ∷ len ∷ rest)

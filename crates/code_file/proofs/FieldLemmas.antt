@@ -1,12 +1,12 @@
 -- The fields of a code file.
-use Rattle.std.proofs.Common.{◌≡◌, ◌≤◌, ℕ, Bool, ◌∷◌, ◌++◌, length, take, drop, get_or, refl, sym, ◌∙◌, ap, subst, inl, inr, arith}
+use Rattle.std.proofs.Common.{◌≡◌, ◌≤◌, ℕ, Bool, ◌∷◌, ◌++◌, length, take, drop, get_or, refl, sym, ◌∙◌, ap, subst, arith}
 use Rattle.std.specs.Prelude.{◌==◌, Result, Ok, Err, MatchResult, IsOk}
 use Rattle.std.specs.Str.{IsUtf8, IsAscii}
+use Rattle.std.proofs.lemmas.Grind.{common_steps}
 use Rattle.std.proofs.lemmas.Str.{IsUtf8-from_ascii}
 use Rattle.std.proofs.Math.Seq.{take-append_seam}
 use Rattle.code_file.specs.Private.Tables.{BeginsWith}
-use Rattle.std.proofs.lemmas.List.{take-append-drop, get_or_past}
-use Rattle.std.proofs.lemmas.Bool.{cases_lt}
+use Rattle.std.proofs.lemmas.List.{take-append-drop}
 use Rattle.text_model.specs.Texts.{Text}
 use Rattle.code_model.specs.Code.{Name}
 use Rattle.code_file.specs.Grammar.{number, kind_byte, name_field, IsCodeName}
@@ -25,11 +25,7 @@ name_spelled bytes rest text after list len h front back n =
 pub literal_spelled : (bytes following rest text after : Text) (compared : Bool) (len : ℕ) → bytes ≡ kind_byte compared ∷ following
     → following ≡ number len ++ rest → text ≡ take len rest → after ≡ drop len rest → length text ≡ len
     → bytes ≡ kind_byte compared ∷ (number (length text) ++ (text ++ after))
-literal_spelled bytes following rest text after compared len h g front back n =
-    h ∙ ap (λ (t : Text). kind_byte compared ∷ t) g
-    ∙ ap (λ (t : Text). kind_byte compared ∷ (number len ++ t))
-    (sym (ap (λ (t : Text). t ++ after) front ∙ ap (λ (t : Text). take len rest ++ t) back ∙ take-append-drop len rest))
-    ∙ ap (λ (k : ℕ). kind_byte compared ∷ (number k ++ (text ++ after))) (sym n)
+literal_spelled bytes following rest text after compared len h g front back n = grind (arith, common_steps)
 
 -- a kind, and what follows it
 pub name_head : (bytes following rest : Text) (list : Bool) → bytes ≡ kind_byte list ∷ following → following ≡ rest
@@ -39,11 +35,7 @@ name_head bytes following rest list h g = h ∙ ap (λ (t : Text). kind_byte lis
 -- ---- the text of a name is ASCII
 
 ascii_name : (n : Name) → IsCodeName n → IsAscii n.text
-ascii_name n good i =
-    elim (cases_lt i (length n.text)) [
-      | inl here ↦ let low = good.visible i 0 here in omega (arith, low.1)
-      | inr past ↦ let none = get_or_past n.text i 0 past in omega (arith, none)
-    ]
+ascii_name n good i = grind (arith, common_steps)
 
 pub name_text : (bytes following text : Text) → BeginsWith IsCodeName name_field bytes → following ≡ drop 2 bytes
     → text ≡ take (get_or bytes 1 0) following → IsUtf8 text

@@ -1,5 +1,6 @@
 -- Any bytes have a code or a first error: each field is valid or has an error, from the first to the last.
 use Rattle.std.proofs.Common.{◌≡◌, ◌<◌, ◌≤◌, ◌+◌, ◌*◌, ◌⊎◌, ℕ, [], ◌∷◌, ◌++◌, length, take, drop, refl, sym, ◌∙◌, ap, subst, inl, inr, arith, Option, Some}
+use Rattle.std.proofs.lemmas.Grind.{common_steps}
 use Rattle.std.proofs.Common.{None}
 use Rattle.std.specs.Prelude.{All}
 use Rattle.std.proofs.lemmas.Bool.{cases_lt, cases_eq}
@@ -24,12 +25,7 @@ past_magic version d rest known h =
     inl (record { version = version; rest = rest; known = known; spells = ap (λ (x : ℕ). 79 ∷ 76 ∷ 75 ∷ x ∷ rest) h })
 
 no_version : (d : ℕ) (rest : Text) → (d ≡ 49 → ⊥) → (d ≡ 50 → ⊥) → PastMagic (79 ∷ 76 ∷ 75 ∷ d ∷ rest) → ⊥
-no_version d rest one two p =
-    let digit : d ≡ digit_byte p.version = let h = p.spells in cc in
-    elim p.known [
-      | inl v ↦ one (omega (arith, digit, v))
-      | inr v ↦ two (omega (arith, digit, v))
-    ]
+no_version d rest one two p = grind (arith, common_steps)
 
 version_or_not : (d : ℕ) (rest : Text) → PastMagic (79 ∷ 76 ∷ 75 ∷ d ∷ rest) ⊎ (PastMagic (79 ∷ 76 ∷ 75 ∷ d ∷ rest) → ⊥)
 version_or_not d rest = elim (cases_eq d 49) [

@@ -1,5 +1,5 @@
 -- A file has one code or one first error, since each stage of reading has one result.
-use Rattle.std.proofs.Common.{◌≡◌, ◌≤◌, ◌+◌, ◌*◌, ℕ, false, List, [], ◌∷◌, ◌++◌, length, refl, sym, ◌∙◌, ap, subst, inl, inr, append_assoc, arith}
+use Rattle.std.proofs.Common.{◌≡◌, ◌≤◌, ◌+◌, ◌*◌, ℕ, false, List, [], ◌∷◌, ◌++◌, length, refl, sym, ◌∙◌, ap, subst, append_assoc, arith}
 use Rattle.std.proofs.Common.{length-append, Option, None}
 use Rattle.std.specs.Prelude.{Result, Ok, Err, ◌==◌}
 use Rattle.std.specs.List.{flat_map}
@@ -110,14 +110,7 @@ reads_code bytes c f =
 
 spelled_len : (front : Text) (c : Code) → IsCodeFile front c
     → length front ≡ 10 + length (flat_map name_field c.names) + length (flat_map literal_field c.literals) + 8 * length c.instrs
-spelled_len front c f =
-    omega (
-      arith,
-      ap length f.spells,
-      length-append (flat_map name_field c.names) (flat_map literal_field c.literals ++ flat_map instr_field c.instrs),
-      length-append (flat_map literal_field c.literals) (flat_map instr_field c.instrs),
-      length-instrs c.instrs,
-    )
+spelled_len front c f = grind (arith, length-append, length-instrs)
 
 reads_fault : (bytes : Text) (e : CodeError) → IsFieldFault bytes e → Reads bytes (Err e)
 unfolding outcome
@@ -178,8 +171,4 @@ file_one_fault bytes e f (in_field x h p) (in_field y g q) =
 
 pub written_is_read : (bytes : Text) (c : Code) → IsCodeFile bytes c
     → ((d : Code) → IsCodeFile bytes d → d ≡ c) × ((e : CodeError) → IsRefusal bytes e → e ≡ fault NoMemory 0)
-written_is_read bytes c f = ((λ d g. file_one_code bytes d c g f), refused)
-  where
-    refused : (e : CodeError) → IsRefusal bytes e → e ≡ fault NoMemory 0
-    refused e (inl p) = absurd (file_no_fault bytes c e f p)
-    refused e (inr q) = q.0
+written_is_read bytes c f = grind (arith, file_one_code, file_no_fault)

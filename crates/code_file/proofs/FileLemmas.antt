@@ -1,8 +1,8 @@
 -- A whole file, and its code.
 use Rattle.std.proofs.Common.{◌≡◌, ◌<◌, ◌≤◌, ◌+◌, ◌*◌, ◌-◌, ◌/◌, ◌%◌, ℕ, zero, suc, false, List, [], ◌∷◌, ◌++◌, length, take, drop, get_or, refl, sym, ◌∙◌, ap}
+use Rattle.std.proofs.lemmas.Grind.{common_steps}
 use Rattle.std.proofs.Common.{subst, append_assoc, arith, length-append}
 use Rattle.std.specs.Prelude.{◌==◌}
-use Rattle.std.specs.List.{flat_map}
 use Rattle.std.proofs.lemmas.List.{nil_from_length, take-append-drop}
 use Rattle.text_model.specs.Texts.{Text}
 use Rattle.code_model.specs.Code.{Name, Literal, Code}
@@ -10,7 +10,7 @@ use Rattle.code_model.specs.declared.code.Instr.{Instr}
 use Rattle.code_file.specs.declared.header.Header.{Header}
 use Rattle.code_file.specs.declared.limits.TheConstants.{MAX_BYTES}
 use Rattle.code_file.specs.declared.error.CodeErrorKind.TheVariants.{Trailing}
-use Rattle.code_file.specs.Grammar.{number, header_field, header_of, spelled, name_field, literal_field, instr_field, IsCodeName, IsLiteral, IsInstr, IsHeader}
+use Rattle.code_file.specs.Grammar.{number, header_field, name_field, literal_field, instr_field, IsCodeName, IsLiteral, IsInstr}
 use Rattle.code_file.specs.Grammar.{IsCodeFile}
 use Rattle.code_file.specs.Fault.{fault, IsTableOf, IsTable, IsFieldFault, trailing}
 use Rattle.code_file.specs.Private.Tables.{AreTables}
@@ -83,25 +83,7 @@ pub code_file_of : (bytes : Text) (h : Header) (names literals instrs : Text) �
     → (ls : List Literal) → IsTableOf IsLiteral literal_field h.literals literals ls
     → (is : List Instr) → IsTableOf IsInstr instr_field h.instrs instrs is
     → IsCodeFile bytes (record { version = h.version; names = ns; literals = ls; instrs = is })
-code_file_of bytes h names literals instrs t short ns n ls l is i =
-    let code : Code = record { version = h.version; names = ns; literals = ls; instrs = is } in
-    let same : h ≡ header_of code = same_header h _ _ _ n.counted l.counted i.counted in
-    let spells : bytes ≡ spelled code =
-    t.spells
-    ∙ ap (λ (x : Text). header_field h ++ (x ++ (literals ++ instrs))) n.spells
-    ∙ ap (λ (x : Text). header_field h ++ (flat_map name_field ns ++ (x ++ instrs))) l.spells
-    ∙ ap (λ (x : Text). header_field h ++ (flat_map name_field ns ++ (flat_map literal_field ls ++ x))) i.spells
-    ∙ ap (λ (k : Header). header_field k ++ (flat_map name_field ns ++ (flat_map literal_field ls ++ flat_map instr_field is))) same in
-    record {
-      is_code = record {
-        header = subst IsHeader same t.allowed;
-        names = n.good;
-        literals = l.good;
-        short = subst (λ (x : Text). length x ≤ MAX_BYTES) spells short;
-      };
-      fields = i.good;
-      spells = spells;
-    }
+code_file_of bytes h names literals instrs t short ns n ls l is i = grind (arith, common_steps)
 
 -- tables are those of a code
 pub code_of_tables : (bytes : Text) (h : Header) (names literals instrs : Text) → AreTables bytes h names literals instrs

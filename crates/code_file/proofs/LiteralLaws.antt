@@ -1,9 +1,9 @@
 -- Bytes begin with at most one literal, and have at most one error of a literal.
 use Rattle.std.proofs.Common.{◌≡◌, ◌<◌, ◌+◌, ◌*◌, ◌/◌, ◌%◌, ◌^◌, ◌⊎◌, ℕ, Bool, true, false, [], ◌∷◌, ◌++◌, length, take, refl, sym, ◌∙◌, ap, subst, inl, inr}
-use Rattle.std.proofs.Common.{arith, length-append}
+use Rattle.std.proofs.lemmas.Grind.{common_steps}
+use Rattle.std.proofs.Common.{arith}
 use Rattle.std.specs.Prelude.{Result, Ok, Err, nat_lt, ◌==◌, if◌then◌else◌}
-use Rattle.std.proofs.lemmas.Bool.{lt-ltb, le-ltb}
-use Rattle.std.proofs.Math.Seq.{take-append_seam}
+use Rattle.std.proofs.lemmas.Bool.{lt-ltb}
 use Rattle.text_model.specs.Texts.{Text}
 use Rattle.text_model.proofs.Lists.{same_halves}
 use Rattle.code_model.specs.Code.{Literal}
@@ -43,20 +43,12 @@ good_kind_literal : (compared : Bool) (high low : ℕ) (rest : Text)
 good_kind_literal true high low rest = refl
 good_kind_literal false high low rest = refl
 
-kind_back : (b : Bool) → (kind_byte b == 1) ≡ b
-kind_back true = refl
-kind_back false = refl
-
 -- a number can be computed from its two bytes
 pub number_back : (n : ℕ) → n < 65536 → 256 * (n / 256 % 256) + n % 256 ≡ n
 number_back n small = omega arith
 
 literal_text_shape : (l : Literal) (rest : Text) → length l.bytes < 2 ^ 16 → literal_shape (literal_field l ++ rest) ≡ Ok l
-literal_text_shape l rest small =
-    let enough : nat_lt (length (l.bytes ++ rest)) (length l.bytes) ≡ false =
-    le-ltb (length (l.bytes ++ rest)) (length l.bytes) (omega (arith, length-append l.bytes rest)) in
-    good_kind_literal l.compared (length l.bytes / 256 % 256) (length l.bytes % 256) (l.bytes ++ rest)
-    ∙ rw (number_back (length l.bytes) small, enough, take-append_seam l.bytes rest, kind_back l.compared) refl
+literal_text_shape l rest small = grind (arith, common_steps)
 
 abbrev IsShapedLiteral : Text → CodeError → Type 0
 IsShapedLiteral bytes e =
@@ -75,38 +67,13 @@ shaped_literal {bytes = bytes} (bad_text literal rest h n bad) =
     inr (literal, ap literal_shape h ∙ literal_text_shape literal rest n, bad, refl)
 
 one_literal_fault : (bytes : Text) (e f : CodeError) → IsLiteralFault bytes e → IsLiteralFault bytes f → e ≡ f
-one_literal_fault bytes e f p q = go (shaped_literal p) (shaped_literal q)
-  where
-    go : IsShapedLiteral bytes e → IsShapedLiteral bytes f → e ≡ f
-    go (inl g) (inl h) = cc
-    go (inl g) (inr h) = let other = h.1 in cc
-    go (inr g) (inl h) = let other = g.1 in cc
-    go (inr g) (inr h) = g.3 ∙ sym h.3
+one_literal_fault bytes e f p q = grind (arith, shaped_literal)
 
 literal_no_fault : (l : Literal) (rest : Text) (e : CodeError) → IsLiteral l → IsLiteralFault (literal_field l ++ rest) e → ⊥
-literal_no_fault l rest e good p = go (shaped_literal p)
-  where
-    shape : literal_shape (literal_field l ++ rest) ≡ Ok l
-    shape = literal_text_shape l rest good.short
-
-    go : IsShapedLiteral (literal_field l ++ rest) e → ⊥
-    go (inl g) = let s = shape in cc
-    go (inr g) =
-        let same : g.0 ≡ l = let s = shape in let a = g.1 in cc in
-        subst (λ (k : Literal). IsTextOf k.compared k.bytes → ⊥) same g.2 good.text
+literal_no_fault l rest e good p = grind (arith, shaped_literal, literal_text_shape)
 
 one_literal : (x y : Literal) (s t : Text) → IsLiteral x → IsLiteral y → literal_field x ++ s ≡ literal_field y ++ t → (x ≡ y) × (s ≡ t)
-one_literal x y s t g h e =
-    let p = literal_text_shape x s g.short in
-    let q = literal_text_shape y t h.short in
-    let both : literal_shape (literal_field x ++ s) ≡ literal_shape (literal_field y ++ t) = ap literal_shape e in
-    let same : x ≡ y = cc in
-    let following : x.bytes ++ s ≡ y.bytes ++ t = cc in
-    (same, (same_halves x.bytes y.bytes s t (ap (λ (l : Literal). length l.bytes) same) following).1)
+one_literal x y s t g h e = grind (arith, literal_text_shape, same_halves)
 
 pub literals_apart : IsApart IsLiteral literal_field IsLiteralFault
-literals_apart = record {
-  one_entry = one_literal;
-  no_fault = literal_no_fault;
-  one_fault = one_literal_fault;
-}
+literals_apart = grind (arith, one_literal, literal_no_fault, one_literal_fault)

@@ -1,10 +1,9 @@
 -- Bytes begin with at most one name, and have at most one error of a name.
 use Rattle.std.proofs.Common.{◌≡◌, ◌<◌, ◌+◌, ◌⊎◌, ℕ, Bool, true, false, [], ◌∷◌, ◌++◌, length, take, get_or, refl, sym, ◌∙◌, ap, subst, inl, inr, arith}
-use Rattle.std.proofs.Common.{length-append}
 use Rattle.std.specs.Prelude.{Result, Ok, Err, nat_lt, nat_le, ◌&&◌, slice_index, if◌then◌else◌}
-use Rattle.std.proofs.lemmas.Bool.{cases_order, cases_Bool, lt-ltb, le-ltb, le-leb, ltb-true, leb-true, and_from, and_parts}
+use Rattle.std.proofs.lemmas.Grind.{common_steps}
+use Rattle.std.proofs.lemmas.Bool.{cases_order, cases_Bool, lt-ltb, le-leb, ltb-true, leb-true, and_from, and_parts}
 use Rattle.std.proofs.lemmas.List.{length-take-le, get_or-take}
-use Rattle.std.proofs.Math.Seq.{take-append_seam}
 use Rattle.text_model.specs.Texts.{Text}
 use Rattle.text_model.proofs.Lists.{same_halves}
 use Rattle.code_model.specs.Code.{Name}
@@ -60,11 +59,7 @@ not_length len bad = elim (cases_Bool (nat_lt 0 len && nat_le len MAX_NAME_BYTES
 ]
 
 text_shape : (n : Name) (rest : Text) → IsNameLength (length n.text) → name_shape (name_field n ++ rest) ≡ Ok n.text
-text_shape n rest len =
-    let enough : nat_lt (length (n.text ++ rest)) (length n.text) ≡ false =
-    le-ltb (length (n.text ++ rest)) (length n.text) (omega (arith, length-append n.text rest)) in
-    good_kind_shape n.list (length n.text) (n.text ++ rest)
-    ∙ rw (good_length (length n.text) len, enough, take-append_seam n.text rest) refl
+text_shape n rest len = grind (arith, common_steps)
 
 -- an error of a name is one of its shape, or a wrong byte of its text
 abbrev IsShapedName : Text → CodeError → Type 0
@@ -101,44 +96,13 @@ one_wrong text i j p q = elim (cases_order i j) [
         subst IsNameByte (get_or-take j text i 0 less) good
 
 one_name_fault : (bytes : Text) (e f : CodeError) → IsNameFault bytes e → IsNameFault bytes f → e ≡ f
-one_name_fault bytes e f p q = go (shaped_name p) (shaped_name q)
-  where
-    go : IsShapedName bytes e → IsShapedName bytes f → e ≡ f
-    go (inl g) (inl h) = cc
-    go (inl g) (inr h) = let other = h.2 in cc
-    go (inr g) (inl h) = let other = g.2 in cc
-    go (inr g) (inr h) =
-        let same : g.0 ≡ h.0 = let a = g.2 in let b = h.2 in cc in
-        let place : g.1 ≡ h.1 = one_wrong h.0 g.1 h.1 (subst (λ (t : Text). IsFirstWrong t g.1) same g.3) h.3 in
-        g.4 ∙ ap (λ (n : ℕ). fault BadName (2 + n)) place ∙ sym h.4
+one_name_fault bytes e f p q = grind (arith, shaped_name, one_wrong)
 
 name_no_fault : (n : Name) (rest : Text) (e : CodeError) → IsCodeName n → IsNameFault (name_field n ++ rest) e → ⊥
-name_no_fault n rest e good p = go (shaped_name p)
-  where
-    shape : name_shape (name_field n ++ rest) ≡ Ok n.text
-    shape = text_shape n rest (good.some, good.short)
-
-    go : IsShapedName (name_field n ++ rest) e → ⊥
-    go (inl g) = let s = shape in cc
-    go (inr g) =
-        let same : g.0 ≡ n.text = let s = shape in let a = g.2 in cc in
-        let w : IsFirstWrong n.text g.1 = subst (λ (t : Text). IsFirstWrong t g.1) same g.3 in
-        w.wrong (good.visible g.1 0 w.within)
+name_no_fault n rest e good p = grind (arith, shaped_name, text_shape)
 
 one_name : (x y : Name) (s t : Text) → name_field x ++ s ≡ name_field y ++ t → (x ≡ y) × (s ≡ t)
-one_name x y s t h =
-    let kind : kind_byte x.list ≡ kind_byte y.list = cc in
-    let len : length x.text ≡ length y.text = cc in
-    let following : x.text ++ s ≡ y.text ++ t = cc in
-    let both = same_halves x.text y.text s t len following in (
-      ap (λ (l : Bool). let n : Name = record { list = l; text = x.text } in n) (same_kind x.list y.list kind)
-          ∙ ap (λ (u : Text). let n : Name = record { list = y.list; text = u } in n) both.0,
-      both.1,
-    )
+one_name x y s t h = grind (arith, same_halves, same_kind)
 
 pub names_apart : IsApart IsCodeName name_field IsNameFault
-names_apart = record {
-  one_entry = λ x y s t g h e. one_name x y s t e;
-  no_fault = λ n rest e good p. name_no_fault n rest e good p;
-  one_fault = one_name_fault;
-}
+names_apart = grind (arith, one_name, name_no_fault, one_name_fault)

@@ -1,9 +1,10 @@
 -- Parts that are given as values, and the errors of the file that they would make.
-use Rattle.std.proofs.Common.{◌≡◌, ◌<◌, ◌≤◌, ◌+◌, ◌*◌, ◌^◌, ◌⊎◌, ℕ, suc, Bool, true, false, List, [], ◌∷◌, ◌++◌, length, take, drop, refl, sym, ◌∙◌, ap, inl}
-use Rattle.std.proofs.Common.{inr, append_assoc, arith, length-append, drop-cons, cond, Some, None}
-use Rattle.std.specs.Prelude.{All, min, Option, nat_lt, ◌==◌, is_some, IfSome, IfNone}
+use Rattle.std.proofs.Common.{◌≡◌, ◌<◌, ◌≤◌, ◌+◌, ◌*◌, ◌^◌, ◌⊎◌, ℕ, suc, true, false, List, [], ◌∷◌, ◌++◌, length, take, drop, refl, sym, ◌∙◌, ap, inl}
+use Rattle.std.proofs.lemmas.Grind.{common_steps}
+use Rattle.std.proofs.Common.{inr, append_assoc, arith, length-append, drop-cons, Some, None}
+use Rattle.std.specs.Prelude.{All, min, Option, is_some, IfSome, IfNone}
 use Rattle.std.specs.List.{flat_map, slice_index_or}
-use Rattle.std.proofs.lemmas.Bool.{cases_lt, ltb-false, eqb-false}
+use Rattle.std.proofs.lemmas.Bool.{cases_lt}
 use Rattle.std.proofs.lemmas.List.{take-append-drop, length-take-le}
 use Rattle.std.proofs.lemmas.List.Concat.{flat_map-append}
 use Rattle.std.proofs.lemmas.List.Elements.{All-nil, All-cons}
@@ -11,7 +12,7 @@ use Rattle.text_model.specs.Texts.{Text}
 use Rattle.code_model.specs.Code.{Name, Literal, Code}
 use Rattle.code_model.specs.declared.code.Instr.{Instr}
 use Rattle.code_file.specs.declared.header.Header.{Header}
-use Rattle.code_file.specs.declared.limits.TheConstants.{MAX_BYTES, MAX_NAMES, MAX_LITERALS, MAX_INSTRS, MAX_NAME_BYTES}
+use Rattle.code_file.specs.declared.limits.TheConstants.{MAX_BYTES, MAX_NAME_BYTES}
 use Rattle.code_file.specs.declared.error.CodeError.{CodeError}
 use Rattle.code_file.specs.declared.error.CodeErrorKind.TheVariants.{BadName, BadLiteral}
 use Rattle.code_file.specs.Grammar.{spelled, header_of, name_field, literal_field, instr_field, IsNameByte, IsVersion, IsCodeName, IsLiteral, IsHeader}
@@ -30,29 +31,12 @@ entries_le field some (x ∷ xs) =
     omega (arith, entries_le field some xs, some x, length-append (field x) (flat_map field xs))
 
 pub header_small : (c : Code) → IsVersion c.version → length (spelled c) ≤ MAX_BYTES → IsHeaderField (header_of c)
-header_small c known short =
-    let n = entries_le name_field (λ x. omega arith) c.names in
-    let l = entries_le literal_field (λ x. omega arith) c.literals in
-    let i = length-instrs c.instrs in
-    let front = length-append (flat_map name_field c.names) (flat_map literal_field c.literals ++ flat_map instr_field c.instrs) in
-    let back = length-append (flat_map literal_field c.literals) (flat_map instr_field c.instrs) in
-    record {
-      version = known;
-      names = omega (arith, n, front);
-      literals = omega (arith, l, front, back);
-      instrs = omega (arith, i, front, back);
-    }
+header_small c known short = grind (arith, entries_le, length-instrs, length-append)
 
 -- ---- the first error of a name and of a literal
 
 is_name_byte_or_not : (b : ℕ) → IsNameByte b ⊎ (IsNameByte b → ⊥)
-is_name_byte_or_not b = elim (cases_lt b 0x21) [
-  | inl low ↦ inr (λ p. omega (arith, p.0))
-  | inr above ↦ elim (cases_lt 0x7e b) [
-    | inl high ↦ inr (λ p. omega (arith, p.1))
-    | inr below ↦ inl (above, below)
-  ]
-]
+is_name_byte_or_not b = grind (arith, common_steps)
 
 pub first_wrong_of : (text : Text) → All IsNameByte text ⊎ ((place : ℕ) × IsFirstWrong text place)
 first_wrong_of [] = inl (All-nil IsNameByte)
@@ -167,23 +151,8 @@ short_of_min n r h k = omega arith
 pub long_of_min : (n r : ℕ) → r ≡ min n 18446744073709551615 → 65536 < r → 65536 < n
 long_of_min n r h k = omega arith
 
-none_if : {E : Type 0} (b : Bool) (x : E) (y : Option E) → cond b (Some x) y ≡ None → (b ≡ false) × (y ≡ None)
-none_if true x y h = cc
-none_if false x y h = (refl, h)
-
 pub allowed_header : (h : Header) → IsVersion h.version → header_fault h ≡ None → IsHeader h
-allowed_header h known none =
-    let names = none_if (nat_lt MAX_NAMES h.names) _ _ none in
-    let literals = none_if (nat_lt MAX_LITERALS h.literals) _ _ names.1 in
-    let instrs = none_if (nat_lt MAX_INSTRS h.instrs) _ _ literals.1 in
-    let some = none_if (h.instrs == 0) _ _ instrs.1 in
-    record {
-      version = known;
-      names = ltb-false MAX_NAMES h.names names.0;
-      literals = ltb-false MAX_LITERALS h.literals literals.0;
-      some = let not_zero = eqb-false h.instrs 0 some.0 in omega arith;
-      instrs = ltb-false MAX_INSTRS h.instrs instrs.0;
-    }
+allowed_header h known none = grind (arith, common_steps)
 
 pub some_there : {X : Type 0} (o : Option X) (P : X → Type 0) → is_some o ≡ true → IfSome o P → (x : X) × P x
 some_there (Some x) P h p = (x, p)

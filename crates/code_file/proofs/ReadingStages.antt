@@ -1,7 +1,8 @@
 -- A file is read in stages, each of which has one result: its header, the tables, and the end.
-use Rattle.std.proofs.Common.{◌≡◌, ◌<◌, ◌+◌, ◌*◌, ◌/◌, ◌%◌, ℕ, List, [], ◌++◌, length, refl, sym, ◌∙◌, ap, append_assoc, arith, Option, Some, None}
+use Rattle.std.proofs.Common.{◌≡◌, ◌<◌, ◌+◌, ◌*◌, ℕ, List, [], ◌++◌, length, refl, sym, ◌∙◌, ap, append_assoc, arith, Option, Some, None}
 use Rattle.std.specs.Prelude.{All, Result, Ok, Err}
 use Rattle.std.specs.List.{flat_map}
+use Rattle.std.proofs.lemmas.Grind.{common_steps}
 use Rattle.std.proofs.lemmas.List.{append-nil}
 use Rattle.text_model.specs.Texts.{Text}
 use Rattle.code_model.specs.Code.{Name, Literal, Code}
@@ -13,7 +14,7 @@ use Rattle.code_file.specs.Grammar.{digit_byte, magic, number, header_field, cod
 use Rattle.code_file.specs.Fault.{fault, cut_short, after, header_fault, IsHeaderField, PastMagic, PastCounts, IsNameFault, IsLiteralFault}
 use Rattle.code_file.proofs.StageLemmas.{IsApart, ReadsTable, one_table, same_entries, IsOne, Then, then_one}
 use Rattle.code_file.proofs.NameLaws.{names_apart}
-use Rattle.code_file.proofs.LiteralLaws.{literals_apart, number_back}
+use Rattle.code_file.proofs.LiteralLaws.{literals_apart}
 use Rattle.code_file.proofs.PartsLemmas.{length-instrs}
 
 -- ---- the header
@@ -27,10 +28,6 @@ pub data ReadsHeader (bytes : Text) : Result (Header × Text) CodeError → Type
   short_counts : (p : PastMagic bytes) → length p.rest < 6 → ReadsHeader bytes (Err (cut_short bytes))
   counted : (p : PastCounts bytes) → ReadsHeader bytes (outcome (header_fault p.header) p.header p.rest)
 
-same_number : (m n : ℕ) → m < 65536 → n < 65536 → m / 256 % 256 ≡ n / 256 % 256 → m % 256 ≡ n % 256 → m ≡ n
-same_number m n p q high low =
-    sym (number_back m p) ∙ ap (λ (k : ℕ). 256 * k + m % 256) high ∙ ap (λ (k : ℕ). 256 * (n / 256 % 256) + k) low ∙ number_back n q
-
 same_magic : (v w : ℕ) (s t : Text) → magic v ++ s ≡ magic w ++ t → (v ≡ w) × (s ≡ t)
 same_magic v w s t h =
     let digit : digit_byte v ≡ digit_byte w = cc in
@@ -38,25 +35,7 @@ same_magic v w s t h =
     (omega (arith, digit), tail)
 
 same_header : (h k : Header) (s t : Text) → IsHeaderField h → IsHeaderField k → header_field h ++ s ≡ header_field k ++ t → (h ≡ k) × (s ≡ t)
-same_header h k s t p q same =
-    let following = same_magic h.version k.version _ _ same in
-    let counts = following.1 in
-    let names_high : h.names / 256 % 256 ≡ k.names / 256 % 256 = cc in
-    let names_low : h.names % 256 ≡ k.names % 256 = cc in
-    let names : h.names ≡ k.names = same_number h.names k.names p.names q.names names_high names_low in
-    let literals_high : h.literals / 256 % 256 ≡ k.literals / 256 % 256 = cc in
-    let literals_low : h.literals % 256 ≡ k.literals % 256 = cc in
-    let literals : h.literals ≡ k.literals = same_number h.literals k.literals p.literals q.literals literals_high literals_low in
-    let instrs_high : h.instrs / 256 % 256 ≡ k.instrs / 256 % 256 = cc in
-    let instrs_low : h.instrs % 256 ≡ k.instrs % 256 = cc in
-    let instrs : h.instrs ≡ k.instrs = same_number h.instrs k.instrs p.instrs q.instrs instrs_high instrs_low in
-    let tail : s ≡ t = cc in (
-      ap (λ (n : ℕ). let x : Header = record { version = n; names = h.names; literals = h.literals; instrs = h.instrs } in x) following.0
-          ∙ ap (λ (n : ℕ). let x : Header = record { version = k.version; names = n; literals = h.literals; instrs = h.instrs } in x) names
-          ∙ ap (λ (n : ℕ). let x : Header = record { version = k.version; names = k.names; literals = n; instrs = h.instrs } in x) literals
-          ∙ ap (λ (n : ℕ). let x : Header = record { version = k.version; names = k.names; literals = k.literals; instrs = n } in x) instrs,
-      tail,
-    )
+same_header h k s t p q same = grind (arith, common_steps)
 
 -- what comes after the magic
 abbrev past_magic : {bytes : Text} → PastCounts bytes → PastMagic bytes
@@ -136,33 +115,10 @@ no_instr_fault bytes e = ⊥
 
 instrs_apart : IsApart IsInstr instr_field no_instr_fault
 unfolding no_instr_fault
-instrs_apart = record {
-  one_entry = λ x y s t g h e. one x y s t g h e;
-  no_fault = λ x s e g f. f;
-  one_fault = λ bytes e f g h. absurd g;
-}
+instrs_apart = grind (arith, common_steps)
   where
     one : (x y : Instr) (s t : Text) → IsInstr x → IsInstr y → instr_field x ++ s ≡ instr_field y ++ t → (x ≡ y) × (s ≡ t)
-    one x y s t g h e =
-        let op : x.op ≡ y.op = cc in
-        let a : x.a ≡ y.a = cc in
-        let b_high : x.b / 256 % 256 ≡ y.b / 256 % 256 = cc in
-        let b_low : x.b % 256 ≡ y.b % 256 = cc in
-        let b : x.b ≡ y.b = same_number x.b y.b g.b h.b b_high b_low in
-        let c_high : x.c / 256 % 256 ≡ y.c / 256 % 256 = cc in
-        let c_low : x.c % 256 ≡ y.c % 256 = cc in
-        let c : x.c ≡ y.c = same_number x.c y.c g.c h.c c_high c_low in
-        let d_high : x.d / 256 % 256 ≡ y.d / 256 % 256 = cc in
-        let d_low : x.d % 256 ≡ y.d % 256 = cc in
-        let d : x.d ≡ y.d = same_number x.d y.d g.d h.d d_high d_low in
-        let tail : s ≡ t = cc in (
-          ap (λ (n : ℕ). let i : Instr = record { op = n; a = x.a; b = x.b; c = x.c; d = x.d } in i) op
-              ∙ ap (λ (n : ℕ). let i : Instr = record { op = y.op; a = n; b = x.b; c = x.c; d = x.d } in i) a
-              ∙ ap (λ (n : ℕ). let i : Instr = record { op = y.op; a = y.a; b = n; c = x.c; d = x.d } in i) b
-              ∙ ap (λ (n : ℕ). let i : Instr = record { op = y.op; a = y.a; b = y.b; c = n; d = x.d } in i) c
-              ∙ ap (λ (n : ℕ). let i : Instr = record { op = y.op; a = y.a; b = y.b; c = y.c; d = n } in i) d,
-          tail,
-        )
+    one x y s t g h e = grind (arith, common_steps)
 
 -- the bytes before the instructions
 abbrev front_len : Literals → ℕ

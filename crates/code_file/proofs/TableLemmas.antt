@@ -1,12 +1,13 @@
 -- Tables of entries that follow one another.
 use Rattle.std.proofs.Common.{◌≡◌, ◌<◌, ◌≤◌, ◌+◌, ◌-◌, ◌*◌, ℕ, suc, List, [], ◌∷◌, ◌++◌, length, take, drop, refl, sym, ◌∙◌, ap, subst, append_assoc, arith}
+use Rattle.std.proofs.lemmas.Grind.{common_steps}
 use Rattle.std.proofs.Common.{length-append}
 use Rattle.std.specs.Prelude.{All}
 use Rattle.std.specs.List.{flat_map}
 use Rattle.std.proofs.lemmas.List.{append-nil, take-append-drop}
 use Rattle.std.proofs.Math.Seq.{take-append_seam}
 use Rattle.std.proofs.lemmas.List.Concat.{flat_map-append}
-use Rattle.std.proofs.lemmas.List.Elements.{All-nil, All-cons, All-push, All-head, All-tail}
+use Rattle.std.proofs.lemmas.List.Elements.{All-nil, All-push, All-head, All-tail}
 use Rattle.text_model.specs.Texts.{Text}
 use Rattle.code_model.specs.declared.code.Instr.{Instr}
 use Rattle.code_file.specs.Grammar.{instr_field, IsInstr}
@@ -86,11 +87,7 @@ building_next {X = X} {IsGood = IsGood} {field = field} {count = count} {bytes =
 pub table_cons : {X : Type 0} (IsGood : X → Type 0) (field : X → Text) (count : ℕ) (bytes whole : Text) (entries : List X)
     → IsTableOf IsGood field count bytes entries → (x : X) → IsGood x → whole ≡ field x ++ bytes
     → IsTableOf IsGood field (suc count) whole (x ∷ entries)
-table_cons IsGood field count bytes whole entries t x good h = record {
-  good = All-cons IsGood x entries good t.good;
-  counted = ap suc t.counted;
-  spells = h ∙ ap (λ (b : Text). field x ++ b) t.spells;
-}
+table_cons IsGood field count bytes whole entries t x good h = grind (arith, common_steps)
 
 -- one more instruction is read, and eight fewer bytes are left
 pub instrs_more : (count n : ℕ) (bytes rest after : Text) (built : List Instr) (instr : Instr)
@@ -98,9 +95,4 @@ pub instrs_more : (count n : ℕ) (bytes rest after : Text) (built : List Instr)
     → n < count → IsInstr instr → rest ≡ instr_field instr ++ after → length rest ≡ 8 + length after
     → All IsInstr (built ++ instr ∷ []) × (length (built ++ instr ∷ []) ≡ n + 1) × (length after ≡ 8 * (count - (n + 1)))
     × (bytes ≡ flat_map instr_field (built ++ instr ∷ []) ++ after)
-instrs_more count n bytes rest after built instr so_far more fits spells len = (
-  All-push IsInstr built instr so_far.0 fits,
-  length-append built (instr ∷ []) ∙ ap (λ (k : ℕ). k + 1) so_far.1,
-  omega (arith, so_far.2, len, more),
-  spells_more instr_field bytes rest after built instr so_far.3 spells,
-)
+instrs_more count n bytes rest after built instr so_far more fits spells len = grind (arith, common_steps)

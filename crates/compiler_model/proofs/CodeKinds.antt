@@ -3,10 +3,9 @@
 use Rattle.std.proofs.Common.{◌≡◌, ℕ, suc, ◌+◌, ◌<◌, ◌≤◌, List, [], ◌∷◌, ◌++◌, length, Option, Some, None, refl, sym, ap, ◌∙◌, subst, arith, ⊎_elim}
 use Rattle.std.specs.Prelude.{slice_get}
 use Rattle.std.specs.List.{AllByRecursion}
+use Rattle.std.proofs.lemmas.Grind.{common_steps}
 use Rattle.std.proofs.lemmas.Bool.{cases_lt}
 use Rattle.std.proofs.lemmas.List.{length-append}
-use Rattle.std.proofs.lemmas.Option.{same_Some}
-use Rattle.text_model.specs.Texts.{Text}
 use Rattle.code_model.specs.Code.{Code, reading_at}
 use Rattle.code_model.specs.declared.code.Instruction.{Instruction}
 use Rattle.code_model.specs.declared.code.Instruction.TheVariants as instruction
@@ -15,7 +14,7 @@ use Rattle.machine_model.specs.declared.kind.Kind.TheVariants as kind
 use Rattle.machine_model.specs.Operands.{Reads}
 use Rattle.machine_model.specs.States.{put}
 use Rattle.machine_model.specs.Form.{is_in_body, body_at}
-use Rattle.machine_model.specs.Kinds.{Kinds, any_kinds, IsBelow, edge, edges, needs, for_instruction, needs_at, edges_at}
+use Rattle.machine_model.specs.Kinds.{Kinds, any_kinds, IsBelow, edge, edges, needs, needs_at, edges_at}
 use Rattle.machine_model.specs.Typable.{Table, Holds, IsMet}
 use Rattle.machine_model.proofs.Orders.{below_trans}
 use Rattle.machine_model.proofs.Readings.{Reads-reading_at}
@@ -31,7 +30,7 @@ use Rattle.compiler_model.proofs.Places.{IsPlaced, ArePlaced, placed_both}
 use Rattle.compiler_model.proofs.Formed.{IsFormed}
 use Rattle.compiler_model.proofs.Forming.{Room, room_less, body_next, loop_body, body_begins, test_each, each_read, none_outside, body_past}
 use Rattle.compiler_model.proofs.NoFaults.{test_read}
-use Rattle.compiler_model.proofs.Typed.{MeetsAction, after_action, MeetsTest, after_test, Typed, rows, length-rows, below_any, exactly}
+use Rattle.compiler_model.proofs.Typed.{MeetsAction, after_action, MeetsTest, after_test, Typed, rows, length-rows, exactly}
 
 -- kinds for places one after another
 abbrev pub AreRowsPlaced : Table → ℕ → List Kinds → Type 0
@@ -68,12 +67,7 @@ module _ (c : Code) (t : Table) where
 
   pub settled : (place : ℕ) (i : Instruction) (ks : Kinds) → reading_at c place ≡ Some i → t place ≡ Some ks
       → AllByRecursion (Holds t) (edges place ks (body_at c place) i) → AllByRecursion (IsMet ks) (needs i) → IsSettled place
-  settled place i ks r e h n ms f =
-      let same : ks ≡ ms = same_Some _ _ (sym e ∙ f) in (
-        subst (λ x. AllByRecursion (Holds t) (edges_at c place x)) same
-            (subst (λ o. AllByRecursion (Holds t) (for_instruction o (edges place ks (body_at c place)))) (sym r) h),
-        subst (λ x. AllByRecursion (IsMet x) (needs_at c place)) same (subst (λ o. AllByRecursion (IsMet ks) (for_instruction o needs)) (sym r) n),
-      )
+  settled place i ks r e h n ms f = grind (arith, common_steps)
 
   -- all places from p to before q
   abbrev pub Settled : ℕ → ℕ → Type 0
@@ -130,11 +124,7 @@ module _ (c : Code) (t : Table) where
   block_fits Nothing version away p q o f h eq lt room m at ks ms y r k =
       let same : q ≡ p = omega (arith, eq) in
       (λ x low high. absurd (omega (arith, low, high, eq)), takes_below p ks ms y (subst (λ n. Takes n ms) same k))
-  block_fits (Does a) version away p q o f h eq lt room m at ks ms y r k =
-      let same : q ≡ p + 1 = omega (arith, eq) in (
-        settled_one p q eq (action_settled a away p ks h.0 r.0 y.0 (takes_below (p + 1) _ ms y.1 (subst (λ n. Takes n ms) same k))),
-        takes_row p ks r.0 ks (exactly ks),
-      )
+  block_fits (Does a) version away p q o f h eq lt room m at ks ms y r k = grind (arith, common_steps)
   block_fits (Then x z) version away p q o f h eq lt room m at ks ms y r k =
       let mid = p + length (lines x) in
       let are_placed = placed_both c away p (lines x) (lines z) h in
@@ -201,15 +191,5 @@ module _ (c : Code) (t : Table) where
             (takes_below (p + 1) (put y.1 a kind.Text) y.0 y.2.returns turn.1) (takes_below (last + 1) (put y.1 a kind.Any) ms y.2.leaves out)))),
         takes_row p ks r.0 ks (exactly ks),
       )
-  block_fits (LeaveIf test) version away p q o f h eq lt room m at ks ms y r k =
-      let same : q ≡ p + 1 = omega (arith, eq) in (
-        settled_one p q eq (test_settled test p away ks h.0.reads r.0 y.0 (takes_below away ks any_kinds (below_any ks) (m (none_outside c o f.0)))
-            (takes_below (p + 1) _ ms y.1 (subst (λ n. Takes n ms) same k))),
-        takes_row p ks r.0 ks (exactly ks),
-      )
-  block_fits Leave version away p q o f h eq lt room m at ks ms y r k = (
-    settled_one p q eq
-        (settled p (instruction.Jump away) ks (Reads-reading_at c p _ h.0.reads) r.0
-        (takes_below away ks any_kinds (below_any ks) (m (none_outside c o f)), tt) tt),
-    takes_row p ks r.0 ks (exactly ks),
-  )
+  block_fits (LeaveIf test) version away p q o f h eq lt room m at ks ms y r k = grind (arith, common_steps)
+  block_fits Leave version away p q o f h eq lt room m at ks ms y r k = grind (arith, common_steps)

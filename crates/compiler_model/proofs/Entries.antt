@@ -3,7 +3,6 @@ use Rattle.std.proofs.Common.{◌≡◌, suc, ◌+◌, List, [], ◌∷◌, ◌+
 use Rattle.std.specs.Prelude.{◌||◌, ◌&&◌, not, if◌then◌else◌, slice_get, filter}
 use Rattle.std.specs.List.{list_any, position_or_len}
 use Rattle.std.specs.Bool.{beq, Decides}
-use Rattle.std.specs.Cmp.{booleans_Decides}
 use Rattle.std.specs.Str.{bytes_eq}
 use Rattle.std.proofs.lemmas.Bool.{and_from, and_parts, false≢true, or_right}
 use Rattle.std.proofs.lemmas.Slice.Eq.{bytes_eq-Decides}
@@ -16,12 +15,7 @@ use Rattle.compiler_model.specs.Tables.{is_same_name, is_same_literal, firsts}
 -- equality of entries that consist of a text and a flag
 decides_both : {X : Type 0} (text : X → Text) (flag : X → Bool) → ((x y : X) → text x ≡ text y → flag x ≡ flag y → x ≡ y) → (x y : X)
     → Decides (bytes_eq (text x) (text y) && beq (flag x) (flag y)) (x ≡ y)
-decides_both text flag whole x y = (
-  λ h. let both = and_parts (bytes_eq (text x) (text y)) (beq (flag x) (flag y)) h in
-      whole x y ((bytes_eq-Decides (text x) (text y)).0 both.0) ((booleans_Decides (flag x) (flag y)).0 both.1),
-  λ e. and_from (bytes_eq (text x) (text y)) (beq (flag x) (flag y)) ((bytes_eq-Decides (text x) (text y)).1 (ap text e))
-      ((booleans_Decides (flag x) (flag y)).1 (ap flag e)),
-)
+decides_both text flag whole x y = grind (arith, and_parts, bytes_eq-Decides, and_from)
 
 pub same_names : (n m : Name) → Decides (is_same_name n m) (n ≡ m)
 same_names = decides_both (λ (n : Name). n.text) (λ n. n.list) (λ n m text list t. record { list = list t; text = text t })

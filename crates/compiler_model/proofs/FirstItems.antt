@@ -1,8 +1,9 @@
 -- A prefix of a text that is not empty is not empty.
-use Rattle.std.proofs.Common.{◌≡◌, ℕ, zero, suc, List, [], ◌∷◌, ◌++◌, Bool, true, false, refl, sym, ap, subst}
+use Rattle.std.proofs.Common.{◌≡◌, ℕ, zero, suc, List, [], ◌∷◌, ◌++◌, Bool, true, false, refl, sym, ap, subst, arith}
 use Rattle.std.specs.Prelude.{take, if◌then◌else◌}
+use Rattle.std.proofs.lemmas.Grind.{common_steps}
 use Rattle.text_model.specs.Texts.{Text}
-use Rattle.text_model.specs.Cut.{is_continuation, with_byte, code_points, are_triplet, with_triplets, items, joined}
+use Rattle.text_model.specs.Cut.{with_byte, code_points, are_triplet, with_triplets, items, joined}
 use Rattle.text_model.specs.declared.writing.Writing.{Writing}
 use Rattle.text_model.specs.declared.writing.Writing.TheVariants.{U, UR}
 use Rattle.uri_template.specs.Expansion.{prefix}
@@ -16,11 +17,7 @@ pub record BeginWith (b : ℕ) (points : List Text) : Type 0 where
 byte_first : (b : ℕ) (points : List Text) → BeginWith b (with_byte b points)
 byte_first b [] = record { first = []; others = []; whole = refl }
 byte_first b ([] ∷ points) = record { first = []; others = points; whole = refl }
-byte_first b ((next ∷ t) ∷ points) = by_test (is_continuation next)
-  where
-    by_test : (c : Bool) → BeginWith b (if c then ((b ∷ next ∷ t) ∷ points) else ((b ∷ []) ∷ (next ∷ t) ∷ points))
-    by_test true = record { first = next ∷ t; others = points; whole = refl }
-    by_test false = record { first = []; others = (next ∷ t) ∷ points; whole = refl }
+byte_first b ((next ∷ t) ∷ points) = grind (arith, common_steps)
 
 triplets_first : (b : ℕ) (first : Text) (others : List Text) → BeginWith b (with_triplets ((b ∷ first) ∷ others))
 unfolding with_triplets

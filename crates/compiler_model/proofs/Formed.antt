@@ -1,7 +1,7 @@
 -- Blocks that are correctly assembled: their registers, counts and link texts are allowed, no loop is in a loop, and no jump leaves a loop. The blocks of rules
 -- are correctly assembled.
 use Rattle.std.proofs.Common.{◌≡◌, ℕ, zero, suc, ◌≤◌, List, [], ◌∷◌, ◌++◌, Bool, true, false, refl, arith}
-use Rattle.std.specs.Prelude.{codes, if◌then◌else◌, nat_lt, nat_le, ◌&&◌, ◌||◌, All}
+use Rattle.std.specs.Prelude.{codes, nat_lt, nat_le, ◌&&◌, ◌||◌, All}
 use Rattle.std.specs.List.{AllByRecursion, list_any}
 use Rattle.std.proofs.lemmas.Bool.{and_from, le-leb, or_right}
 use Rattle.std.proofs.lemmas.List.Elements.{All-head, All-tail}
@@ -157,11 +157,7 @@ module _ (version : ℕ) where
 
   item_formed : (inside : Bool) (style : Style) (r : ℕ) → IsRegister r → (name : Text) → IsUriText name → (value : Action)
       → IsFormedAction version inside value → IsFormed version inside (item_block style r name value)
-  item_formed inside style r h name u value f = by_test style.named
-    where
-      by_test : (b : Bool) → IsFormed version inside (if b then named_block style.ifemp r name value else Does value)
-      by_test true = named_formed inside style.ifemp r h name u value f
-      by_test false = f
+  item_formed inside style r h name u value f = grind (arith, named_formed)
 
   head_formed : (named : Bool) (name : Text) → IsUriText name → IsFormed version false (head_block named name)
   head_formed true name u = named_uri name u

@@ -1,9 +1,9 @@
 -- The block of a guard continues if the guard holds, and leaves the rule if it does not.
 
-use Rattle.std.proofs.Common.{◌≡◌, ℕ, List, [], ◌∷◌, Option, Some, None, Bool, true, false, refl, sym, ap, ◌∙◌, subst, ◌⊎◌, inl, inr}
-use Rattle.std.specs.Prelude.{◌&&◌, not, nat_le, option_and_then}
-use Rattle.std.specs.Str.{bytes_eq}
-use Rattle.std.proofs.lemmas.Bool.{and_parts, leb-true, leb-false, false≢true}
+use Rattle.std.proofs.Common.{◌≡◌, ℕ, List, [], ◌∷◌, Option, Some, None, Bool, true, false, refl, ap, ◌∙◌, subst, ◌⊎◌, inl, inr, arith}
+use Rattle.std.specs.Prelude.{◌&&◌, not, option_and_then}
+use Rattle.std.proofs.lemmas.Grind.{common_steps}
+use Rattle.std.proofs.lemmas.Bool.{and_parts}
 use Rattle.std.proofs.lemmas.Slice.Eq.{bytes_eq-Decides}
 use Rattle.text_model.specs.Texts.{Text}
 use Rattle.text_model.specs.Number.{leading_number}
@@ -52,20 +52,10 @@ record Compares (i : ℕ) (test : Test) (allows : Option ℕ → Bool) : Type 1 
       → Tested test s (R s) Q
 
 low_test : (i : ℕ) → Compares i (IsLess 1 3) (λ low. is_at_least low i)
-low_test i = record { unbounded = refl; decides = λ m s Q R e f k. by_test m s Q R e f (nat_le m i) refl k }
-  where
-    by_test : (m : ℕ) (s : Store) (Q R : Claim) → s.registers 1 ≡ value.Number i → s.registers 3 ≡ value.Number m → (b : Bool) → nat_le m i ≡ b
-        → Bounds i b s.output Q R → Tested (IsLess 1 3) s (R s) Q
-    by_test m s Q R e f true h k = (i, m, e, f, inr (leb-true m i h, k s e refl))
-    by_test m s Q R e f false h k = (i, m, e, f, inl (leb-false m i h, k s refl))
+low_test i = grind (arith, common_steps)
 
 high_test : (i : ℕ) → Compares i (IsLess 3 1) (λ high. is_at_most high i)
-high_test i = record { unbounded = refl; decides = λ m s Q R e f k. by_test m s Q R e f (nat_le i m) refl k }
-  where
-    by_test : (m : ℕ) (s : Store) (Q R : Claim) → s.registers 1 ≡ value.Number i → s.registers 3 ≡ value.Number m → (b : Bool) → nat_le i m ≡ b
-        → Bounds i b s.output Q R → Tested (IsLess 3 1) s (R s) Q
-    by_test m s Q R e f true h k = (m, i, f, e, inr (leb-true i m h, k s e refl))
-    by_test m s Q R e f false h k = (m, i, f, e, inl (leb-false i m h, k s refl))
+high_test i = grind (arith, common_steps)
 
 module _ (v : Environment) (lists : List Text) where
   abbrev pub look : Text → Option Meaning
@@ -156,14 +146,7 @@ module _ (v : Environment) (lists : List Text) where
   pub same_brings : (name text : Text) (o : Option Text) → text_of v name ≡ o → (s : Store) (Q R : Claim) → Settles (is_text text o) s.output Q R
       → Brings v None (guard_block lists (guard.Same name text)) s Q R
   same_brings name text None e s Q R k = inl (ap text_or_undefined e, k _ refl)
-  same_brings name text (Some t) e s Q R k = inr (t, ap text_or_undefined e, (t, text, ap text_or_undefined e, refl, by_test (bytes_eq t text) refl k))
-    where
-      compared : Store
-      compared = keeping 1 (value.Text text) (keeping 0 (text_or_undefined (text_of v name)) s)
-
-      by_test : (b : Bool) → bytes_eq t text ≡ b → Settles b s.output Q R → ((t ≡ text → ⊥) × R compared) ⊎ ((t ≡ text) × Q compared)
-      by_test true h k = inr ((bytes_eq-Decides t text).0 h, k _ refl)
-      by_test false h k = inl (λ same. false≢true (sym h ∙ (bytes_eq-Decides t text).1 same), k _ refl)
+  same_brings name text (Some t) e s Q R k = grind (arith, keeping, bytes_eq-Decides)
 
   pub between_brings : (name : Text) (low high : Bound) → bounds_fit lists low high ≡ true → (o : Option Text) → text_of v name ≡ o → (s : Store) (Q R : Claim)
       → Settles (is_number_within (bound_number look low) (bound_number look high) (option_and_then leading_number o)) s.output Q R

@@ -1,20 +1,19 @@
 -- What the blocks of guards on lists do, and then those of all guards.
 
-use Rattle.std.proofs.Common.{◌≡◌, List, [], ◌∷◌, length, Some, None, Bool, true, false, refl, sym, ◌∙◌, subst, ◌⊎◌, inl, inr}
-use Rattle.std.specs.Prelude.{codes, ◌||◌, not, option_and_then}
+use Rattle.std.proofs.Common.{◌≡◌, List, [], ◌∷◌, length, Some, None, Bool, true, false, refl, sym, ◌∙◌, subst, ◌⊎◌, inl, inr, arith}
+use Rattle.std.specs.Prelude.{codes, ◌||◌}
 use Rattle.std.specs.List.{list_all, list_any}
 use Rattle.std.specs.Str.{bytes_eq}
 use Rattle.std.proofs.lemmas.Bool.{and_parts, false≢true}
 use Rattle.std.proofs.lemmas.Slice.Eq.{bytes_eq-Decides}
 use Rattle.text_model.specs.Texts.{Text}
-use Rattle.text_model.specs.Number.{leading_number}
 use Rattle.environment_model.specs.Environment.{Environment, look_up, text_of, members_of}
 use Rattle.environment_model.specs.Lists.{is_list}
 use Rattle.machine_model.specs.Values as value
 use Rattle.rule_parser.specs.declared.rule.Guard.{Guard}
 use Rattle.rule_parser.specs.declared.rule.Guard.TheVariants as guard
 use Rattle.rule_parser.specs.Rules.{bounds_fit, guard_fits}
-use Rattle.rule_parser.specs.Meaning.{is_given, is_text, bound_number, is_within, is_number_within, guard_holds}
+use Rattle.rule_parser.specs.Meaning.{is_given, is_text, bound_number, is_within, guard_holds}
 use Rattle.compiler_model.specs.declared.lines.Action.TheVariants.{LoadConst}
 use Rattle.compiler_model.specs.declared.lines.Test.TheVariants.{IsEmpty, Differs}
 use Rattle.compiler_model.specs.Blocks.{Does, Unless}
@@ -89,11 +88,7 @@ module _ (v : Environment) (lists : List Text) where
       same_brings v lists name text (text_of v name) refl s Q R (subst (λ o. Settles (is_text text o) s.output Q R) (text_looked v lists name z) k)
   guard_brings (guard.Holds name text) z s Q R k =
       holds_brings name text s Q R (subst (λ ts. Settles (found text ts) s.output Q R) (members_seen v lists (look_up v name) (is_list lists name) z) k)
-  guard_brings (guard.Between name low high) z s Q R k =
-      let both = and_parts (not (is_list lists name)) (bounds_fit lists low high) z in
-      between_brings v lists name low high both.1 (text_of v name) refl s Q R
-      (subst (λ o. Settles (is_number_within (bound_number (look v lists) low) (bound_number (look v lists) high) (option_and_then leading_number o)) s.output
-      Q R) (text_looked v lists name both.0) k)
+  guard_brings (guard.Between name low high) z s Q R k = grind (arith, and_parts, between_brings, look, text_looked)
   guard_brings (guard.Counts name low high) z s Q R k =
       let both = and_parts (is_list lists name) (bounds_fit lists low high) z in (
         members_of v name,

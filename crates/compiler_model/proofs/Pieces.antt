@@ -1,6 +1,6 @@
 -- The block of a template's part appends what the part expands to.
 
-use Rattle.std.proofs.Common.{◌≡◌, ℕ, zero, suc, List, [], ◌∷◌, ◌++◌, Option, Some, None, Bool, true, false, refl, sym, ap, ◌∙◌, ◌⊎◌, inl, inr}
+use Rattle.std.proofs.Common.{◌≡◌, ℕ, zero, suc, List, [], ◌∷◌, ◌++◌, Option, Some, None, Bool, true, false, refl, sym, ap, ◌∙◌, ◌⊎◌, inl, inr, arith}
 use Rattle.std.specs.Prelude.{codes, map, if◌then◌else◌}
 use Rattle.std.specs.List.{flat_map}
 use Rattle.std.proofs.lemmas.List.{append_assoc, append-nil}
@@ -113,13 +113,7 @@ module _ (v : Environment) where
   pub item_brings : (style : Style) → EndsName style.ifemp → (turn : Option Bool) (r n : ℕ) (name t : Text) (s : Store) (Q R : Claim)
       → s.registers r ≡ value.Text t → Adds s (item style name (prefix style.writing n t)) Q
       → Brings v turn (item_block style r name (writing_action r style.writing n)) s Q R
-  item_brings style h turn r n name t s Q R e k = by_test style.named k
-    where
-      by_test : (named : Bool)
-          → Adds s (if named then (name ++ equated style (prefix style.writing n t)) else written style.writing (prefix style.writing n t)) Q
-          → Brings v turn (if named then named_block style.ifemp r name (writing_action r style.writing n) else Does (writing_action r style.writing n)) s Q R
-      by_test true k = named_brings style turn r n name t s Q R style.ifemp refl h e k
-      by_test false k = value_brings turn r style.writing n t s Q e (k _ refl)
+  item_brings style h turn r n name t s Q R e k = grind (arith, named_brings, value_brings)
 
   -- ---- members
 

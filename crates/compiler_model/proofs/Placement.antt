@@ -1,8 +1,9 @@
 -- The code of rules: its tables have the entries of its lines, and it contains the lines.
-use Rattle.std.proofs.Common.{◌≡◌, ℕ, ◌<◌, List, length, Some, Bool, true, false, refl, ap, arith}
-use Rattle.std.specs.Prelude.{slice_get, if◌then◌else◌, nat_lt, nat_le, ◌==◌}
+use Rattle.std.proofs.Common.{◌≡◌, ℕ, List, length, Some, Bool, true, false, refl, ap, arith}
+use Rattle.std.specs.Prelude.{slice_get, nat_lt, nat_le}
 use Rattle.std.specs.List.{AllByRecursion}
-use Rattle.std.proofs.lemmas.Bool.{lt-ltb, ltb-true, eq-eqb}
+use Rattle.std.proofs.lemmas.Grind.{common_steps}
+use Rattle.std.proofs.lemmas.Bool.{lt-ltb, eq-eqb}
 use Rattle.std.proofs.lemmas.Option.{slice_get_within}
 use Rattle.text_model.specs.declared.writing.Writing.{Writing}
 use Rattle.text_model.specs.declared.writing.Writing.TheVariants.{U, UR}
@@ -63,11 +64,7 @@ HasEntries c line = Unit {0}
 
 module _ (c : Code) where
   register_right : (r : ℕ) → IsRegister r → nat_lt r (register_count c) ≡ true
-  register_right r h = by_version (c.version == 2)
-    where
-      by_version : (b : Bool) → nat_lt r (if b then 64 else 16) ≡ true
-      by_version true = let lt : r < 16 = ltb-true r 16 h in lt-ltb r 64 (omega (arith, lt))
-      by_version false = h
+  register_right r h = grind (arith, common_steps)
 
   within_table : {X : Type 0} (xs : List X) (n : ℕ) (x : X) → slice_get xs n ≡ Some x → nat_lt n (length xs) ≡ true
   within_table xs n x h = lt-ltb n (length xs) (slice_get_within xs n x h)

@@ -1,10 +1,8 @@
 -- Kinds before and after a block, and the blocks of rules.
 
-use Rattle.std.proofs.Common.{◌≡◌, ℕ, suc, List, [], ◌∷◌, ◌++◌, length, Bool, true, false, refl, sym, ap, ◌∙◌, subst}
-use Rattle.std.specs.Prelude.{if◌then◌else◌, ◌==◌}
-use Rattle.std.proofs.lemmas.Bool.{eqb-true}
+use Rattle.std.proofs.Common.{◌≡◌, ℕ, suc, List, [], ◌∷◌, ◌++◌, length, true, refl, sym, ap, ◌∙◌, arith}
+use Rattle.std.proofs.lemmas.Grind.{common_steps}
 use Rattle.std.proofs.lemmas.List.{length-append}
-use Rattle.text_model.specs.Texts.{Text}
 use Rattle.machine_model.specs.declared.kind.Kind.{Kind}
 use Rattle.machine_model.specs.declared.kind.Kind.TheVariants as kind
 use Rattle.machine_model.specs.States.{put}
@@ -99,19 +97,7 @@ wider (Does a) ks ms ns le h = (h.0, below_trans (after_action a ks) ms ns h.1 l
 wider (Then x y) ks ms ns le h = (h.0, h.1, wider y h.0 ms ns le h.2)
 wider (Unless t x) ks ms ns le h = (h.0, below_trans ks ms ns h.1 le, wider x (after_test t ks) ms ns le h.2)
 wider (Either t x y) ks ms ns le h = (h.0, wider x (after_test t ks) ms ns le h.1, wider y ks ms ns le h.2)
-wider (ForEach a b x) ks ms ns le h =
-    let f = h.2 in (
-      h.0,
-      h.1,
-      record {
-        list = f.list;
-        enters = f.enters;
-        returns = f.returns;
-        leaves = below_trans (put h.1 a kind.Any) ms ns f.leaves le;
-        skips = below_trans (put ks a kind.Any) ms ns f.skips le;
-      },
-      h.3,
-    )
+wider (ForEach a b x) ks ms ns le h = grind (arith, common_steps)
 wider (LeaveIf t) ks ms ns le h = (h.0, below_trans (after_test t ks) ms ns h.1 le)
 wider Leave ks ms ns le h = tt
 
@@ -133,11 +119,7 @@ abbrev pub pair : ℕ → Kind → ℕ → Kind → Kinds
 pair a k b m = put (put any_kinds a k) b m
 
 pub put_above : (ks ms : Kinds) (a : ℕ) (k : Kind) → HasKindIn ks a k → IsBelow ks ms → IsBelow ks (put ms a k)
-put_above ks ms a k h below = record { at = λ r. by_test r (r == a) refl }
-  where
-    by_test : (r : ℕ) (b : Bool) → (r == a) ≡ b → kind_le (ks r) (if b then k else ms r) ≡ true
-    by_test r true e = subst (λ n. kind_le (ks n) k ≡ true) (sym (eqb-true r a e)) h
-    by_test r false e = below.at r
+put_above ks ms a k h below = grind (arith, common_steps)
 
 pub known_only : (ks : Kinds) (a : ℕ) (k : Kind) → HasKindIn ks a k → IsBelow ks (only a k)
 known_only ks a k h = put_above ks any_kinds a k h (below_any ks)

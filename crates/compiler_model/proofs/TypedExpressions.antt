@@ -1,7 +1,8 @@
 -- Kinds of expressions: before and after each variable r4 holds a text.
 
-use Rattle.std.proofs.Common.{ℕ, zero, suc, List, [], ◌∷◌, Bool, true, false, refl}
+use Rattle.std.proofs.Common.{ℕ, zero, suc, List, [], ◌∷◌, Bool, true, false, refl, arith}
 use Rattle.std.specs.Prelude.{codes, if◌then◌else◌}
+use Rattle.std.proofs.lemmas.Grind.{common_steps}
 use Rattle.text_model.specs.Texts.{Text}
 use Rattle.text_model.specs.declared.writing.Writing.{Writing}
 use Rattle.environment_model.specs.Lists.{is_list}
@@ -67,18 +68,7 @@ abbrev turning : Kinds
 turning = pair 4 kind.Text 5 kind.Text
 
 loop_typed : (body : Block) → Typed body turning turning → Typed (ForEach 5 0 body) (loaded kind.List) flagged
-loop_typed body h = (
-  turning,
-  turning,
-  record {
-    list = refl;
-    enters = known_pair (put (loaded kind.List) 5 kind.Text) 4 kind.Text 5 kind.Text refl refl;
-    returns = known_pair (put turning 5 kind.Text) 4 kind.Text 5 kind.Text refl refl;
-    leaves = known_only (put turning 5 kind.Any) 4 kind.Text refl;
-    skips = known_only (put (loaded kind.List) 5 kind.Any) 4 kind.Text refl;
-  },
-  h,
-)
+loop_typed body h = grind (arith, common_steps)
 
 members_typed : (style : Style) (name : Text) (explode : Bool) → Typed (members_block style name explode) (loaded kind.List) flagged
 members_typed style name false = (

@@ -1,7 +1,8 @@
 -- A property of all names that the code of rules loads, as texts or as lists.
-use Rattle.std.proofs.Common.{ℕ, zero, suc, List, [], ◌∷◌, ◌++◌, Bool, true, false, sym, subst}
-use Rattle.std.specs.Prelude.{All, if◌then◌else◌}
+use Rattle.std.proofs.Common.{ℕ, zero, suc, List, [], ◌∷◌, ◌++◌, Bool, true, false, sym, subst, arith}
+use Rattle.std.specs.Prelude.{All}
 use Rattle.std.specs.List.{AllByRecursion, filter_map, flat_map}
+use Rattle.std.proofs.lemmas.Grind.{common_steps}
 use Rattle.std.proofs.lemmas.List.{append_assoc}
 use Rattle.std.proofs.lemmas.List.Elements.{All-head, All-tail, All-from_recursion}
 use Rattle.text_model.specs.Texts.{Text}
@@ -27,7 +28,7 @@ use Rattle.compiler_model.specs.declared.lines.Test.TheVariants.{IsLess}
 use Rattle.compiler_model.specs.declared.lines.Line.{Line}
 use Rattle.compiler_model.specs.declared.lines.Line.TheVariants.{Acts, Halts, Fails}
 use Rattle.compiler_model.specs.Blocks.{Block, Nothing, Does, Then, Unless, Either, ForEach, LeaveIf, Leave, lines}
-use Rattle.compiler_model.specs.Shapes.{loading, bound_block, guard_block, guards_block, lead_block, writing_action, named_block, item_block}
+use Rattle.compiler_model.specs.Shapes.{loading, bound_block, guard_block, guards_block, lead_block, writing_action, item_block}
 use Rattle.compiler_model.specs.Shapes.{head_block, members_block, loaded_block, specs_block, part_block, parts_block, rule_block}
 use Rattle.compiler_model.specs.Tables.{is_same_name, name_used, names_of}
 use Rattle.compiler_model.specs.Compiled.{rule_lines}
@@ -109,15 +110,7 @@ module _ (Right : Bool → Text → Type 0) where
   writing_right r w (suc n) = tt
 
   item_right : (style : Style) (r : ℕ) (name : Text) (value : Action) → LoadsRightly value → IsRightBlock (item_block style r name value)
-  item_right style r name value h = by_test style.named
-    where
-      of_kind : (ifemp : Text) → IsRightBlock (named_block ifemp r name value)
-      of_kind [] = (tt, (tt, h))
-      of_kind (b ∷ ifemp) = (tt, h)
-
-      by_test : (b : Bool) → IsRightBlock (if b then named_block style.ifemp r name value else Does value)
-      by_test true = of_kind style.ifemp
-      by_test false = h
+  item_right style r name value h = grind (arith, common_steps)
 
   head_right : (named : Bool) (name : Text) → IsRightBlock (head_block named name)
   head_right true name = tt

@@ -1,9 +1,10 @@
 -- How much an environment grows at most when a text or a member is added.
-use Rattle.std.proofs.Common.{ℕ, ◌+◌, ◌≤◌, true, false, cond, [], ◌∷◌, ◌++◌, length, length-append, arith}
+use Rattle.std.proofs.Common.{ℕ, ◌+◌, ◌≤◌, true, false, cond, [], ◌∷◌, length, length-append, arith}
+use Rattle.std.proofs.lemmas.Grind.{common_steps}
 use Rattle.std.proofs.lemmas.List.Sums.{sum_by-cons, sum_by_push}
 use Rattle.std.specs.Str.{bytes_eq}
 use Rattle.text_model.specs.Texts.{Text}
-use Rattle.environment_model.specs.Environment.{Meaning, Single, Several, Entry, Environment, is_there, meaning_bytes, meaning_members, byte_count}
+use Rattle.environment_model.specs.Environment.{Meaning, Single, Several, Entry, Environment, meaning_bytes, meaning_members, byte_count}
 use Rattle.environment_model.specs.Environment.{member_count, with_text, more, with_member}
 
 abbrev entry_bytes : Entry → ℕ
@@ -15,12 +16,7 @@ entry_members e = meaning_members e.meaning
 -- ---- a text is added
 
 pub byte_count-with_text-le : (env : Environment) (name t : Text) → byte_count (with_text env name t) ≤ byte_count env + length t
-byte_count-with_text-le env name t =
-    let e : Entry = record { name = name; meaning = Single t } in
-    elim (is_there env name) as (λ v. byte_count (cond v env (env ++ e ∷ [])) ≤ byte_count env + length t) [
-      | true ↦ omega arith
-      | false ↦ omega (arith, sum_by_push entry_bytes env e)
-    ]
+byte_count-with_text-le env name t = grind (arith, common_steps)
 
 -- ---- a member is added
 

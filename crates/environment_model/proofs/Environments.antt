@@ -1,5 +1,6 @@
 -- Look-ups in an environment, and how it changes when a text or a member is added.
 use Rattle.std.proofs.Common.{◌≡◌, ◌+◌, [], ◌∷◌, ◌++◌, Bool, true, false, length, is_some, bytes_eq, Some, None, refl, sym, ap, ◌∙◌, arith, length-append}
+use Rattle.std.proofs.lemmas.Grind.{common_steps}
 use Rattle.std.proofs.lemmas.List.Sums.{sum_by-cons, sum_by_push}
 use Rattle.text_model.specs.Texts.{Text}
 use Rattle.environment_model.specs.Environment.{Environment, Entry, Meaning, Single, Several, look_up, is_there, text_in, text_of, byte_count, member_count}
@@ -35,11 +36,7 @@ with_member-other e env name t other = rw other refl
 
 -- an entry with another name does not matter for the name
 pub other_in_front : (e : Entry) (env : Environment) (name : Text) → is_there (e ∷ env) name ≡ false → bytes_eq e.name name ≡ false
-other_in_front e env name absent = by_cases (bytes_eq e.name name) refl
-  where
-    by_cases : (b : Bool) → bytes_eq e.name name ≡ b → b ≡ false
-    by_cases true same = let there : is_there (e ∷ env) name ≡ true = ap is_some (look_up-same e env name same) in cc
-    by_cases false other = refl
+other_in_front e env name absent = grind (arith, bytes_eq, is_some, look_up-same)
 
 pub absent_after : (e : Entry) (env : Environment) (name : Text) → is_there (e ∷ env) name ≡ false → is_there env name ≡ false
 absent_after e env name absent = ap is_some (sym (look_up-other e env name (other_in_front e env name absent))) ∙ absent
@@ -112,12 +109,7 @@ pub byte_count-with_text : (env : Environment) (name t : Text) → is_there env 
 byte_count-with_text env name t absent = ap byte_count (with_text-new env name t absent) ∙ byte_count-push env (record { name = name; meaning = Single t })
 
 pub member_count-with_text : (env : Environment) (name t : Text) → member_count (with_text env name t) ≡ member_count env
-member_count-with_text env name t = by_cases (is_there env name) refl
-  where
-    by_cases : (b : Bool) → is_there env name ≡ b → member_count (with_text env name t) ≡ member_count env
-    by_cases true there = ap member_count (with_text-known env name t there)
-    by_cases false absent = ap member_count (with_text-new env name t absent) ∙ let pushed =
-        member_count-push env (record { name = name; meaning = Single t }) in omega arith
+member_count-with_text env name t = grind (arith, common_steps)
 
 -- a member adds its bytes to a list
 more_bytes : (m : Meaning) (t : Text) → is_some (text_in (Some m)) ≡ false → meaning_bytes (more m t) ≡ meaning_bytes m + length t
@@ -143,11 +135,7 @@ byte_count-with_member (e ∷ env) name t no_text = by_cases (bytes_eq e.name na
         let before = byte_count-cons e env in
         let after = byte_count-cons (record { name = e.name; meaning = more e.meaning t }) env in
         ap byte_count (with_member-same e env name t same) ∙ omega arith
-    by_cases false other following =
-        let grown = following (ap (λ o. is_some (text_in o)) (sym (look_up-other e env name other)) ∙ no_text) in
-        let before = byte_count-cons e env in
-        let after = byte_count-cons e (with_member env name t) in
-        ap byte_count (with_member-other e env name t other) ∙ omega arith
+    by_cases false other following = grind (arith, is_some, look_up-other, byte_count-cons, with_member-other)
 
 pub member_count-with_member : (env : Environment) (name t : Text) → is_some (text_of env name) ≡ false → member_count (with_member env name t)
     ≡ member_count env + 1
@@ -163,11 +151,7 @@ member_count-with_member (e ∷ env) name t no_text = by_cases (bytes_eq e.name 
         let before = member_count-cons e env in
         let after = member_count-cons (record { name = e.name; meaning = more e.meaning t }) env in
         ap member_count (with_member-same e env name t same) ∙ omega arith
-    by_cases false other following =
-        let grown = following (ap (λ o. is_some (text_in o)) (sym (look_up-other e env name other)) ∙ no_text) in
-        let before = member_count-cons e env in
-        let after = member_count-cons e (with_member env name t) in
-        ap member_count (with_member-other e env name t other) ∙ omega arith
+    by_cases false other following = grind (arith, is_some, look_up-other, member_count-cons, with_member-other)
 
 -- ---- which names are defined
 
@@ -178,13 +162,7 @@ is_there-with_member (e ∷ env) name t other there = by_cases (bytes_eq e.name 
   where
     front : (e e' : Entry) (es es' : Environment) → e.name ≡ e'.name → is_there es other ≡ is_there es' other
         → is_there (e ∷ es) other ≡ is_there (e' ∷ es') other
-    front e e' es es' same following = by_name (bytes_eq e.name other) refl
-      where
-        by_name : (b : Bool) → bytes_eq e.name other ≡ b → is_there (e ∷ es) other ≡ is_there (e' ∷ es') other
-        by_name true is = ap is_some (look_up-same e es other is ∙ refl)
-            ∙ sym (ap is_some (look_up-same e' es' other (ap (λ n. bytes_eq n other) (sym same) ∙ is)))
-        by_name false not_is = ap is_some (look_up-other e es other not_is) ∙ following
-            ∙ sym (ap is_some (look_up-other e' es' other (ap (λ n. bytes_eq n other) (sym same) ∙ not_is)))
+    front e e' es es' same following = grind (arith, bytes_eq, is_some, look_up-same, look_up-other)
 
     by_cases : (b : Bool) → bytes_eq e.name name ≡ b → (is_there env name ≡ true → is_there (with_member env name t) other ≡ is_there env other)
         → is_there (with_member (e ∷ env) name t) other ≡ is_there (e ∷ env) other

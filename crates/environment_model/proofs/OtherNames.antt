@@ -1,5 +1,5 @@
 -- After one more text or member, every other name is bound to what it was bound to before.
-use Rattle.std.proofs.Common.{◌≡◌, Bool, true, false, [], ◌∷◌, ◌++◌, bytes_eq, refl, sym, ap, ◌∙◌}
+use Rattle.std.proofs.Common.{◌≡◌, Bool, true, false, [], ◌∷◌, ◌++◌, bytes_eq, refl, sym, ap, ◌∙◌, arith}
 use Rattle.std.proofs.lemmas.Slice.Eq.{bytes_eq-Decides}
 use Rattle.text_model.specs.Texts.{Text}
 use Rattle.environment_model.specs.Environment.{Environment, Single, Several, look_up, is_there, with_text, with_member, more}
@@ -39,8 +39,4 @@ with_member-differs (e ∷ env) key t other differs = by_name (bytes_eq e.name k
         let not_other : bytes_eq e.name other ≡ false = ap (λ n. bytes_eq n other) ((bytes_eq-Decides e.name key).0 same) ∙ differs in
         ap (λ es. look_up es other) (with_member-same e env key t same)
         ∙ look_up-other (record { name = e.name; meaning = more e.meaning t }) env other not_other ∙ sym (look_up-other e env other not_other)
-    by_name false not_key in_others = ap (λ es. look_up es other) (with_member-other e env key t not_key) ∙ by_other (bytes_eq e.name other) refl
-      where
-        by_other : (b : Bool) → bytes_eq e.name other ≡ b → look_up (e ∷ with_member env key t) other ≡ look_up (e ∷ env) other
-        by_other true is = look_up-same e (with_member env key t) other is ∙ sym (look_up-same e env other is)
-        by_other false is_not = look_up-other e (with_member env key t) other is_not ∙ in_others ∙ sym (look_up-other e env other is_not)
+    by_name false not_key in_others = grind (arith, with_member-other, bytes_eq, look_up-same, look_up-other)

@@ -45,14 +45,7 @@ steps_join : (from m n mid to k : ℕ) → mid ≡ min (from + m) k → to ≡ m
 steps_join from m n mid to k first second = omega (arith, first, second)
 
 pub moves_join : (old mid new : RunValue) (m n : ℕ) → IsMoved old m mid → IsMoved mid n new → IsMoved old (m + n) new
-moves_join old mid new m n first second = record {
-  code = second.code ∙ first.code;
-  env = second.env ∙ first.env;
-  moved = steps_join old.steps m n mid.steps new.steps (all_steps old) first.moved
-      (second.moved ∙ ap (λ k. min (mid.steps + n) k) (all_alike old mid first.code first.env));
-  in_time = first.in_time;
-  steps = λ k ends. steps_join old.steps m n mid.steps new.steps k (first.steps k ends) (second.steps k (ends_too old mid k first.code first.env ends));
-}
+moves_join old mid new m n first second = grind (arith, steps_join, all_alike, ends_too)
 
 sum_one : (n : ℕ) → n ≡ n + 0
 sum_one n = omega arith
@@ -138,8 +131,4 @@ module _ (old runs : List RunValue) (p n : ℕ) (new : RunValue) where
           (plays_on (get_or old i d) (get_or runs i d) new (own_turns i (take at turns)) n (before i d lt) moved))
 
       elsewhere : i ≢ p → IsPlayed (get_or old i d) (own_turns i (take (at + 1) turns)) (get_or (set runs p new) i d)
-      elsewhere isnt =
-          let own : own_turns i (take (at + 1) turns) ≡ own_turns i (take at turns) =
-          next ∙ ap (λ ns. own_turns i (take at turns) ++ ns) (own_no i (p, n) isnt) ∙ append-nil (own_turns i (take at turns)) in
-          subst (λ ns. IsPlayed (get_or old i d) ns (get_or (set runs p new) i d)) (sym own)
-          (subst (λ r. IsPlayed (get_or old i d) (own_turns i (take at turns)) r) (sym (get_or-set_other runs p i new d isnt)) (before i d lt))
+      elsewhere isnt = grind (arith, next, own_no, append-nil, set, get_or-set_other)

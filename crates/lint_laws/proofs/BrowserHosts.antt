@@ -1,11 +1,11 @@
 -- A browser has the plain host of a web link.
 use Rattle.std.proofs.Common.{◌≡◌, ◌≢◌, ℕ, ◌+◌, ◌==◌, Bool, true, false, not, ◌&&◌, ◌||◌, cond, [], ◌∷◌, ◌++◌, take, Some, None, refl, sym, ap, ◌∙◌}
+use Rattle.std.proofs.lemmas.Grind.{common_steps}
 use Rattle.std.proofs.Common.{arith, codes, one-add, inl, inr}
-use Rattle.std.specs.Prelude.{nat_lt}
 use Rattle.std.specs.Char.{to_ascii_lowercase}
 use Rattle.std.specs.List.{before_first, list_any, prefix_len}
-use Rattle.std.proofs.lemmas.Bool.{and_from, and_parts, and_right, both_ways, eq-eqb, eqb-true, false_from_ne_true, false≢true, ltb-false, or_cases}
-use Rattle.std.proofs.lemmas.Bool.{or_from, or_parts}
+use Rattle.std.proofs.lemmas.Bool.{and_from, and_parts, and_right, both_ways, eqb-true, false_from_ne_true, false≢true, or_cases}
+use Rattle.std.proofs.lemmas.Bool.{or_from}
 use Rattle.text_model.specs.Texts.{Text, is_hexadecimal, is_reserved, is_unreserved}
 use Rattle.text_model.specs.UriText.{IsUriText, nothing, and_character, and_triplet}
 use Rattle.text_model.specs.Writing.{is_unreserved_or_reserved}
@@ -55,12 +55,7 @@ other_byte b c d is other =
     (ap (λ (x : ℕ). to_ascii_lowercase x == to_ascii_lowercase c) (sym (eqb-true b d e)) ∙ is))
 
 colon_lowered : (b : ℕ) → (to_ascii_lowercase b == 0x3A) ≡ true → (b == colon) ≡ true
-colon_lowered b e = eq-eqb b 0x3A (by_range (nat_lt b 65) (nat_lt b 91) refl (eqb-true (to_ascii_lowercase b) 0x3A e))
-  where
-    by_range : (low upper : Bool) → nat_lt b 65 ≡ low → cond low b (cond upper (b + 32) b) ≡ 0x3A → b ≡ 0x3A
-    by_range true upper f h = h
-    by_range false true f h = absurd (let above = ltb-false b 65 f in omega (arith, above, h))
-    by_range false false f h = h
+colon_lowered b e = grind (arith, common_steps)
 
 -- the colon and the slashes come first
 split_here : (t : Text) → begins_in_any_case t (codes "://") ≡ true → IsSplit t
@@ -89,12 +84,7 @@ split_here (a ∷ b ∷ c ∷ t) e =
 
 split_later : (b : ℕ) (t : Text) → (b == slash) ≡ false → (b == colon) ≡ false → IsSplit t → IsSplit (b ∷ t)
 split_later b [] no_slash no_colon s = absurd (let never : None ≡ Some s.rest = s.slashes in cc)
-split_later b (c ∷ t) no_slash no_colon s = record {
-  rest = s.rest;
-  slashes = ap (λ (x : Bool). cond (x && c == slash) (Some t) (after_slashes (c ∷ t))) no_slash ∙ s.slashes;
-  scheme = ap (λ (x : Bool). cond x (c ∷ t) (after_colon (c ∷ t))) no_colon ∙ s.scheme;
-  none = λ h. s.none h.1;
-}
+split_later b (c ∷ t) no_slash no_colon s = grind (arith, common_steps)
 
 -- letters that are neither slashes nor colons, and then the colon and the slashes
 abbrev AreLetters : Text → Type 0
@@ -136,11 +126,7 @@ same_part (b ∷ t) h = by_end (ends_host b) refl (same_part t h.1)
 -- no slash is skipped
 no_more_slashes : (t : Text) → HasNone t → first_part t ≢ [] → after_browsers_slashes t ≡ t
 no_more_slashes [] h some = refl
-no_more_slashes (b ∷ t) h some = by_end (ends_host b) refl
-  where
-    by_end : (ends : Bool) → ends_host b ≡ ends → after_browsers_slashes (b ∷ t) ≡ b ∷ t
-    by_end true e = absurd (some (part_ends b t e))
-    by_end false e = ap (λ (x : Bool). cond x (after_browsers_slashes t) (b ∷ t)) (or_from (b == slash) (b == backslash) (or_parts (b == slash) _ e).0 h.0)
+no_more_slashes (b ∷ t) h some = grind (arith, common_steps)
 
 no_user_there : (t : Text) → list_any is_at_sign t ≡ false → after_user t ≡ t
 no_user_there [] e = refl

@@ -1,7 +1,8 @@
 -- How values that are written into a link lead on: without reserved characters they are plain, and otherwise as they stand.
-use Rattle.std.proofs.Common.{◌≡◌, ℕ, ◌==◌, ◌/◌, ◌%◌, ◌+◌, ◌<◌, Bool, true, false, cond, [], ◌∷◌, ◌++◌, refl, sym, ap, ◌∙◌, arith, eqb-true}
+use Rattle.std.proofs.Common.{◌≡◌, ℕ, ◌/◌, ◌%◌, ◌+◌, ◌<◌, Bool, true, false, cond, [], ◌∷◌, ◌++◌, refl, ap, ◌∙◌, arith}
 use Rattle.std.specs.Prelude.{nat_lt, if◌then◌else◌}
-use Rattle.std.proofs.lemmas.Bool.{agree_below_at, both_ways, false_from_ne_true, or_from}
+use Rattle.std.proofs.lemmas.Grind.{common_steps}
+use Rattle.std.proofs.lemmas.Bool.{agree_below_at, both_ways}
 use Rattle.text_model.specs.Texts.{Text, is_unreserved, is_reserved, is_triplet}
 use Rattle.text_model.specs.Writing.{hexadecimal_digit, is_unreserved_or_reserved, triplet_of, written_byte, written_u, written_ur}
 use Rattle.rule_lint.specs.declared.host_state.HostState.{HostState}
@@ -10,17 +11,9 @@ use Rattle.lint_laws.proofs.HostStates.{IsPlain, after_append, is_special, plain
 
 -- ---- bytes
 
--- a byte that passes a test is none that does not
-another_byte : (test : ℕ → Bool) (kept b c : _) → test b ≡ kept → (test c ≡ kept → ⊥) → (b == c) ≡ false
-another_byte test kept b c is other = false_from_ne_true (b == c) (λ e. other (sym (ap test (eqb-true b c e)) ∙ is))
-
 not_special : (test : ℕ → Bool) (kept : Bool) (b : ℕ) → test b ≡ kept → (test 0x2F ≡ kept → ⊥) → (test 0x3F ≡ kept → ⊥) → (test 0x23 ≡ kept → ⊥)
     → (test 0x40 ≡ kept → ⊥) → is_special b ≡ false
-not_special test kept b is slash question hash at =
-    or_from _ (b == 0x40)
-    (or_from (b == 0x2F) _ (another_byte test kept b 0x2F is slash)
-    (or_from (b == 0x3F) _ (another_byte test kept b 0x3F is question) (or_from (b == 0x23) false (another_byte test kept b 0x23 is hash) refl)))
-    (another_byte test kept b 0x40 is at)
+not_special test kept b is slash question hash at = grind (arith, common_steps)
 
 unreserved_plain : (b : ℕ) → is_unreserved b ≡ true → is_special b ≡ false
 unfolding is_unreserved
@@ -55,11 +48,7 @@ written_plain (b ∷ t) = plain_append (written_byte (is_unreserved b) b) (writt
 -- ---- values with reserved characters
 
 byte_state : (s : HostState) (b : ℕ) → after_text s (written_byte (is_unreserved_or_reserved b) b) ≡ after_byte s b
-byte_state s b = by_kind (is_unreserved_or_reserved b) refl
-  where
-    by_kind : (stays : Bool) → is_unreserved_or_reserved b ≡ stays → after_text s (written_byte stays b) ≡ after_byte s b
-    by_kind true e = refl
-    by_kind false e = plain_state s (triplet_of b) tt (triplet_plain b) ∙ sym (plain_byte s b (encoded_plain b e))
+byte_state s b = grind (arith, plain_state, triplet_plain, plain_byte, encoded_plain)
 
 pub written_state : (s : HostState) (t : Text) → after_text s (written_ur t) ≡ after_text s t
 unfolding written_ur

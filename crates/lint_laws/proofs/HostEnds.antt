@@ -1,6 +1,7 @@
 -- What the state of a text says of the text's host.
 use Rattle.std.proofs.Common.{◌≡◌, ◌≢◌, ℕ, ◌+◌, ◌==◌, Bool, true, false, not, ◌&&◌, ◌||◌, cond, [], ◌∷◌, ◌++◌, take, Option, Some, None, refl, sym, ap, ◌∙◌}
-use Rattle.std.proofs.Common.{subst, one-add, ◌⊎◌, inl, inr}
+use Rattle.std.proofs.lemmas.Grind.{common_steps}
+use Rattle.std.proofs.Common.{subst, one-add, ◌⊎◌, inl, inr, arith}
 use Rattle.std.specs.List.{before_first, prefix_len, list_any}
 use Rattle.std.proofs.lemmas.Bool.{or_from}
 use Rattle.text_model.specs.Texts.{Text}
@@ -95,11 +96,7 @@ no_user s (b ∷ t) o h = by_end (ends_host b) (b == at_sign) refl refl h (no_us
 -- and only if there is a host
 not_empty : (t : Text) → IsFound (after_text Opened t) → first_part t ≢ []
 not_empty [] h = absurd h
-not_empty (b ∷ t) h = by_end (ends_host b) refl
-  where
-    by_end : (ends : Bool) → ends_host b ≡ ends → first_part (b ∷ t) ≢ []
-    by_end true e = absurd (lost_not_found t (subst (λ (r : HostState). IsFound (after_text r t)) (after_end b e).0 h))
-    by_end false e = λ none. let is : b ∷ first_part t ≡ [] = sym (part_continues b t e) ∙ none in cc
+not_empty (b ∷ t) h = grind (arith, lost_not_found, after_end, part_continues)
 
 -- a host that has ended stays as it is
 part_past : (s : HostState) (t more : Text) → IsOpen s → after_text s t ≡ Past → first_part (t ++ more) ≡ first_part t
@@ -140,11 +137,7 @@ LeadsTo (Some rest) s = s ≡ after_text Opened rest
 
 leads : (t : Text) → LeadsTo (after_slashes t) (state_of t)
 leads [] = tt
-leads (b ∷ []) = one (b == slash)
-  where
-    one : (is : Bool) → IsBefore (cond is Slash Outside)
-    one false = tt
-    one true = tt
+leads (b ∷ []) = grind (arith, common_steps)
 leads (b ∷ c ∷ t) = first (b == slash) (leads (c ∷ t))
   where
     second : (is : Bool) → LeadsTo (after_slashes (c ∷ t)) (after_text (cond is Slash Outside) t)

@@ -1,6 +1,7 @@
 -- The states of texts and of rows, and what they leave out: a state covers another one if whatever is found of a host is found from it, too.
 use Rattle.std.proofs.Common.{◌≡◌, ℕ, ◌<◌, ◌==◌, ◌||◌, zero, suc, Bool, false, cond, List, [], ◌∷◌, ◌++◌, length, get_or, Option, Some, None}
-use Rattle.std.proofs.Common.{refl, sym, ap, ◌∙◌, subst, ◌⊎◌, inl, inr, arith}
+use Rattle.std.proofs.lemmas.Grind.{common_steps}
+use Rattle.std.proofs.Common.{refl, ap, ◌∙◌, ◌⊎◌, inl, inr, arith}
 use Rattle.std.specs.List.{cons_option, filter_map}
 use Rattle.std.proofs.lemmas.Bool.{or_parts}
 use Rattle.text_model.specs.Texts.{Text}
@@ -82,30 +83,10 @@ abbrev pub same : (c a : HostState) → c ≡ a → IsCovered c a
 same c a e = inr (inl e)
 
 pub covered_text : (c a : HostState) (t : Text) → IsCovered c a → IsCovered (after_text c t) (after_text a t)
-covered_text c a t h = elim h [
-  | inl past ↦ inl (ap (λ (s : HostState). after_text s t) past ∙ past_stays t)
-  | inr other ↦ elim other [
-    | inl e ↦ inr (inl (ap (λ (s : HostState). after_text s t) e))
-    | inr lost ↦ inr (inr (ap (λ (s : HostState). after_text s t) lost ∙ lost_stays t))
-  ]
-]
-
-lost_covers : (b : HostState) → IsCovered Lost b → b ≡ Lost
-lost_covers Lost h = refl
-lost_covers Outside h = elim h [ inl e ↦ absurd (cc) | inr other ↦ elim other [ inl e ↦ absurd (cc) | inr e ↦ e ] ]
-lost_covers Slash h = elim h [ inl e ↦ absurd (cc) | inr other ↦ elim other [ inl e ↦ absurd (cc) | inr e ↦ e ] ]
-lost_covers Opened h = elim h [ inl e ↦ absurd (cc) | inr other ↦ elim other [ inl e ↦ absurd (cc) | inr e ↦ e ] ]
-lost_covers Inside h = elim h [ inl e ↦ absurd (cc) | inr other ↦ elim other [ inl e ↦ absurd (cc) | inr e ↦ e ] ]
-lost_covers Past h = elim h [ inl e ↦ absurd (cc) | inr other ↦ elim other [ inl e ↦ absurd (cc) | inr e ↦ e ] ]
+covered_text c a t h = grind (arith, past_stays, lost_stays)
 
 pub covered_by : (c a b : HostState) → IsCovered c a → IsCovered a b → IsCovered c b
-covered_by c a b h k = elim h [
-  | inl past ↦ inl past
-  | inr other ↦ elim other [
-    | inl e ↦ subst (λ (s : HostState). IsCovered s b) (sym e) k
-    | inr lost ↦ inr (inr (lost_covers b (subst (λ (s : HostState). IsCovered s b) lost k)))
-  ]
-]
+covered_by c a b h k = grind (arith, common_steps)
 
 -- ---- both rows
 
@@ -145,11 +126,7 @@ found_covered found s (t ∷ texts) =
 cell_covered_from : (cell_in_row : Row → Option Text) (found s : HostState) (rows : List Row) (row : ℕ) (cell : Text) → row < length rows
     → cell_in_row (get_or rows row []) ≡ Some cell → IsCovered (after_text s cell) (after_texts_from found s (filter_map cell_in_row rows))
 cell_covered_from cell_in_row found s [] row cell within e = absurd (omega (arith, within))
-cell_covered_from cell_in_row found s (cells ∷ rows) zero cell within e =
-    let more = for_both found (after_text s cell) in
-    let rest = filter_map cell_in_row rows in
-    subst (λ (o : Option Text). IsCovered (after_text s cell) (after_texts_from found s (cons_option o rest))) (sym e)
-    (covered_by (after_text s cell) more (after_texts_from more s rest) (second_covered found (after_text s cell)) (found_covered more s rest))
+cell_covered_from cell_in_row found s (cells ∷ rows) zero cell within e = grind (arith, covered_by, second_covered, found_covered)
 cell_covered_from cell_in_row found s (cells ∷ rows) (suc row) cell within e =
     by_first (cell_in_row cells) (λ f. cell_covered_from cell_in_row f s rows row cell (omega (arith, within)) e)
   where

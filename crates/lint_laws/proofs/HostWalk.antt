@@ -4,8 +4,6 @@ use Rattle.std.proofs.Common.{refl, sym, ap, ◌∙◌, subst, subst₂, append_
 use Rattle.std.specs.List.{AllByRecursion, cons_option, filter_map}
 use Rattle.std.proofs.lemmas.Bool.{and_parts, both_ways, or_cases}
 use Rattle.text_model.specs.Texts.{Text}
-use Rattle.text_model.specs.Writing.{written_ur}
-use Rattle.text_model.specs.declared.writing.Writing.TheVariants.{UR}
 use Rattle.environment_model.specs.Environment.{LookUp, Meaning}
 use Rattle.uri_grammar.specs.declared.parts.Op.{Op}
 use Rattle.uri_grammar.specs.declared.parts.Op.TheVariants as operator
@@ -13,16 +11,16 @@ use Rattle.uri_grammar.specs.declared.parts.Spec.{Spec}
 use Rattle.uri_grammar.specs.declared.parts.Part.{Part}
 use Rattle.uri_grammar.specs.declared.parts.Part.TheVariants.{Literal, Expression}
 use Rattle.uri_grammar.specs.Promises.{IsSoundPart}
-use Rattle.uri_template.specs.Expansion.{Style, expansion, led, part_text, piece, pieces, prefix, style_of}
-use Rattle.kbart_rows.specs.Cells.{Holdings, Row, cell_of}
+use Rattle.uri_template.specs.Expansion.{Style, expansion, led, part_text, piece, pieces, style_of}
+use Rattle.kbart_rows.specs.Cells.{Holdings, Row}
 use Rattle.rule_parser.specs.Rules.{RuleSet}
 use Rattle.rule_lint.specs.declared.host_state.HostState.{HostState}
 use Rattle.rule_lint.specs.declared.host_state.HostState.TheVariants.{Outside, Slash, Opened, Inside, Past, Lost}
 use Rattle.rule_lint.specs.HostStates.{after_byte, after_text, after_texts, is_hostless, is_inside, is_past, state_of}
 use Rattle.rule_lint.specs.Host.{after_own, after_part, after_parts, after_whole_cells, are_rows_own, cells_of_name, ends_next, host_names}
-use Rattle.rule_lint.specs.Host.{is_ended, is_specs_own, leads_past_host, letter, may_be_hostless, names_of, open_among, open_names, open_names_after}
+use Rattle.rule_lint.specs.Host.{is_ended, is_specs_own, leads_past_host, letter, may_be_hostless, names_of, open_among, open_names_after}
 use Rattle.lint_laws.proofs.CellStates.{written_state}
-use Rattle.lint_laws.proofs.HostEnds.{IsFound, host_plain}
+use Rattle.lint_laws.proofs.HostEnds.{host_plain}
 use Rattle.lint_laws.proofs.HostPairs.{HaveOneHost, both_ended, both_past, covered_inside, covered_past, dot_style, end_more, expression_ends}
 use Rattle.lint_laws.proofs.HostPairs.{first_is_end, no_first, none_of_both, parts_end, simple_style}
 use Rattle.lint_laws.proofs.HostStates.{IsCovered, after_append, covered_text, past_stays, plain_state}
@@ -77,26 +75,12 @@ module _ (rules : RuleSet) (table : Holdings) (row : ℕ) (cells : Row) (look al
   -- the whole cell
   cell_expression : (s : HostState) (spec : Spec) → are_rows_own rules table (spec ∷ []) ≡ true → spec.cut ≡ 0
       → IsCovered (after_text s (part_text alone (Expression operator.Plus (spec ∷ [])))) (after_texts s (cells_of_name table spec.name))
-  cell_expression s spec e uncut =
-      let style = style_of operator.Plus in
-      let cell = looks.own spec.name (and_parts (is_specs_own rules table spec) true e).0 in
-      let text : part_text alone (Expression operator.Plus (spec ∷ [])) ≡ written_ur cell.text =
-      ap (λ (m : Option Meaning). led style (cons_option (piece style spec m) [])) cell.means
-      ∙ (ap (λ (n : ℕ). written_ur (prefix UR n cell.text) ++ []) uncut ∙ append-nil (written_ur cell.text)) in
-      subst (λ (r : HostState). IsCovered r (after_texts s (cells_of_name table spec.name)))
-      (sym (ap (after_text s) text ∙ written_state s cell.text))
-      (in_rows (λ (other : Row). cell_of table.header other spec.name) s cell.text cell.cell)
+  cell_expression s spec e uncut = grind (arith, and_parts, append-nil, written_state)
 
   whole_cells : (s : HostState) (specs : List Spec) → are_rows_own rules table specs ≡ true
       → IsCovered (after_text s (part_text alone (Expression operator.Plus specs))) (after_whole_cells table s specs)
   whole_cells s [] own = inr (inr refl)
-  whole_cells s (spec ∷ []) own = by_cut (spec.cut == 0) refl
-    where
-      by_cut : (uncut : Bool) → (spec.cut == 0) ≡ uncut
-          → IsCovered (after_text s (part_text alone (Expression operator.Plus (spec ∷ []))))
-          (cond uncut (after_texts s (cells_of_name table spec.name)) Lost)
-      by_cut true e = cell_expression s spec own (eqb-true spec.cut 0 e)
-      by_cut false e = inr (inr refl)
+  whole_cells s (spec ∷ []) own = grind (arith, cell_expression, eqb-true)
   whole_cells s (spec ∷ other ∷ specs) own = inr (inr refl)
 
   -- its state is covered by what is known of it
@@ -123,14 +107,7 @@ module _ (rules : RuleSet) (table : Holdings) (row : ℕ) (cells : Row) (look al
 
   own_covered : (c a : HostState) (op : Op) (specs : List Spec) → IsCovered c a → 0 < length specs → are_rows_own rules table specs ≡ true
       → IsCovered (after_text c (part_text alone (Expression op specs))) (after_own table a op specs)
-  own_covered c a op specs h some own = elim h [
-    | inl past ↦ inl (ap (λ (s : HostState). after_text s (part_text alone (Expression op specs))) past ∙ past_stays (part_text alone (Expression op specs)))
-    | inr other ↦ elim other [
-      | inl e ↦ subst (λ (s : HostState). IsCovered (after_text c (part_text alone (Expression op specs))) (after_own table s op specs)) e
-          (own_state c op specs some own)
-      | inr lost ↦ inr (inr (ap (λ (s : HostState). after_own table s op specs) lost))
-    ]
-  ]
+  own_covered c a op specs h some own = grind (arith, past_stays, own_state)
 
   -- ---- an expression that it does not decide
 
@@ -151,25 +128,7 @@ module _ (rules : RuleSet) (table : Holdings) (row : ℕ) (cells : Row) (look al
 
   -- where the host is found or there is none
   end_of_parts : (c a : HostState) (t : Text) → state_of t ≡ c → IsCovered c a → is_hostless a ≡ false → HaveOneHost (t ++ []) (t ++ [])
-  end_of_parts c a t is h found =
-      subst (λ (x : Text). HaveOneHost x x) (sym (append-nil t)) (elim h [
-        | inl past ↦ plainly (subst IsFound (sym (is ∙ past)) tt)
-        | inr other ↦ elim other [
-          | inl e ↦ by_state a (is ∙ e) found
-          | inr lost ↦ absurd (both_ways (is_hostless a) found (ap is_hostless lost))
-        ]
-      ])
-    where
-      plainly : IsFound (state_of t) → HaveOneHost t t
-      plainly f = inl (refl, host_plain t f)
-
-      by_state : (s : HostState) → state_of t ≡ s → is_hostless s ≡ false → HaveOneHost t t
-      by_state Outside e f = inr (inl e)
-      by_state Slash e f = inr (inr e)
-      by_state Opened e f = absurd (both_ways true f refl)
-      by_state Inside e f = plainly (subst IsFound (sym e) tt)
-      by_state Past e f = plainly (subst IsFound (sym e) tt)
-      by_state Lost e f = absurd (both_ways true f refl)
+  end_of_parts c a t is h found = grind (arith, append-nil, both_ways, host_plain)
 
   -- the parts after a text that is the same for every request
   walk : (a : HostState) (t : Text) (parts : List Part) → AllByRecursion IsSoundPart parts → IsCovered (state_of t) a
@@ -194,11 +153,7 @@ module _ (rules : RuleSet) (table : Holdings) (row : ℕ) (cells : Row) (look al
       -- the state that is found
       state_is : (next : HostState) → after_part rules table a part parts ≡ next
           → (open_names_after rules table next parts ≡ []) × (is_hostless (after_parts rules table next parts) ≡ false)
-      state_is next e = (
-        ap (λ (s : HostState). open_names_after rules table s parts) (sym e)
-            ∙ (none_of_both (open_names rules table a part parts) (open_names_after rules table (after_part rules table a part parts) parts) none).1,
-        ap (λ (s : HostState). is_hostless (after_parts rules table s parts)) (sym e) ∙ found,
-      )
+      state_is next e = grind (arith, none_of_both, part)
 
       ended_here : (is_past a || is_ended a op parts) ≡ true → HaveOneHost (t ++ (part_text look part ++ expansion look parts))
           (t ++ (part_text alone part ++ expansion alone parts))
@@ -226,13 +181,7 @@ module _ (rules : RuleSet) (table : Holdings) (row : ℕ) (cells : Row) (look al
           (later next more
           (subst (λ (s : HostState). IsCovered s next) (sym (after_append Outside t more)) (own_covered (state_of t) a op specs h sound.0.0 own))
           rest.0 rest.1))
-      by_own false own later = by_end (is_past a || is_ended a op parts) refl
-          (none_of_both (open_names rules table a part parts) (open_names_after rules table (after_part rules table a part parts) parts) none).0
-        where
-          by_end : (ends : Bool) → (is_past a || is_ended a op parts) ≡ ends → cond ends [] (open_among rules table specs) ≡ []
-              → HaveOneHost (t ++ (part_text look part ++ expansion look parts)) (t ++ (part_text alone part ++ expansion alone parts))
-          by_end true e n = ended_here e
-          by_end false e n = absurd (open_is_some specs own n)
+      by_own false own later = grind (arith, none_of_both, part, ended_here, open_is_some)
 
   -- ---- a template
 

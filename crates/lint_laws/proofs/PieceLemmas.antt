@@ -1,10 +1,10 @@
 -- What an expression gives for variables that are defined, and for those that are not.
-use Rattle.std.proofs.Common.{◌≡◌, ℕ, zero, suc, Bool, true, false, cond, List, [], ◌∷◌, ◌++◌, take, drop, Option, Some, sym, ap}
-use Rattle.std.proofs.Common.{subst}
-use Rattle.std.specs.List.{cons_option, flat_map, prefix_len}
-use Rattle.text_model.specs.Texts.{Text, is_unreserved, is_triplet}
+use Rattle.std.proofs.Common.{◌≡◌, ℕ, zero, suc, Bool, true, false, cond, List, [], ◌∷◌, ◌++◌, Option, Some, sym, ap}
+use Rattle.std.proofs.Common.{subst, arith}
+use Rattle.std.specs.List.{cons_option, flat_map}
+use Rattle.text_model.specs.Texts.{Text, is_unreserved}
 use Rattle.text_model.specs.Writing.{written, written_byte, written_u, written_ur, is_unreserved_or_reserved}
-use Rattle.text_model.specs.Cut.{code_points, is_continuation, items, joined, with_triplets, are_triplet}
+use Rattle.text_model.specs.Cut.{items, with_triplets}
 use Rattle.text_model.specs.declared.writing.Writing.{Writing}
 use Rattle.text_model.specs.declared.writing.Writing.TheVariants.{U, UR}
 use Rattle.text_model.proofs.Cuts.{code_points-next}
@@ -36,14 +36,7 @@ is_written UR [] h = absurd h
 is_written UR (b ∷ []) h = byte_is_written (is_unreserved_or_reserved b) b
 is_written UR (b ∷ c ∷ []) h =
     has_front (written_byte (is_unreserved_or_reserved b) b) (written_byte (is_unreserved_or_reserved c) c) (byte_is_written (is_unreserved_or_reserved b) b)
-is_written UR (b ∷ c ∷ d ∷ t) h = by_test (is_triplet b c d)
-  where
-    front : Text
-    front = written_byte (is_unreserved_or_reserved b) b
-
-    by_test : (x : Bool) → HasByte (cond x (b ∷ c ∷ d ∷ written_ur t) (front ++ written_ur (c ∷ d ∷ t)))
-    by_test true = tt
-    by_test false = has_front front (written_ur (c ∷ d ∷ t)) (byte_is_written (is_unreserved_or_reserved b) b)
+is_written UR (b ∷ c ∷ d ∷ t) h = grind (arith, has_front, byte_is_written)
 
 -- ---- items that are not empty
 
@@ -55,25 +48,11 @@ has_item : (w : Writing) (t : Text) → HasByte t → HasItem (items w t)
 unfolding with_triplets
 has_item w [] h = absurd h
 has_item U (b ∷ t) h = subst HasItem (sym (code_points-next b t)) tt
-has_item UR (b ∷ t) h = subst (λ (points : List Text). HasItem (with_triplets points)) (sym (code_points-next b t))
-    (first (b ∷ take (prefix_len is_continuation t) t) (code_points (drop (prefix_len is_continuation t) t)) tt)
-  where
-    first : (p : Text) (points : List Text) → HasByte p → HasItem (with_triplets (p ∷ points))
-    first p [] h = h
-    first p (q ∷ []) h = h
-    first p (q ∷ r ∷ points) h = by_test (are_triplet p q r)
-      where
-        by_test : (x : Bool) → HasItem (cond x ((p ++ q ++ r) ∷ with_triplets points) (p ∷ with_triplets (q ∷ r ∷ points)))
-        by_test true = has_front (p ++ q) r (has_front p q h)
-        by_test false = h
+has_item UR (b ∷ t) h = grind (arith, code_points-next, has_front)
 
 has_prefix : (w : Writing) (n : ℕ) (t : Text) → HasByte t → HasByte (prefix w n t)
 has_prefix w zero t h = h
-has_prefix w (suc n) t h = first (items w t) (has_item w t h)
-  where
-    first : (points : List Text) → HasItem points → HasByte (joined (take (suc n) points))
-    first [] h = absurd h
-    first (p ∷ points) h = has_front p (joined (take n points)) h
+has_prefix w (suc n) t h = grind (arith, has_item, has_front)
 
 -- ---- the piece of a variable whose text is not empty
 

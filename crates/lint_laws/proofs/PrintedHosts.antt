@@ -1,5 +1,6 @@
 -- The rule that is taken on a row has a link of which `lint` prints what it finds.
-use Rattle.std.proofs.Common.{◌≡◌, ℕ, ◌+◌, Bool, true, false, cond, ◌||◌, List, [], ◌∷◌, ◌++◌, length, take, Option, Some, None, refl, sym, ap, ◌∙◌}
+use Rattle.std.proofs.Common.{◌≡◌, ℕ, ◌+◌, Bool, true, false, cond, ◌||◌, List, [], ◌∷◌, ◌++◌, length, take, Some, refl, sym, ap, ◌∙◌}
+use Rattle.std.proofs.lemmas.Grind.{common_steps}
 use Rattle.std.proofs.Common.{subst, arith}
 use Rattle.std.specs.List.{AllByRecursion, enumerate_from, find, flat_map, list_any}
 use Rattle.std.specs.Option.{option_map}
@@ -53,11 +54,7 @@ at_seam P (y ∷ before) x after h = at_seam P before x after h.1
 -- none of what is made of numbered items passes, so none of what is made of one of them
 none_at : {A B : Type 0} (test : B → Bool) (made : ℕ × A → List B) (i : ℕ) (before : List A) (x : A) (after : List A)
     → list_any test (flat_map made (enumerate_from i (before ++ x ∷ after))) ≡ false → list_any test (made (i + length before, x)) ≡ false
-none_at test made i [] x after e =
-    let same : i + 0 ≡ i = omega arith in
-    let rest = flat_map made (enumerate_from (i + 1) after) in
-    ap (λ (n : ℕ). list_any test (made (n, x))) same
-    ∙ (or_parts (list_any test (made (i, x))) (list_any test rest) (sym (list_any-append test (made (i, x)) rest) ∙ e)).0
+none_at test made i [] x after e = grind (arith, common_steps)
 none_at test made i (y ∷ before) x after e =
     let same : i + length (y ∷ before) ≡ (i + 1) + length before = omega arith in
     let rest = flat_map made (enumerate_from (i + 1) (before ++ x ∷ after)) in
@@ -106,9 +103,4 @@ pub record IsTaken (rules : RuleSet) (look : LookUp) (link : Text) : Type 0 wher
 
 pub taken_rule : (rules : RuleSet) (look : LookUp) (link : Text)
     → option_map (λ (rule : Rule). expansion look rule.template.parts) (find (guards_hold look) rules.rules) ≡ Some link → IsTaken rules look link
-taken_rule rules look link means = by_rule (find (guards_hold look) rules.rules) refl means
-  where
-    by_rule : (o : Option Rule) → find (guards_hold look) rules.rules ≡ o
-        → option_map (λ (rule : Rule). expansion look rule.template.parts) o ≡ Some link → IsTaken rules look link
-    by_rule None e f = absurd (cc)
-    by_rule (Some rule) e f = record { rule = rule; found = e; gives = cc }
+taken_rule rules look link means = grind (arith, common_steps)

@@ -1,10 +1,10 @@
 -- Guards whose bounds exclude every number never hold, and no rule is used after one that always holds.
-use Rattle.std.proofs.Common.{◌≡◌, ℕ, Bool, true, false, ◌||◌, ◌&&◌, cond, List, [], ◌∷◌, ◌++◌, length, Option, Some, None, refl, sym, ap, ◌∙◌}
-use Rattle.std.proofs.Common.{arith}
+use Rattle.std.proofs.Common.{◌≡◌, ℕ, Bool, true, false, ◌||◌, ◌&&◌, cond, List, [], ◌∷◌, ◌++◌, length, Option, Some, None, refl, sym, ap, ◌∙◌, arith}
 use Rattle.std.specs.Prelude.{nat_le, nat_lt}
 use Rattle.std.specs.List.{list_any, list_all, find}
 use Rattle.std.specs.Option.{option_map, option_and_then}
-use Rattle.std.proofs.lemmas.Bool.{false≢true, leb-true, ltb-true}
+use Rattle.std.proofs.lemmas.Grind.{common_steps}
+use Rattle.std.proofs.lemmas.Bool.{false≢true}
 use Rattle.std.proofs.Math.Seq.{take-append_seam}
 use Rattle.text_model.specs.Texts.{Text}
 use Rattle.text_model.specs.Number.{leading_number}
@@ -24,11 +24,7 @@ use Rattle.rule_lint.specs.Reach.{always_holds, is_without_guards, is_never_reac
 outside : (low high n : ℕ) (a b : Bool) → nat_lt high low ≡ true → nat_le low n ≡ a → nat_le n high ≡ b → (a && b) ≡ false
 outside low high n false b e f g = refl
 outside low high n true false e f g = refl
-outside low high n true true e f g =
-    let above = ltb-true high low e in
-    let from = leb-true low n f in
-    let to = leb-true n high g in
-    absurd (omega (arith, above, from, to))
+outside low high n true true e f g = grind (arith, common_steps)
 
 between : (low high : Option ℕ) (n : ℕ) → is_above low high ≡ true → is_within low high n ≡ false
 between None high n e = absurd (false≢true e)

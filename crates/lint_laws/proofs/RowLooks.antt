@@ -1,20 +1,19 @@
 -- What the names of a template mean on a row, for a request and for the row alone.
-use Rattle.std.proofs.Common.{◌≡◌, ℕ, ◌<◌, Bool, true, false, not, ◌&&◌, List, [], ◌∷◌, length, get_or, Option, Some, None, is_some, refl, sym, ap, ◌∙◌, ◌⊎◌}
-use Rattle.std.proofs.Common.{inl, inr, subst, if◌then◌else◌}
+use Rattle.std.proofs.Common.{◌≡◌, ℕ, ◌<◌, Bool, true, false, List, [], length, get_or, Option, Some, None, is_some, refl, sym, ap, ◌∙◌, ◌⊎◌}
+use Rattle.std.proofs.lemmas.Grind.{common_steps}
+use Rattle.std.proofs.Common.{inl, inr, if◌then◌else◌, arith}
 use Rattle.std.specs.List.{list_all}
 use Rattle.std.proofs.lemmas.Bool.{and_parts, both_ways, not-true, true_from_ne_false}
 use Rattle.std.proofs.lemmas.List.Folds.{list_all_at}
 use Rattle.text_model.specs.Texts.{Text}
 use Rattle.environment_model.specs.Environment.{Environment, LookUp, Meaning, Single, Several, is_there, look_up, only_list, only_text, text_in, text_of}
 use Rattle.environment_model.specs.Lists.{is_list}
-use Rattle.environment_model.proofs.NameTests.{undefined}
 use Rattle.kev_read.specs.Pairs.{KeyValue}
 use Rattle.kev_read.specs.Filling.{filled}
-use Rattle.kbart_rows.specs.Cells.{Holdings, NamedCell, Row, cell_in, cell_of, column_of, defined, named_cells}
+use Rattle.kbart_rows.specs.Cells.{Holdings, NamedCell, Row, cell_of, named_cells}
 use Rattle.row_laws.specs.Shadowing.{requested, row_of}
 use Rattle.rule_parser.specs.Rules.{RuleSet}
 use Rattle.rule_parser.specs.Meaning.{seen}
-use Rattle.rule_lint.specs.Names.{is_column}
 use Rattle.rule_lint.specs.Host.{has_cell, is_rows_own}
 use Rattle.lint_laws.specs.RowLinks.{environment_of_cells}
 use Rattle.lint_laws.proofs.HostStates.{HasByte}
@@ -43,15 +42,6 @@ pub record RowLooks (rules : RuleSet) (table : Holdings) (cells : Row) (look alo
   pub own : (name : Text) → is_rows_own rules table name ≡ true → MeansCell table cells alone name
   pub same : (name : Text) → is_rows_own rules table name ≡ true → look name ≡ alone name
 
--- a cell that is defined is not empty
-cell_has_byte : (cells : Row) (column : Option ℕ) (text : Text) → cell_in cells column ≡ Some text → HasByte text
-cell_has_byte cells None text e = absurd (cc)
-cell_has_byte cells (Some column) text e = by_text (get_or cells column []) e
-  where
-    by_text : (cell : Text) → defined cell ≡ Some text → HasByte text
-    by_text [] e = absurd (cc)
-    by_text (b ∷ t) e = let is : (b ∷ t) ≡ text = cc in subst HasByte is tt
-
 -- what holds of every row holds of each
 pub at_row : {X : Type 0} (test : X → Bool) (rows : List X) (row : ℕ) (d : X) → row < length rows → list_all test rows ≡ true → test (get_or rows row d) ≡ true
 at_row test rows row d within e =
@@ -78,30 +68,10 @@ module _ (laws : RowLaws) (rules : RuleSet) (table : Holdings) (cells : Row) whe
   in_view pairs name m e = ap (λ (o : Option Meaning). if is_list rules.lists name then only_list o else only_text o) e
 
   extends : (pairs : List KeyValue) (name : Text) → (look [] name ≡ None) ⊎ (look pairs name ≡ look [] name)
-  extends pairs name = by_row (is_there entries name) refl
-    where
-      none_either_way : (b : Bool) → (if b then only_list None else only_text None) ≡ None
-      none_either_way true = refl
-      none_either_way false = refl
-
-      by_row : (b : Bool) → is_there entries name ≡ b → (look [] name ≡ None) ⊎ (look pairs name ≡ look [] name)
-      by_row true there =
-          inr (in_view pairs name (look_up entries name) (laws.shadow rules.lists (named_cells table.header cells) pairs name
-          ∙ ap (λ (b : Bool). if b then look_up entries name else look_up (requested rules.lists pairs) name) there))
-      by_row false gone =
-          inl (in_view [] name None (undefined (look_up entries name) gone) ∙ none_either_way (is_list rules.lists name))
+  extends pairs name = grind (arith, common_steps)
 
   means_cell : (name : Text) → is_list rules.lists name ≡ false → has_cell table name cells ≡ true → MeansCell table cells (look []) name
-  means_cell name text_name has =
-      let cell = some_text (cell_of table.header cells name) has in
-      record {
-        text = cell.0;
-        some = cell_has_byte cells (column_of table.header name) cell.0 cell.1;
-        cell = cell.1;
-        means =
-            ap (λ (b : Bool). if b then only_list (look_up entries name) else only_text (look_up entries name)) text_name
-            ∙ ap only_text (single (look_up entries name) cell.0 (laws.cell table.header cells name ∙ cell.1));
-      }
+  means_cell name text_name has = grind (arith, common_steps)
 
   same_as_alone : (pairs : List KeyValue) (name : Text) → MeansCell table cells (look []) name → look pairs name ≡ look [] name
   same_as_alone pairs name m = elim (extends pairs name) [
@@ -111,18 +81,9 @@ module _ (laws : RowLaws) (rules : RuleSet) (table : Holdings) (cells : Row) whe
 
   own_cell : (name : Text) (row : ℕ) → row < length table.rows → cells ≡ get_or table.rows row [] → is_rows_own rules table name ≡ true
       → MeansCell table cells (look []) name
-  own_cell name row within here e =
-      let parts = and_parts (is_column table name) (not (is_list rules.lists name) && list_all (has_cell table name) table.rows) e in
-      let both = and_parts (not (is_list rules.lists name)) (list_all (has_cell table name) table.rows) parts.1 in
-      means_cell name (not-true (is_list rules.lists name) both.0)
-      (ap (has_cell table name) here ∙ at_row (has_cell table name) table.rows row [] within both.1)
+  own_cell name row within here e = grind (arith, and_parts, means_cell, not-true, at_row)
 
 pub row_looks : RowLaws → (rules : RuleSet) (table : Holdings) (row : ℕ) (pairs : List KeyValue) → row < length table.rows
     → RowLooks rules table (get_or table.rows row []) (seen rules (environment_of_cells rules table (get_or table.rows row []) pairs))
     (seen rules (environment_of_cells rules table (get_or table.rows row []) []))
-row_looks laws rules table row pairs within =
-    let cells = get_or table.rows row [] in
-    record {
-      own = λ name e. own_cell laws rules table cells name row within refl e;
-      same = λ name e. same_as_alone laws rules table cells pairs name (own_cell laws rules table cells name row within refl e);
-    }
+row_looks laws rules table row pairs within = grind (arith, common_steps)

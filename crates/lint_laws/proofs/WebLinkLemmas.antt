@@ -1,9 +1,9 @@
 -- A text that is not the beginning of a web link, and is not continued to one, is never a web link.
-use Rattle.std.proofs.Common.{◌≡◌, ℕ, ◌+◌, ◌==◌, Bool, true, false, ◌||◌, ◌&&◌, cond, List, [], ◌∷◌, ◌++◌, Some, None, ◌⊎◌, inl, inr, refl, sym, ap, ◌∙◌}
+use Rattle.std.proofs.Common.{◌≡◌, ℕ, ◌==◌, Bool, true, false, ◌||◌, ◌&&◌, List, [], ◌∷◌, ◌++◌, None, ◌⊎◌, inl, inr, refl, sym, ap, ◌∙◌}
+use Rattle.std.proofs.lemmas.Grind.{common_steps}
 use Rattle.std.proofs.Common.{arith, codes, append_assoc}
-use Rattle.std.specs.Prelude.{nat_lt}
 use Rattle.std.specs.Char.{to_ascii_lowercase}
-use Rattle.std.proofs.lemmas.Bool.{false≢true, and_from, and_parts, and_right, eqb-true, eq-eqb, ltb-false, or_cases}
+use Rattle.std.proofs.lemmas.Bool.{false≢true, and_from, and_parts, and_right, eqb-true, eq-eqb}
 use Rattle.std.proofs.lemmas.Bool.{or_parts, not-true, both_ways, or_from, false_from_ne_true, or_left, or_right}
 use Rattle.text_model.specs.Texts.{Text}
 use Rattle.environment_model.specs.Environment.{LookUp}
@@ -86,30 +86,16 @@ never_a_web_link look parts e =
 -- ---- the slashes of a web link
 
 pub slash_lowered : (b : ℕ) → (to_ascii_lowercase b == 0x2F) ≡ true → (b == slash) ≡ true
-slash_lowered b e = eq-eqb b 0x2F (by_range (nat_lt b 65) (nat_lt b 91) refl (eqb-true (to_ascii_lowercase b) 0x2F e))
-  where
-    by_range : (low upper : Bool) → nat_lt b 65 ≡ low → cond low b (cond upper (b + 32) b) ≡ 0x2F → b ≡ 0x2F
-    by_range true upper f h = h
-    by_range false true f h = absurd (let above = ltb-false b 65 f in omega (arith, above, h))
-    by_range false false f h = h
+slash_lowered b e = grind (arith, common_steps)
 
 slashes_follow : (t : Text) → begins_in_any_case t (codes "//") ≡ true → after_slashes t ≡ None → ⊥
 slashes_follow [] e none = false≢true e
 slashes_follow (b ∷ []) e none = false≢true (sym (and_right (to_ascii_lowercase b == 0x2F) false refl) ∙ e)
-slashes_follow (b ∷ c ∷ t) e none =
-    let first = and_parts (to_ascii_lowercase b == 0x2F) (begins_in_any_case (c ∷ t) (codes "/")) e in
-    let second = and_parts (to_ascii_lowercase c == 0x2F) (begins_in_any_case t []) first.1 in
-    let both : (b == slash && c == slash) ≡ true = and_from (b == slash) (c == slash) (slash_lowered b first.0) (slash_lowered c second.0) in
-    let found : Some t ≡ None = sym (ap (λ (x : Bool). cond x (Some t) (after_slashes (c ∷ t))) both) ∙ none in
-    cc
+slashes_follow (b ∷ c ∷ t) e none = grind (arith, common_steps)
 
 later_slashes : (b : ℕ) (t : Text) → (after_slashes t ≡ None → ⊥) → after_slashes (b ∷ t) ≡ None → ⊥
 later_slashes b [] h none = h refl
-later_slashes b (c ∷ t) h none = by_test (b == slash && c == slash) none
-  where
-    by_test : (x : Bool) → cond x (Some t) (after_slashes (c ∷ t)) ≡ None → ⊥
-    by_test true e = let found : Some t ≡ None = e in cc
-    by_test false e = h e
+later_slashes b (c ∷ t) h none = grind (arith, common_steps)
 
 -- a text that begins with these bytes, the last two being slashes, has slashes
 begins_and_has : (front t : Text) → begins_in_any_case t (front ++ codes "//") ≡ true → after_slashes t ≡ None → ⊥
@@ -119,8 +105,4 @@ begins_and_has (c ∷ front) (b ∷ t) e none =
     later_slashes b t (begins_and_has front t (and_parts (to_ascii_lowercase b == to_ascii_lowercase c) (begins_in_any_case t (front ++ codes "//")) e).1) none
 
 pub web_link_has_slashes : (link : Text) → is_web_link link ≡ true → after_slashes link ≡ None → ⊥
-web_link_has_slashes link web none =
-    elim (or_cases (begins_in_any_case link (codes "http://")) (begins_in_any_case link (codes "https://")) web) [
-      | inl plain ↦ begins_and_has (codes "http:") link plain none
-      | inr secure ↦ begins_and_has (codes "https:") link secure none
-    ]
+web_link_has_slashes link web none = grind (arith, common_steps)

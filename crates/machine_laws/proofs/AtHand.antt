@@ -1,6 +1,7 @@
 -- The current member of a loop whose body does not write its element: the element's register holds it until the next turn.
 use Rattle.std.proofs.Common.{◌≡◌, ℕ, zero, suc, ◌+◌, ◌-◌, ◌<◌, ◌≤◌, length, Option, Some, None, Bool, true, false, refl, sym, ap, subst, arith, ⊎_elim}
 use Rattle.std.specs.Prelude.{if◌then◌else◌, option_map, not}
+use Rattle.std.proofs.lemmas.Grind.{common_steps}
 use Rattle.std.proofs.lemmas.Bool.{and_parts, cases_lt}
 use Rattle.text_model.specs.Texts.{Text}
 use Rattle.code_model.specs.Code.{Code, reading_at}
@@ -63,8 +64,4 @@ module _ (c : Code) where
 
   -- at the beginning of a turn it is the member of the turn
   pub hand_of_turn : (regs : ℕ → Value) (l : Loop) (u : Text) → regs l.element ≡ TextValue u → hand_in regs (Some l) ≤ length u
-  hand_of_turn regs l u holds = by_test (keeps_element c (body_of l))
-    where
-      by_test : (t : Bool) → (if t then value_bytes (regs l.element) else 0) ≤ length u
-      by_test true = rw holds (omega arith)
-      by_test false = omega arith
+  hand_of_turn regs l u holds = grind (arith, common_steps)

@@ -1,5 +1,5 @@
 -- Each run has one course, and the function that computes it finds it.
-use Rattle.std.proofs.Common.{◌≡◌, ℕ, zero, suc, ◌+◌, ◌-◌, ◌<◌, Option, Some, None, refl, sym, ap, ◌∙◌, subst, arith, add-one, ⊎_elim}
+use Rattle.std.proofs.Common.{◌≡◌, ℕ, zero, suc, ◌+◌, ◌-◌, ◌<◌, Option, Some, None, refl, ap, subst, arith, add-one, ⊎_elim}
 use Rattle.std.specs.Prelude.{◌↔◌}
 use Rattle.std.proofs.lemmas.Bool.{cases_lt, cases_order}
 use Rattle.environment_model.specs.Environment.{Environment}
@@ -65,12 +65,7 @@ module _ (c : Code) (v : Environment) where
 
   -- a run has one course
   pub one_course : (k m : ℕ) (o p : Outcome) → EndsWith c v k o → EndsWith c v m p → (k ≡ m) × (o ≡ p)
-  one_course k m o p h g =
-      let s = last_state k o h in
-      let x = last_state m p g in
-      let e : k ≡ m = last_once k m s.0 x.0 s.2 x.2 s.1 x.1 in
-      let same : s.0 ≡ x.0 = after_one c v m s.0 x.0 (subst (λ n. After c v n s.0) e s.1) x.1 in
-      (e, sym s.3 ∙ ap outcome_at same ∙ x.3)
+  one_course k m o p h g = grind (arith, last_state, last_once, after_one)
 
   found : (n k : ℕ) (s : State) → n + k ≡ step_limit c v → After c v k s → EndsWith c v (course_from c v n k s).steps (course_from c v n k s).outcome
   unfolding course_from

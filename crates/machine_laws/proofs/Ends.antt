@@ -1,15 +1,14 @@
 -- A typable code of good form ends within its step bound.
-use Rattle.std.proofs.Common.{◌≡◌, ℕ, zero, suc, ◌+◌, ◌*◌, ◌<◌, ◌≤◌, length, Bool, true, false, refl, sym, subst, arith}
-use Rattle.std.specs.Prelude.{if◌then◌else◌}
+use Rattle.std.proofs.Common.{◌≡◌, ℕ, zero, suc, ◌+◌, ◌*◌, ◌<◌, ◌≤◌, length, refl, sym, subst, arith}
 use Rattle.std.proofs.Math.Nat.{mul_comm}
 use Rattle.environment_model.specs.Environment.{Environment, member_count, byte_count}
 use Rattle.code_model.specs.Code.{Code}
 use Rattle.machine_model.specs.States.{Frame, End, State, Running, Ended, start}
 use Rattle.machine_model.specs.Step.{StepsTo}
 use Rattle.machine_model.specs.Runs.{After}
-use Rattle.machine_model.specs.Form.{body_at, is_in_body, HasGoodForm}
+use Rattle.machine_model.specs.Form.{HasGoodForm}
 use Rattle.machine_model.specs.Typable.{Table, IsClosed, MeetsNeeds}
-use Rattle.machine_model.specs.Budget.{where_inside, inside, sums_of, steps_bound}
+use Rattle.machine_model.specs.Budget.{inside, sums_of, steps_bound}
 use Rattle.machine_laws.proofs.Sums.{total_zero}
 use Rattle.machine_laws.proofs.Safety.{reached, stepping}
 use Rattle.machine_laws.proofs.Potential.{spent_at_end}
@@ -18,11 +17,7 @@ use Rattle.machine_laws.proofs.StepCosts.{StateSpent, within_weight, spent_step}
 
 -- if no place has the second weight, the bodies have none
 no_second : (c : Code) → inside c (λ p. 0) ≡ 0
-no_second c = total_zero (where_inside c (λ p. 0)) (length c.instrs) (λ p. by_body (is_in_body (body_at c p)) 0 refl)
-  where
-    by_body : (b : Bool) (n : ℕ) → n ≡ 0 → (if b then n else 0) ≡ 0
-    by_body true n e = e
-    by_body false n e = refl
+no_second c = grind (arith, total_zero)
 
 module _ (c : Code) (form : HasGoodForm c) (some : 0 < length c.instrs) (t : Table) (closed : IsClosed c t) (meets : MeetsNeeds c t) (v : Environment) where
   -- each step costs one

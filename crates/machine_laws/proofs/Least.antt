@@ -1,7 +1,8 @@
 -- The least table of a code: there is at most one, and it decides whether the code is typable, and which mismatch is the first.
-use Rattle.std.proofs.Common.{◌≡◌, ℕ, ◌≤◌, List, [], ◌∷◌, length, Option, Some, None, Bool, true, false, refl, sym, ap, ◌∙◌, subst, ⊎_elim}
+use Rattle.std.proofs.Common.{◌≡◌, ℕ, ◌≤◌, List, [], ◌∷◌, length, Option, Some, None, Bool, true, false, refl, sym, ap, ◌∙◌, subst, ⊎_elim, arith}
 use Rattle.std.specs.Prelude.{◌↔◌, if◌then◌else◌, option_and_then}
 use Rattle.std.specs.List.{AllByRecursion}
+use Rattle.std.proofs.lemmas.Grind.{common_steps}
 use Rattle.std.proofs.Math.Path.{fun_ext}
 use Rattle.std.proofs.lemmas.Bool.{cases_lt}
 use Rattle.std.proofs.lemmas.Option.{same_Some, slice_get_past}
@@ -9,7 +10,7 @@ use Rattle.code_model.specs.Code.{Code, reading}
 use Rattle.machine_model.specs.First.{Located}
 use Rattle.machine_model.specs.Kinds.{kind_le, Kinds, IsBelow, Need, for_instruction, needs, needs_at}
 use Rattle.machine_model.specs.Typable.{Table, IsMet, MeetsNeeds, IsTypable, TableBelow, IsLeast}
-use Rattle.machine_model.specs.Mismatch.{first_unmet, unmet_in, mismatch_at, first_mismatch, IsFirstMismatch}
+use Rattle.machine_model.specs.Mismatch.{first_unmet, mismatch_at, first_mismatch, IsFirstMismatch}
 use Rattle.machine_model.proofs.Faults.{none_below, first_none}
 use Rattle.machine_model.proofs.Orders.{kind_le_trans, below_antisym}
 
@@ -64,11 +65,7 @@ needs_past c p le = ap (λ o. for_instruction o needs) (ap (option_and_then (rea
 
 met_at : (c : Code) (t : Table) (p : ℕ) → MeetsNeeds c t → mismatch_at c t p ≡ None
 unfolding mismatch_at
-met_at c t p m = by_kinds (t p) refl
-  where
-    by_kinds : (o : Option Kinds) → t p ≡ o → unmet_in (needs_at c p) o ≡ None
-    by_kinds None e = refl
-    by_kinds (Some ks) e = none_unmet ks (needs_at c p) (m.at p ks e)
+met_at c t p m = grind (arith, common_steps)
 
 all_met_at : (c : Code) (t : Table) (p : ℕ) (ks : Kinds) → t p ≡ Some ks → mismatch_at c t p ≡ None → AllByRecursion (IsMet ks) (needs_at c p)
 unfolding mismatch_at

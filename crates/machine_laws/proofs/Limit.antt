@@ -1,6 +1,7 @@
 -- No run of any code takes more steps than the number of its instructions times one more than that of the members.
 use Rattle.std.proofs.Common.{◌≡◌, ℕ, zero, suc, ◌+◌, ◌-◌, ◌*◌, ◌<◌, ◌≤◌, length, Option, Some, None, refl, sym, ap, ◌∙◌, subst, arith, ⊎_elim}
 use Rattle.std.specs.Prelude.{slice_get}
+use Rattle.std.proofs.lemmas.Grind.{common_steps}
 use Rattle.std.proofs.lemmas.Bool.{cases_lt}
 use Rattle.std.proofs.lemmas.Option.{slice_get_past}
 use Rattle.std.proofs.Math.Nat.{mul-le-mul_left, mul_comm}
@@ -8,13 +9,13 @@ use Rattle.environment_model.specs.Environment.{Environment, member_count, byte_
 use Rattle.code_model.specs.Code.{Code}
 use Rattle.code_model.specs.declared.code.Instruction.{Instruction}
 use Rattle.machine_model.specs.Operands.{Reads}
-use Rattle.machine_model.specs.States.{Loop, Frame, State, Running, Ended, start}
+use Rattle.machine_model.specs.States.{Loop, Frame, State, Running, Ended}
 use Rattle.machine_model.specs.Step.{Move, IsInside, Leads, StepsTo}
 use Rattle.machine_model.specs.Runs.{After}
 use Rattle.machine_model.specs.Next.{step_limit}
 use Rattle.machine_model.specs.Budget.{inside}
 use Rattle.machine_laws.proofs.Shapes.{Shape, ends, onward, enters, again, leaves, shape}
-use Rattle.machine_laws.proofs.Small.{FrameSmall, IsSmall, text_limit, small_after}
+use Rattle.machine_laws.proofs.Small.{FrameSmall, text_limit, small_after}
 
 -- an instruction can be read only at a place of the code
 pub reads_within : (c : Code) (p : ℕ) (i : Instruction) → Reads c p i → p < length c.instrs
@@ -28,9 +29,6 @@ step_past W p q k one lt h = let le : p + 1 ≤ q = omega arith in let m = mul-l
 
 turn_over : (x turns B e k : ℕ) → e + 1 ≡ B → k ≤ x + turns * B + e → k + 1 ≤ x + (turns + 1) * B
 turn_over x turns B e k same h = omega arith
-
-all_over : (W start turns B k : ℕ) → turns + 1 ≤ W → k ≤ W * start + (turns + 1) * B → k ≤ W * (start + B)
-all_over W start turns B k few h = let m = mul-le-mul_left B few in omega arith
 
 parts : (W a b z : ℕ) → z ≡ a + b → W * z ≡ W * a + W * b
 parts W a b z e = rw e (omega arith)
@@ -54,27 +52,11 @@ module _ (c : Code) (v : Environment) where
 
   -- a step past the end of a body
   past_body : (p k : ℕ) (l : Loop) → (h : InTurn l p k) → p + 1 ≡ l.end → k + 1 ≤ (member_count v + 1) * l.end
-  past_body p k l h last =
-      let low : l.start ≤ p = h.low in
-      let same : (p - l.start) + 1 ≡ l.end - l.start = omega arith in
-      let turn = turn_over ((member_count v + 1) * l.start) h.turns (l.end - l.start) (p - l.start) k same h.bound in
-      let over = all_over (member_count v + 1) l.start h.turns (l.end - l.start) (k + 1) (omega (arith, h.few)) turn in
-      let e : l.start + (l.end - l.start) ≡ l.end = omega arith in
-      subst (λ n. k + 1 ≤ (member_count v + 1) * n) e over
+  past_body p k l h last = grind (arith, common_steps)
 
   -- the last turn ends at the end of the code, or its body is complete
   left_in_turn : (p k : ℕ) (l : Loop) (h : InTurn l p k) (turns : ℕ) → h.turns ≡ turns → p < length c.instrs → k + 1 ≤ (member_count v + 1) * length c.instrs
-  left_in_turn p k l h zero e lt =
-      let low : l.start ≤ p = h.low in
-      let bound : k ≤ (member_count v + 1) * l.start + 0 * (l.end - l.start) + (p - l.start) =
-      subst (λ n. k ≤ (member_count v + 1) * l.start + n * (l.end - l.start) + (p - l.start)) e h.bound in
-      let le : p + 1 ≤ length c.instrs = omega arith in
-      let m = mul-le-mul_left (member_count v + 1) le in
-      let same : p + 1 ≡ l.start + (p + 1 - l.start) = omega arith in
-      let split : (member_count v + 1) * (p + 1) ≡ (member_count v + 1) * l.start + (member_count v + 1) * (p + 1 - l.start) =
-      parts (member_count v + 1) l.start (p + 1 - l.start) (p + 1) same in
-      let few : p + 1 - l.start ≤ (member_count v + 1) * (p + 1 - l.start) = at_least (member_count v) (p + 1 - l.start) in
-      omega arith
+  left_in_turn p k l h zero e lt = grind (arith, common_steps)
   left_in_turn p k l h (suc turns) e lt =
       let high : p < l.end = h.high in
       let low : l.start ≤ p = h.low in
@@ -106,20 +88,7 @@ module _ (c : Code) (v : Environment) where
   by_shape s i _ new k small lt (onward f same kept) led h =
       let here : IsInside s.loop f.place = subst (λ l. IsInside l f.place) same led.0.inside in
       subst (λ x. StateAtMost x (k + 1)) (sym led.1) (subst (λ l. AtMost l f.place (k + 1)) (sym same) (onward_on s.place k f s.loop here led.0.forward h))
-  by_shape s i _ new k small lt (enters f l r u none held into first place inside holds) led h =
-      let none_yet : k ≤ (member_count v + 1) * s.place = subst (λ o. AtMost o s.place k) none h in
-      let x = subst (IsSmall (member_count v) (byte_count v) (text_limit c v)) held (small.registers r) in
-      let on' = step_past (member_count v + 1) s.place f.place k (omega arith) (omega (arith, place)) none_yet in
-      let starts : InTurn l f.place (k + 1) =
-      record {
-        low = omega (arith, first);
-        high = inside;
-        turns = 0;
-        few = omega (arith, x.0);
-        whole = λ z. absurd (omega (arith, z));
-        bound = rw first (omega (arith, on'));
-      } in
-      subst (λ y. StateAtMost y (k + 1)) (sym led.1) (subst (λ o. AtMost o f.place (k + 1)) (sym into) starts)
+  by_shape s i _ new k small lt (enters f l r u none held into first place inside holds) led h = grind (arith, common_steps)
   by_shape s i _ new k small lt (again f l l' u was into last left s1 s2 place holds) led h =
       let t : InTurn l s.place k = subst (λ o. AtMost o s.place k) was h in
       let low : l.start ≤ s.place = t.low in
@@ -136,11 +105,7 @@ module _ (c : Code) (v : Environment) where
         bound = rw (s1, s2, place, none) (omega (arith, turn));
       } in
       subst (λ y. StateAtMost y (k + 1)) (sym led) (subst (λ o. AtMost o f.place (k + 1)) (sym into) next')
-  by_shape s i _ new k small lt (leaves f l was into last left place) led h =
-      let t : InTurn l s.place k = subst (λ o. AtMost o s.place k) was h in
-      let past = past_body s.place k l t last in
-      let out : AtMost None f.place (k + 1) = subst (λ n. k + 1 ≤ (member_count v + 1) * n) (sym place) past in
-      subst (λ y. StateAtMost y (k + 1)) (sym led.1) (subst (λ o. AtMost o f.place (k + 1)) (sym into) out)
+  by_shape s i _ new k small lt (leaves f l was into last left place) led h = grind (arith, past_body)
 
   stepped : (old new : State) (k : ℕ) → After c v k old → StateAtMost old k → StepsTo c v old new → StateAtMost new (k + 1)
       × (k + 1 ≤ (member_count v + 1) * length c.instrs)

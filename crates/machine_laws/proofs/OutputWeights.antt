@@ -1,11 +1,10 @@
 -- How many bytes an instruction prints at most: its weight, and what it prints for each byte of the current member.
-use Rattle.std.proofs.Common.{◌≡◌, ℕ, ◌+◌, ◌*◌, ◌≤◌, ◌++◌, length, Option, Some, None, Bool, true, false, refl, sym, ap, ◌∙◌, subst, arith}
+use Rattle.std.proofs.Common.{◌≡◌, ℕ, ◌+◌, ◌*◌, ◌≤◌, ◌++◌, length, Option, Some, None, false, refl, sym, ap, ◌∙◌, subst, arith}
+use Rattle.std.proofs.lemmas.Grind.{common_steps}
 use Rattle.std.proofs.Common.{length-append}
-use Rattle.std.specs.Prelude.{if◌then◌else◌, ◌&&◌, ◌==◌, option_map}
-use Rattle.std.proofs.lemmas.Bool.{and_parts, eqb-true}
+use Rattle.std.specs.Prelude.{if◌then◌else◌, ◌==◌, option_map}
 use Rattle.text_model.specs.Texts.{Text}
 use Rattle.text_model.specs.Writing.{written}
-use Rattle.text_model.specs.Cut.{cut}
 use Rattle.environment_model.specs.Environment.{Environment, member_count, byte_count}
 use Rattle.code_model.specs.Code.{Code, reading_at}
 use Rattle.code_model.specs.declared.code.Instruction.{Instruction}
@@ -13,16 +12,15 @@ use Rattle.text_model.proofs.Written.{length-written}
 use Rattle.text_model.proofs.Cuts.{length-cut}
 use Rattle.machine_model.specs.declared.form.Body.{Body}
 use Rattle.machine_model.specs.Operands.{literal_at, writing_of}
-use Rattle.machine_model.specs.States.{Loop, Frame}
+use Rattle.machine_model.specs.States.{Frame}
 use Rattle.machine_model.specs.Step.{Move, Does, fail, emit, put_text, cut_text, later_turn}
 use Rattle.machine_model.specs.Form.{body_at}
 use Rattle.machine_model.specs.Values.{Text as TextValue}
-use Rattle.machine_model.specs.Budget.{longest_compared, fixed_bytes, separator_bytes, written_bytes, keeps_element, prints}
+use Rattle.machine_model.specs.Budget.{longest_compared, fixed_bytes, separator_bytes, written_bytes, prints}
 use Rattle.machine_model.specs.Budget.{prints_element}
 use Rattle.machine_model.specs.Fitting.{body_of}
 use Rattle.machine_laws.proofs.Small.{FrameSmall, IsSmall, text_limit}
-use Rattle.machine_laws.proofs.AtHand.{hand_in, at_hand}
-use Rattle.machine_laws.proofs.Potential.{Within}
+use Rattle.machine_laws.proofs.AtHand.{at_hand}
 use Rattle.machine_laws.proofs.StepCosts.{StepWithin, within_weight}
 use Rattle.machine_laws.proofs.UriOutputs.{move_output}
 
@@ -59,37 +57,13 @@ module _ (c : Code) (v : Environment) where
     -- an instruction that is neither PUT nor CUT
     fixed : (n : ℕ) → ((e : ℕ) → prints e (Some i) ≡ false)
         → n ≤ length s.output + (fixed_bytes c (Some i) + separated (body_at c s.place) (separator_bytes c (Some i))) → PrintsWithin s n
-    fixed n other le = loosely n (by_body (body_at c s.place) le)
-      where
-        by_body : (o : Option Body) → n ≤ length s.output + (fixed_bytes c (Some i) + separated o (separator_bytes c (Some i)))
-            → n ≤ length s.output + weight_of o (Some i)
-        by_body None h = omega arith
-        by_body (Some x) h = rw (other x.element) (omega arith)
+    fixed n other le = grind (arith, common_steps)
 
     -- PUT or CUT of a text in a register
     of_text : (n a : ℕ) (t : Text) → s.registers a ≡ TextValue t → length t ≤ text_limit c v → written_bytes (Some i) ≡ 3
         → fixed_bytes c (Some i) ≡ 3 * longest_compared c.literals → separator_bytes c (Some i) ≡ 0 → ((e : ℕ) → prints e (Some i) ≡ (e == a))
         → n ≤ length s.output + 3 * length t → PrintsWithin s n
-    of_text n a t held short w f z p le = by_loop s.loop refl
-      where
-        by_loop : (l : Option Loop) → s.loop ≡ l → PrintsWithin s n
-        by_loop None e =
-            let o : body_at c s.place ≡ None = sym b ∙ ap (option_map body_of) e in
-            loosely n (rw (o, w, f) (omega (arith, short, le)))
-        by_loop (Some l) e = by_test (prints (body_of l).element (Some i) && keeps_element c (body_of l)) refl
-          where
-            o : body_at c s.place ≡ Some (body_of l)
-            o = sym b ∙ ap (option_map body_of) e
-
-            by_test : (x : Bool) → (prints (body_of l).element (Some i) && keeps_element c (body_of l)) ≡ x → PrintsWithin s n
-            by_test false q = loosely n (rw (o, q, w, f) (omega (arith, short, le)))
-            by_test true q =
-                let both = and_parts (prints l.element (Some i)) (keeps_element c (body_of l)) q in
-                let same : l.element ≡ a = eqb-true l.element a (sym (p l.element) ∙ both.0) in
-                let hand : hand_in c s.registers (Some l) ≡ length t = rw (both.1, same, held) refl in
-                let three : tight s.place ≡ 3 = rw (o, r, q) w in
-                subst (λ y. Within c weight tight (member_count v) (byte_count v) y (hand_in c s.registers y) s.place (length s.output) n) (sym e)
-                (rw (three, hand) (omega (arith, le)))
+    of_text n a t held short w f z p le = grind (arith, common_steps)
 
   pub long_move : (s : Frame) (i : Instruction) (m : Move) → FrameSmall (member_count v) (byte_count v) (text_limit c v) s
       → option_map body_of s.loop ≡ body_at c s.place → reading_at c s.place ≡ Some i → Does c v s i m → PrintsWithin s (length (move_output m))
@@ -102,14 +76,6 @@ module _ (c : Code) (v : Environment) where
       let x = subst (IsSmall (member_count v) (byte_count v) (text_limit c v)) e (h.registers a) in
       of_text s _ b r (length (s.output ++ written (writing_of m) t)) a t e x refl refl refl (λ e. refl)
       (omega (arith, length-written (writing_of m) t, length-append s.output (written (writing_of m) t)))
-  long_move s _ _ h b r (cut_text a n m t e) =
-      let x = subst (IsSmall (member_count v) (byte_count v) (text_limit c v)) e (h.registers a) in
-      of_text s _ b r (length (s.output ++ written (writing_of m) (cut (writing_of m) t n))) a t e x refl refl refl (λ e. refl)
-      (omega (
-        arith,
-        length-written (writing_of m) (cut (writing_of m) t n),
-        length-cut (writing_of m) t n,
-        length-append s.output (written (writing_of m) (cut (writing_of m) t n)),
-      ))
+  long_move s _ _ h b r (cut_text a n m t e) = grind (arith, of_text, length-written, length-cut, length-append)
   long_move s i _ h b r _ = within_weight c weight tight (member_count v) (byte_count v) s.loop (at_hand c s) s.place (length s.output) (length s.output)
       (omega arith)

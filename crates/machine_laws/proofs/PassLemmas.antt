@@ -86,11 +86,7 @@ module _ (c : Code) (form : HasGoodForm c) (u : Table) (closed : IsClosed c u) w
       by_reading (Some i) k = holds_below (edges p ks (body_at c p) i) (edges p ms (body_at c p) i) (edges_below p ks ms (body_at c p) i b) k
 
   arrives : (e : Edge) → Holds u e → EdgeAny (register_count c) e → Arrives IsBelowAt (register_count c) e.to e.kinds
-  arrives e h any None before =
-      let same = listed_kinds (register_count c) e.kinds in (
-        record { at = λ r le. same r any ∙ any.at r le },
-        (h.0, h.1, record { at = λ r. rw (same r any) (h.2.at r) }),
-      )
+  arrives e h any None before = grind (arith, listed_kinds)
   arrives e h any (Some row) before =
       let l = before row refl in
       let there : l.1.0 ≡ h.0 = same_Some _ _ (sym l.1.1 ∙ h.1) in

@@ -1,18 +1,19 @@
 -- Nothing is ever known about a register that no instruction of a code may name.
 use Rattle.std.proofs.Common.{◌≡◌, ℕ, ◌<◌, ◌≤◌, ◌∷◌, List, length, Option, Some, None, refl, sym, ap, ◌∙◌, subst, arith, ⊎_elim, true}
 use Rattle.std.specs.Prelude.{if◌then◌else◌, option_and_then}
-use Rattle.std.specs.List.{list_all, AllByRecursion}
-use Rattle.std.proofs.lemmas.Bool.{ne_eqb, ltb-true, and_parts, cases_lt}
+use Rattle.std.specs.List.{AllByRecursion}
+use Rattle.std.proofs.lemmas.Grind.{common_steps}
+use Rattle.std.proofs.lemmas.Bool.{ne_eqb, cases_lt}
 use Rattle.std.proofs.lemmas.Option.{same_Some, slice_get_past}
 use Rattle.code_model.specs.Code.{Code, reading, reading_at}
-use Rattle.code_model.specs.Operands.{Operand, Register, operands, is_in_range}
+use Rattle.code_model.specs.Operands.{Operand, Register, operands}
 use Rattle.code_model.specs.declared.code.Instruction.{Instruction}
 use Rattle.code_model.specs.declared.code.Instruction.TheVariants.{Halt, Fail, Text as LoadText, List as LoadList, Const, Number, Undef, Empty, NoList, Differ}
 use Rattle.code_model.specs.declared.code.Instruction.TheVariants.{Less, Each, Next, Count}
 use Rattle.machine_model.specs.declared.form.Body.{Body}
 use Rattle.machine_model.specs.declared.kind.Kind.{Kind}
 use Rattle.machine_model.specs.declared.kind.Kind.TheVariants.{Any, OptText, Text as TextKind, List as ListKind, Number as NumberKind}
-use Rattle.machine_model.specs.Operands.{is_right, is_register, has_right_operands, register_count}
+use Rattle.machine_model.specs.Operands.{has_right_operands, register_count}
 use Rattle.machine_model.specs.States.{put}
 use Rattle.machine_model.specs.Form.{body_at, HasGoodForm}
 use Rattle.machine_model.specs.Kinds.{Kinds, Edge, edges, for_instruction, edges_at}
@@ -34,11 +35,7 @@ put_any n ks a k lt h =
 first_register : (c : Code) (i : Instruction) (a : ℕ) (rest : List Operand) → operands i ≡ Register a ∷ rest → has_right_operands c i ≡ true
     → a < register_count c
 unfolding has_right_operands
-first_register c i a rest e h =
-    let all : list_all (is_right c) (Register a ∷ rest) ≡ true = rw e at h in
-    let first = and_parts (is_right c (Register a)) (list_all (is_right c) rest) all in
-    let named = and_parts (is_in_range (Register a)) _ first.0 in
-    ltb-true a (register_count c) (and_parts (is_register c (Register a)) _ named.1).0
+first_register c i a rest e h = grind (arith, common_steps)
 
 module _ (c : Code) where
   ElementFits : Option Body → Type 0

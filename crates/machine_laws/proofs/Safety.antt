@@ -5,7 +5,7 @@ use Rattle.std.specs.List.{AllByRecursion}
 use Rattle.environment_model.specs.Environment.{Environment}
 use Rattle.code_model.specs.Code.{Code}
 use Rattle.code_model.specs.declared.code.Instruction.{Instruction}
-use Rattle.machine_model.specs.States.{Frame, State, Running, Ended, start, at}
+use Rattle.machine_model.specs.States.{Frame, State, Running, Ended, start}
 use Rattle.machine_model.specs.Step.{StepsTo}
 use Rattle.machine_model.specs.Runs.{After, IsStuck}
 use Rattle.machine_model.specs.Form.{body_at, HasGoodForm}
@@ -14,7 +14,7 @@ use Rattle.machine_model.specs.Typable.{Table, Holds, IsClosed, IsMet, MeetsNeed
 use Rattle.machine_model.proofs.Decides.{step_one}
 use Rattle.machine_model.proofs.GoodPlaces.{IsGood, good_at}
 use Rattle.machine_model.specs.Fitting.{Conforms}
-use Rattle.machine_laws.proofs.Sound.{Continues, StateConforms, along, moves}
+use Rattle.machine_laws.proofs.Sound.{Continues, StateConforms, moves}
 
 -- every reached state of a typable code of good form is described by the table, and continues
 module _ (c : Code) (form : HasGoodForm c) (starts : 0 < length c.instrs) (t : Table) (closed : IsClosed c t) (meets : MeetsNeeds c t) (v : Environment) where

@@ -1,6 +1,7 @@
 -- The values in registers and loops are no larger than the environment and the comparison texts.
 use Rattle.std.proofs.Common.{◌≡◌, ℕ, zero, suc, ◌+◌, ◌≤◌, List, [], ◌∷◌, length, Option, Some, None, Bool, true, false, refl, sym, subst, arith}
-use Rattle.std.specs.Prelude.{slice_get, nat_lt, ◌==◌, if◌then◌else◌, ◌&&◌, bytes_eq, sum_by}
+use Rattle.std.specs.Prelude.{slice_get, nat_lt, if◌then◌else◌, ◌&&◌, bytes_eq, sum_by}
+use Rattle.std.proofs.lemmas.Grind.{common_steps}
 use Rattle.std.proofs.lemmas.Bool.{and_parts}
 use Rattle.std.proofs.lemmas.List.Sums.{sum_by-cons}
 use Rattle.text_model.specs.Texts.{Text}
@@ -97,11 +98,7 @@ module _ (c : Code) (v : Environment) where
 
   small_put : (s : Frame) (a : ℕ) (x : Value) → ((r : ℕ) → IsSmall (member_count v) (byte_count v) (text_limit c v) (s.registers r))
       → IsSmall (member_count v) (byte_count v) (text_limit c v) x → (r : ℕ) → IsSmall (member_count v) (byte_count v) (text_limit c v) (put s.registers a x r)
-  small_put s a x h k r = by_test (r == a)
-    where
-      by_test : (t : Bool) → IsSmall (member_count v) (byte_count v) (text_limit c v) (if t then x else s.registers r)
-      by_test true = k
-      by_test false = h r
+  small_put s a x h k r = grind (arith, common_steps)
 
   text_more : (o : Option Text) → IsSmall (member_count v) (byte_count v) (byte_count v) (text_or_undefined o)
       → IsSmall (member_count v) (byte_count v) (text_limit c v) (text_or_undefined o)

@@ -1,6 +1,6 @@
 -- A typable code of good form never gets stuck.
 
-use Rattle.std.proofs.Common.{◌≡◌, ℕ, ◌+◌, ◌-◌, ◌<◌, ◌≤◌, List, [], ◌∷◌, length, Option, Some, None, Bool, true, false, refl, sym, ap, ◌∙◌, subst, arith}
+use Rattle.std.proofs.Common.{◌≡◌, ℕ, ◌+◌, ◌<◌, ◌≤◌, List, [], ◌∷◌, length, Option, Some, None, Bool, true, false, refl, sym, ap, ◌∙◌, subst, arith}
 use Rattle.std.proofs.Common.{add-one, ⊎_elim}
 use Rattle.std.specs.Prelude.{nat_lt, ◌||◌, not, option_map, bytes_eq}
 use Rattle.std.specs.List.{AllByRecursion}
@@ -10,7 +10,7 @@ use Rattle.std.proofs.lemmas.Option.{same_Some}
 use Rattle.text_model.specs.Texts.{Text}
 use Rattle.text_model.specs.Number.{leading_number}
 use Rattle.environment_model.specs.Environment.{Environment, text_of, members_of}
-use Rattle.code_model.specs.Code.{Code, reading_at}
+use Rattle.code_model.specs.Code.{Code}
 use Rattle.code_model.specs.declared.code.Instruction.{Instruction}
 use Rattle.code_model.specs.declared.code.Instruction.TheVariants.{Halt, Fail, Jump, Text as LoadText, List as LoadList, Const, Number, Undef, Empty, NoList}
 use Rattle.code_model.specs.declared.code.Instruction.TheVariants.{Differ, Less, Emit, Put, Cut, Each, Sep, Next, Count}
@@ -18,7 +18,7 @@ use Rattle.machine_model.specs.declared.form.Body.{Body}
 use Rattle.machine_model.specs.declared.kind.Kind.TheVariants.{Any, OptText, Text as TextKind, List as ListKind, Number as NumberKind}
 use Rattle.machine_model.specs.Operands.{name_at, literal_at}
 use Rattle.machine_model.specs.Values.{Value, Text as TextValue, List as ListValue, Number as NumberValue}
-use Rattle.machine_model.specs.States.{Loop, Frame, Link, NoLink, State, Running, Ended, start, put, at}
+use Rattle.machine_model.specs.States.{Loop, Frame, Link, NoLink, State, Running, Ended, put, at}
 use Rattle.machine_model.specs.Step.{Move, Ends, MovesTo, Does, halt, fail, jump, text, list, const, number, no_number, undefined, defined, empty, not_empty}
 use Rattle.machine_model.specs.Step.{no_member, a_member, equal, different, less, not_less, emit, put_text, cut_text, no_turn, enter, first_turn, later_turn}
 use Rattle.machine_model.specs.Step.{next_member, leave, count, IsInside, Leads}
@@ -48,14 +48,7 @@ module _ (c : Code) (t : Table) where
   pub along : (v : Environment) (s : Frame) (op : Instruction) (e : Edge) (regs : ℕ → Value) (turn : Option Loop) (out : Text)
       → Does c v s op (MovesTo (record { place = e.to; registers = regs; loop = turn; output = out })) → Holds t e → Fits e.kinds regs → s.place < e.to
       → e.to < length c.instrs → option_map body_of turn ≡ body_at c e.to → Continues v s op
-  along v s op e regs turn out d h f lt within b =
-      let new : Frame = record { place = e.to; registers = regs; loop = turn; output = out } in (
-        MovesTo new,
-        Running new,
-        d,
-        (record { forward = lt; within = within; inside = inside_of e.to turn b }, refl),
-        record { kinds = h.0; known = h.1; fits = fits_below e.kinds h.0 regs h.2 f; within = within; body = b },
-      )
+  along v s op e regs turn out d h f lt within b = grind (arith, lt, within, inside_of, fits_below)
 
   module _ (v : Environment) (s : Frame) (k : Conforms c t s) where
     -- to the next place
@@ -152,14 +145,7 @@ module _ (c : Code) (t : Table) where
         within = ltb-true d (length c.instrs) g.placed.within
 
         further : s.place + 1 < d
-        further =
-            ⊎_elim
-            (λ l. l)
-            (λ le. absurd (
-            let e : d - 1 ≡ s.place = omega (arith, lt, le) in
-            let f : is_next (Some (Each a b d)) ≡ true = rw (ap (λ m. is_next (reading_at c m)) e, ap is_next g.read) at g.placed.looped in
-            false≢true f))
-            (cases_lt (s.place + 1) d)
+        further = grind (arith, lt, cases_lt)
 
         opened : body_at c s.place ≡ None → body_at c (s.place + 1) ≡ Some (record { start = s.place + 1; end = d; element = a })
         opened e = rw add-one (rw (body_suc c s.place, e, g.read, g.placed.forward, g.placed.within, g.placed.looped) refl)

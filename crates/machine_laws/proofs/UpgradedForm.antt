@@ -1,24 +1,24 @@
 -- An upgrade keeps good form, kinds and the budget.
 
 use Rattle.std.proofs.Common.{◌≡◌, ℕ, zero, suc, ◌+◌, ◌-◌, ◌<◌, ◌≤◌, List, [], ◌∷◌, length, Option, Some, None, Bool, true, refl, sym, ap, ◌∙◌, subst}
-use Rattle.std.proofs.Common.{⊎_elim}
+use Rattle.std.proofs.Common.{⊎_elim, arith}
 use Rattle.std.specs.Prelude.{◌↔◌, slice_get, option_and_then, ◌&&◌, ◌||◌, not}
 use Rattle.std.specs.List.{list_all, AllByRecursion}
 use Rattle.std.proofs.Math.Path.{fun_ext}
 use Rattle.std.proofs.lemmas.Bool.{and_parts, and_from, cases_lt}
 use Rattle.std.proofs.lemmas.Option.{slice_get_past}
 use Rattle.code_model.specs.Code.{Code, reading, reading_at, upgraded}
-use Rattle.code_model.specs.Operands.{Operand, TextName, operands}
+use Rattle.code_model.specs.Operands.{Operand, operands}
 use Rattle.code_model.specs.declared.code.Instr.{Instr}
 use Rattle.code_model.specs.declared.code.Instruction.{Instruction}
-use Rattle.code_model.specs.declared.code.Instruction.TheVariants.{Emit, Put, Cut, Each, Sep}
+use Rattle.code_model.specs.declared.code.Instruction.TheVariants.{Each}
 use Rattle.machine_model.specs.declared.form.Body.{Body}
 use Rattle.machine_model.specs.Operands.{is_register, is_in_table, has_table_kind}
-use Rattle.machine_model.specs.Form.{is_next, opened, body_after, body_at, is_in_body, is_same_body, ends_body, target, goes_to, is_each, is_sep, checks}
+use Rattle.machine_model.specs.Form.{is_next, opened, body_at, is_in_body, is_same_body, ends_body, target, goes_to, is_each, is_sep, checks}
 use Rattle.machine_model.specs.Form.{first_failing, fault_of, fault_in, fault_at, HasGoodForm}
 use Rattle.machine_model.specs.Kinds.{Kinds, needs, edges, for_instruction, needs_at, edges_at}
 use Rattle.machine_model.specs.Typable.{Holds, IsMet, IsTypable}
-use Rattle.machine_model.specs.Budget.{fixed_bytes, separator_bytes, written_bytes, fixed_at, separator_at, written_at, is_kept, prints_element, is_of_element}
+use Rattle.machine_model.specs.Budget.{written_bytes, fixed_at, separator_at, written_at, is_kept, is_of_element}
 use Rattle.machine_model.specs.Budget.{of_element, of_others, where_outside, where_inside, outside, inside, sums_of}
 use Rattle.machine_model.proofs.Checks.{passes_all, passes_from}
 use Rattle.machine_model.proofs.GoodPlaces.{good_at}
@@ -39,11 +39,7 @@ module _ (c : Code) where
   body_same : (p : ℕ) → body_at (upgraded c) p ≡ body_at c p
   unfolding body_at
   body_same zero = refl
-  body_same (suc p) = ap (body_after (upgraded c) p) (body_same p) ∙ by_body (body_at c p)
-    where
-      by_body : (o : Option Body) → body_after (upgraded c) p o ≡ body_after c p o
-      by_body None = opened_same p
-      by_body (Some b) = refl
+  body_same (suc p) = grind (arith, opened_same)
 
   bodies_same : body_at (upgraded c) ≡ body_at c
   bodies_same = fun_ext body_same
@@ -81,21 +77,11 @@ module _ (c : Code) where
     where
       tables_same : (os : List Operand) → list_all (is_in_table c) os ≡ true → list_all (is_in_table (upgraded c)) os ≡ true
       tables_same [] k = refl
-      tables_same (o ∷ os) k = let both = and_parts (is_in_table c o) (list_all (is_in_table c) os) k in
-          and_from (is_in_table (upgraded c) o) (list_all (is_in_table (upgraded c)) os) (in_table o both.0) (tables_same os both.1)
-        where
-          in_table : (o : Operand) → is_in_table c o ≡ true → is_in_table (upgraded c) o ≡ true
-          in_table (TextName n) k = k
-          in_table _ k = k
+      tables_same (o ∷ os) k = grind (arith, and_parts, and_from)
 
       kinds_same : (os : List Operand) → list_all (has_table_kind c) os ≡ true → list_all (has_table_kind (upgraded c)) os ≡ true
       kinds_same [] k = refl
-      kinds_same (o ∷ os) k = let both = and_parts (has_table_kind c o) (list_all (has_table_kind c) os) k in
-          and_from (has_table_kind (upgraded c) o) (list_all (has_table_kind (upgraded c)) os) (has_kind o both.0) (kinds_same os both.1)
-        where
-          has_kind : (o : Operand) → has_table_kind c o ≡ true → has_table_kind (upgraded c) o ≡ true
-          has_kind (TextName n) k = k
-          has_kind _ k = k
+      kinds_same (o ∷ os) k = grind (arith, and_parts, and_from)
 
   fault_more : (p : ℕ) → fault_at c p ≡ None → fault_at (upgraded c) p ≡ None
   unfolding fault_at
@@ -148,20 +134,10 @@ module _ (c : Code) where
     -- ---- and the budget
 
     fixed_same : (p : ℕ) → fixed_at (upgraded c) p ≡ fixed_at c p
-    fixed_same p = by_instruction (reading_at (upgraded c) p) ∙ ap (fixed_bytes c) (reading_same p)
-      where
-        by_instruction : (o : Option Instruction) → fixed_bytes (upgraded c) o ≡ fixed_bytes c o
-        by_instruction (Some (Emit b)) = refl
-        by_instruction (Some (Put a m)) = refl
-        by_instruction (Some (Cut a n m)) = refl
-        by_instruction _ = refl
+    fixed_same p = grind (arith, reading_same)
 
     separator_same : (p : ℕ) → separator_at (upgraded c) p ≡ separator_at c p
-    separator_same p = by_instruction (reading_at (upgraded c) p) ∙ ap (separator_bytes c) (reading_same p)
-      where
-        by_instruction : (o : Option Instruction) → separator_bytes (upgraded c) o ≡ separator_bytes c o
-        by_instruction (Some (Sep b)) = refl
-        by_instruction _ = refl
+    separator_same p = grind (arith, reading_same)
 
     written_same : (p : ℕ) → written_at (upgraded c) p ≡ written_at c p
     written_same p = ap written_bytes (reading_same p)
@@ -172,11 +148,7 @@ module _ (c : Code) where
     kept_same r p (suc n) = rw (kept_same r p n, reading_same (p + n)) refl
 
     element_same : (p : ℕ) → is_of_element (upgraded c) p ≡ is_of_element c p
-    element_same p = rw (body_same p, reading_same p) (by_body (body_at c p))
-      where
-        by_body : (o : Option Body) → prints_element (upgraded c) o (reading_at c p) ≡ prints_element c o (reading_at c p)
-        by_body None = refl
-        by_body (Some b) = rw (kept_same b.element b.start (b.end - b.start)) refl
+    element_same p = grind (arith, body_same, reading_same, kept_same)
 
     outside_same : (f g : ℕ → ℕ) → ((p : ℕ) → f p ≡ g p) → outside (upgraded c) f ≡ outside c g
     outside_same f g same = total_same (where_outside (upgraded c) f) (where_outside c g) (length c.instrs) (λ p. rw (body_same p, same p) refl)

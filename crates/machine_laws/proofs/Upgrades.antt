@@ -1,23 +1,22 @@
 -- A code does the same after it is upgraded to version 2.
 
-use Rattle.std.proofs.Common.{◌≡◌, ℕ, zero, suc, ◌+◌, ◌-◌, ◌<◌, List, [], ◌∷◌, ◌++◌, Option, Some, None, Bool, true, false, refl, sym, ◌∙◌, arith, ◌⊎◌, inl}
+use Rattle.std.proofs.Common.{◌≡◌, ℕ, zero, suc, ◌<◌, List, [], ◌∷◌, ◌++◌, Option, Some, None, Bool, true, false, refl, sym, ◌∙◌, arith, ◌⊎◌, inl}
+use Rattle.std.proofs.lemmas.Grind.{common_steps}
 use Rattle.std.proofs.Common.{inr, ⊎_elim}
-use Rattle.std.specs.Prelude.{slice_get, unwrap_or, option_and_then, nat_lt, ◌==◌, ◌&&◌, if◌then◌else◌}
-use Rattle.std.specs.List.{list_all}
-use Rattle.std.proofs.lemmas.Bool.{and_parts, and_from, ltb-true, lt-ltb}
+use Rattle.std.specs.Prelude.{slice_get, unwrap_or, nat_lt, ◌==◌, if◌then◌else◌}
+use Rattle.std.proofs.lemmas.Bool.{ltb-true, lt-ltb}
 use Rattle.text_model.specs.Texts.{Text}
 use Rattle.environment_model.specs.Environment.{Environment}
-use Rattle.code_model.specs.Code.{Code, named, counting, reading, reading_at, upgraded}
-use Rattle.code_model.specs.Operands.{Operand, Register, TextName, operands, is_in_range}
+use Rattle.code_model.specs.Code.{Code, reading, reading_at, upgraded}
+use Rattle.code_model.specs.Operands.{Operand, Register}
 use Rattle.code_model.specs.declared.code.Instr.{Instr}
 use Rattle.code_model.specs.declared.code.Instruction.{Instruction}
 use Rattle.code_model.specs.declared.code.Instruction.TheVariants.{Halt, Count}
-use Rattle.machine_model.specs.Operands.{is_register, is_in_table, has_table_kind, is_right, has_right_operands, Reads}
+use Rattle.machine_model.specs.Operands.{is_register, is_right, has_right_operands, Reads}
 use Rattle.machine_model.specs.States.{Frame, State, Running, Ended}
 use Rattle.machine_model.specs.Step.{Move, Ends, MovesTo, Returns, Leads, StepsTo}
 use Rattle.machine_model.specs.Runs.{After, EndsWith, Outcome, Link, NoLink, Stuck}
 use Rattle.machine_model.specs.Next.{move_of}
-use Rattle.machine_model.specs.Budget.{inside}
 use Rattle.machine_model.proofs.Moves.{move_of-does, does-move_of}
 
 -- ---- version 2 reads what another version reads; where that reads nothing, version 2 reads nothing or a COUNT
@@ -32,15 +31,7 @@ one_more (z ∷ xs) y (suc n) = one_more xs y n
 
 readings : (v : ℕ) (f : Instr) → (reading v f ≡ reading 2 f) ⊎ ((reading v f ≡ None) × (reading 2 f ≡ Some (Count f.a f.b)))
 unfolding reading
-readings v f = by_version (v == 2)
-  where
-    by_version : (t : Bool)
-        → (unwrap_or (slice_get (named f ++ (if t then Some (Count f.a f.b) else None) ∷ []) f.op) None
-        ≡ unwrap_or (slice_get (named f ++ counting 2 f ∷ []) f.op) None)
-        ⊎ ((unwrap_or (slice_get (named f ++ (if t then Some (Count f.a f.b) else None) ∷ []) f.op) None ≡ None)
-        × (unwrap_or (slice_get (named f ++ counting 2 f ∷ []) f.op) None ≡ Some (Count f.a f.b)))
-    by_version true = inl refl
-    by_version false = one_more (named f) (counting 2 f) f.op
+readings v f = grind (arith, common_steps)
 
 pub reading_more : (v : ℕ) (f : Instr) (i : Instruction) → reading v f ≡ Some i → reading 2 f ≡ Some i
 reading_more v f i h = ⊎_elim (λ same. sym same ∙ h) (λ other. absurd (cc (other.0, h))) (readings v f)
@@ -51,12 +42,7 @@ NowCounts before now = (before ≡ None) × ((a b : ℕ) × (now ≡ Some (Count
 
 module _ (c : Code) where
   pub read_at : (p : ℕ) → (reading_at c p ≡ reading_at (upgraded c) p) ⊎ NowCounts (reading_at c p) (reading_at (upgraded c) p)
-  read_at p = by_fields (slice_get c.instrs p)
-    where
-      by_fields : (o : Option Instr) → (option_and_then (reading c.version) o ≡ option_and_then (reading 2) o)
-          ⊎ NowCounts (option_and_then (reading c.version) o) (option_and_then (reading 2) o)
-      by_fields None = inl refl
-      by_fields (Some f) = ⊎_elim inl (λ other. inr (other.0, (f.a, f.b, other.1))) (readings c.version f)
+  read_at p = grind (arith, readings)
 
   -- ---- operands
 
@@ -69,26 +55,11 @@ module _ (c : Code) where
   register_more _ k = refl
 
   operand_more : (o : Operand) → is_right c o ≡ true → is_right (upgraded c) o ≡ true
-  operand_more o h =
-      let range = and_parts (is_in_range o) _ h in
-      let register = and_parts (is_register c o) _ range.1 in
-      and_from (is_in_range o) (is_register (upgraded c) o && (is_in_table (upgraded c) o && has_table_kind (upgraded c) o)) range.0
-      (and_from (is_register (upgraded c) o) (is_in_table (upgraded c) o && has_table_kind (upgraded c) o) (register_more o register.0)
-      (entry_more o register.1))
-    where
-      entry_more : (o : Operand) → (is_in_table c o && has_table_kind c o) ≡ true → (is_in_table (upgraded c) o && has_table_kind (upgraded c) o) ≡ true
-      entry_more (TextName n) k = k
-      entry_more _ k = k
+  operand_more o h = grind (arith, common_steps)
 
   right_more : (i : Instruction) → has_right_operands c i ≡ true → has_right_operands (upgraded c) i ≡ true
   unfolding has_right_operands
-  right_more i h = all_more (operands i) h
-    where
-      all_more : (os : List Operand) → list_all (is_right c) os ≡ true → list_all (is_right (upgraded c)) os ≡ true
-      all_more [] k = refl
-      all_more (o ∷ os) k =
-          let both = and_parts (is_right c o) (list_all (is_right c) os) k in
-          and_from (is_right (upgraded c) o) (list_all (is_right (upgraded c)) os) (operand_more o both.0) (all_more os both.1)
+  right_more i h = grind (arith, common_steps)
 
   pub reads_more : (p : ℕ) (i : Instruction) → Reads c p i → Reads (upgraded c) p i
   reads_more p i r = record { spelled = r.spelled; known = reading_more c.version _ i r.known; right = right_more i r.right }

@@ -1,6 +1,7 @@
 -- The relations of the machine are decided by its functions, so a run has one course.
-use Rattle.std.proofs.Common.{◌≡◌, ℕ, zero, suc, length, Option, Some, None, Bool, true, false, refl, sym, ap, ◌∙◌}
-use Rattle.std.specs.Prelude.{◌↔◌, option_and_then, nat_lt, nat_le, if◌then◌else◌}
+use Rattle.std.proofs.Common.{◌≡◌, ℕ, zero, suc, length, Option, Some, None, true, refl, sym, ap, ◌∙◌, arith}
+use Rattle.std.specs.Prelude.{◌↔◌, option_and_then, nat_lt, nat_le}
+use Rattle.std.proofs.lemmas.Grind.{common_steps}
 use Rattle.std.proofs.lemmas.Bool.{lt-ltb, le-leb, ltb-true, leb-true, and_parts, and_from}
 use Rattle.std.proofs.lemmas.Option.{same_Some}
 use Rattle.environment_model.specs.Environment.{Environment}
@@ -39,11 +40,7 @@ module _ (c : Code) (from : ℕ) where
 
   judged-Leads : (m : Move) (new : State) → judged c from m ≡ Some new → Leads c from m new
   judged-Leads (Ends e) new h = sym (same_Some _ _ h)
-  judged-Leads (MovesTo s) new h = by_test (is_onward c from s) refl h
-    where
-      by_test : (t : Bool) → is_onward c from s ≡ t → (if t then Some (Running s) else None) ≡ Some new → Leads c from (MovesTo s) new
-      by_test true e h = (onward_from s e, sym (same_Some _ _ h))
-      by_test false e h = absurd (cc)
+  judged-Leads (MovesTo s) new h = grind (arith, common_steps)
   judged-Leads (Returns s) new h = sym (same_Some _ _ h)
 
 module _ (c : Code) (v : Environment) where

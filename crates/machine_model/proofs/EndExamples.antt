@@ -2,7 +2,7 @@
 
 use Rattle.std.proofs.Common.{◌≡◌, List, [], ◌∷◌, refl, ap, arith}
 use Rattle.std.specs.Prelude.{codes, map}
-use Rattle.text_model.specs.Texts.{Text, is_unreserved}
+use Rattle.text_model.specs.Texts.{is_unreserved}
 use Rattle.text_model.specs.Writing.{written_u}
 use Rattle.text_model.specs.Cut.{code_points}
 use Rattle.text_model.specs.Number.{leading_number}

@@ -1,7 +1,6 @@
 -- What follows if a value has a kind, and if registers fit kinds.
-use Rattle.std.proofs.Common.{◌≡◌, ℕ, List, Option, Some, None, Bool, true, false, refl, sym, subst, ◌⊎◌, inl, inr}
-use Rattle.std.specs.Prelude.{◌==◌, if◌then◌else◌}
-use Rattle.std.proofs.lemmas.Bool.{eqb-true}
+use Rattle.std.proofs.Common.{◌≡◌, ℕ, List, Option, Some, None, refl, ◌⊎◌, inl, inr, arith}
+use Rattle.std.proofs.lemmas.Grind.{common_steps}
 use Rattle.text_model.specs.Texts.{Text}
 use Rattle.machine_model.specs.declared.kind.Kind.{Kind}
 use Rattle.machine_model.specs.declared.kind.Kind.TheVariants.{Any, OptText, Text as TextKind, List as ListKind, Number as NumberKind}
@@ -34,27 +33,15 @@ text_or_undefined-kind None = refl
 text_or_undefined-kind (Some t) = refl
 
 pub fits_put : (ks : Kinds) (regs : ℕ → Value) (a : ℕ) (k : Kind) (x : Value) → Fits ks regs → HasKind x k → Fits (put ks a k) (put regs a x)
-fits_put ks regs a k x f h = record { at = λ r. by_test r (r == a) }
-  where
-    by_test : (r : ℕ) (t : Bool) → HasKind (if t then x else regs r) (if t then k else ks r)
-    by_test r true = h
-    by_test r false = f.at r
+fits_put ks regs a k x f h = grind (arith, common_steps)
 
 -- a register whose kind is forgotten
 pub fits_any : (ks : Kinds) (regs : ℕ → Value) (a : ℕ) → Fits ks regs → Fits (put ks a Any) regs
-fits_any ks regs a f = record { at = λ r. by_test r (r == a) }
-  where
-    by_test : (r : ℕ) (t : Bool) → HasKind (regs r) (if t then Any else ks r)
-    by_test r true = refl
-    by_test r false = f.at r
+fits_any ks regs a f = grind (arith, common_steps)
 
 -- a register that is known to hold a value of a kind
 pub fits_known : (ks : Kinds) (regs : ℕ → Value) (a : ℕ) (k : Kind) → Fits ks regs → HasKind (regs a) k → Fits (put ks a k) regs
-fits_known ks regs a k f h = record { at = λ r. by_test r (r == a) refl }
-  where
-    by_test : (r : ℕ) (t : Bool) → (r == a) ≡ t → HasKind (regs r) (if t then k else ks r)
-    by_test r true e = subst (λ n. HasKind (regs n) k) (sym (eqb-true r a e)) h
-    by_test r false e = f.at r
+fits_known ks regs a k f h = grind (arith, common_steps)
 
 pub fits_below : (ks ks' : Kinds) (regs : ℕ → Value) → IsBelow ks ks' → Fits ks regs → Fits ks' regs
 fits_below ks ks' regs b f = record { at = λ r. kind_le_trans (kind_of (regs r)) (ks r) (ks' r) (f.at r) (b.at r) }

@@ -6,7 +6,7 @@ use Rattle.code_model.specs.Code.{Code, reading, upgraded}
 use Rattle.code_model.specs.declared.code.Instruction.{Instruction}
 use Rattle.code_model.specs.declared.code.Instruction.TheVariants as instruction
 use Rattle.machine_model.specs.declared.kind.Kind.{Kind}
-use Rattle.machine_model.specs.declared.kind.Kind.TheVariants.{Any, Text, List as ListKind, Number}
+use Rattle.machine_model.specs.declared.kind.Kind.TheVariants.{Any, Text, List as ListKind}
 use Rattle.machine_model.specs.First.{Located, first_below}
 use Rattle.machine_model.specs.Form.{body_at}
 use Rattle.machine_model.specs.Kinds.{Kinds}

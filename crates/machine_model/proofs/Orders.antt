@@ -1,6 +1,6 @@
 -- The order of kinds: joins are least, and edges keep it.
-use Rattle.std.proofs.Common.{◌≡◌, ℕ, List, [], ◌∷◌, Option, Some, None, Bool, true, false, refl}
-use Rattle.std.specs.Prelude.{◌==◌, if◌then◌else◌}
+use Rattle.std.proofs.Common.{◌≡◌, ℕ, List, [], ◌∷◌, Option, Some, None, true, refl, arith}
+use Rattle.std.proofs.lemmas.Grind.{common_steps}
 use Rattle.std.proofs.Math.Path.{fun_ext}
 use Rattle.code_model.specs.declared.code.Instruction.{Instruction}
 use Rattle.code_model.specs.declared.code.Instruction.TheVariants.{Halt, Fail, Text as LoadText, List as LoadList, Const, Number, Undef, Empty, NoList, Differ}
@@ -73,11 +73,7 @@ pub below_antisym : (ks ms : Kinds) → IsBelow ks ms → IsBelow ms ks → ks �
 below_antisym ks ms b d = fun_ext (λ r. kind_le_antisym (ks r) (ms r) (b.at r) (d.at r))
 
 pub put_below : (ks ms : Kinds) (a : ℕ) (k : Kind) → IsBelow ks ms → IsBelow (put ks a k) (put ms a k)
-put_below ks ms a k b = record { at = λ r. by_test r (r == a) }
-  where
-    by_test : (r : ℕ) (t : Bool) → kind_le (if t then k else ks r) (if t then k else ms r) ≡ true
-    by_test r true = kind_le_refl k
-    by_test r false = b.at r
+put_below ks ms a k b = grind (arith, common_steps)
 
 -- ---- edges
 

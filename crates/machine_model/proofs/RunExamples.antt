@@ -11,7 +11,6 @@ use Rattle.environment_model.specs.Environment.{Environment, look_up}
 use Rattle.code_model.specs.declared.code.Instruction.{Instruction}
 use Rattle.code_model.specs.declared.code.Instruction.TheVariants as instruction
 use Rattle.machine_model.specs.Operands.{has_right_operands}
-use Rattle.machine_model.specs.States.{Link, NoLink}
 use Rattle.machine_model.specs.Runs.{Outcome}
 use Rattle.machine_model.specs.Runs as outcome
 use Rattle.machine_model.specs.Next.{Course, course, course_from, course_of}

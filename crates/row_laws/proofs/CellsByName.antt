@@ -1,14 +1,13 @@
 -- The entries of a row, name by name: the defined cell of the name's first column.
-use Rattle.std.proofs.Common.{◌≡◌, ℕ, ◌+◌, ◌<◌, ◌≤◌, ◌==◌, zero, suc, Bool, true, false, cond, [], ◌∷◌, length, get_or, Option, Some, None, is_some, bytes_eq}
+use Rattle.std.proofs.Common.{◌≡◌, ℕ, ◌+◌, ◌<◌, ◌≤◌, ◌==◌, zero, suc, true, false, [], ◌∷◌, length, get_or, Option, Some, None, is_some, bytes_eq}
 use Rattle.std.proofs.Common.{nat_lt, refl, sym, ap, ◌∙◌, arith, ⊎_elim, if◌then◌else◌}
 use Rattle.std.proofs.lemmas.Bool.{cases_lt, cases_order, lt-ltb, le-ltb, eq-eqb, eqb-true}
 use Rattle.std.proofs.lemmas.List.Quantifiers.{position-Some}
 use Rattle.std.proofs.lemmas.List.Sums.{fails_before_first}
 use Rattle.std.proofs.lemmas.Slice.Eq.{bytes_eq-Decides}
-use Rattle.std.specs.List.{position_or_len}
 use Rattle.std.specs.Option.{option_map_or}
 use Rattle.text_model.specs.Texts.{Text}
-use Rattle.environment_model.specs.Environment.{Environment, Meaning, Single, look_up, text_in, text_of}
+use Rattle.environment_model.specs.Environment.{Environment, Meaning, Single, look_up, text_of}
 use Rattle.environment_model.proofs.Environments.{look_up-empty}
 use Rattle.kbart_rows.specs.Cells.{Row, cell_in, cell_of, column_of, defined, is_first, name_cell, named_cell, named_cells}
 use Rattle.kbart_rows.specs.Filling.{with_defined}
@@ -40,11 +39,7 @@ other_cell env name column_name (b ∷ text) differs = with_text-differs env col
 
 other_column : (env : Environment) (header cells : Row) (n : ℕ) (name : Text) → bytes_eq (get_or header n []) name ≡ false
     → look_up (with_defined env (named_cell header cells n)) name ≡ look_up env name
-other_column env header cells n name differs = by_first (is_first header n)
-  where
-    by_first : (b : Bool) → look_up (with_defined env (if b then name_cell (get_or header n []) (get_or cells n []) else None)) name ≡ look_up env name
-    by_first true = other_cell env name (get_or header n []) (get_or cells n []) differs
-    by_first false = refl
+other_column env header cells n name differs = grind (arith, other_cell)
 
 later_column : (env : Environment) (header cells : Row) (n : ℕ) (name : Text) → is_first header n ≡ false
     → look_up (with_defined env (named_cell header cells n)) name ≡ look_up env name
@@ -65,17 +60,7 @@ own_column env header cells n name first is none =
 -- ---- where the first column of a name is
 
 no_column : (header : Row) (name : Text) (n : ℕ) → column_of header name ≡ None → n < length header → bytes_eq name (get_or header n []) ≡ false
-no_column header name n none within =
-    fails_before_first (bytes_eq name) header n [] (let past = all_fail (nat_lt (position_or_len (bytes_eq name) header) (length header)) refl in omega arith)
-  where
-    all_fail : (b : Bool) → nat_lt (position_or_len (bytes_eq name) header) (length header) ≡ b → length header ≤ position_or_len (bytes_eq name) header
-    all_fail true is =
-        let at = position_or_len (bytes_eq name) header in
-        let some : column_of header name ≡ Some at = ap (λ b. cond b (Some at) None) is in
-        absurd (cc)
-    all_fail false is =
-        ⊎_elim (λ lt. absurd (let yes = lt-ltb (position_or_len (bytes_eq name) header) (length header) lt in cc)) (λ le. le)
-        (cases_lt (position_or_len (bytes_eq name) header) (length header))
+no_column header name n none within = grind (arith, fails_before_first, bytes_eq, lt-ltb, cases_lt)
 
 -- whether a column with the name is the first one
 first_is : (header : Row) (name : Text) (n k : ℕ) → get_or header n [] ≡ name → column_of header name ≡ Some k → is_first header n ≡ (k == n)
@@ -116,28 +101,10 @@ step env header cells n name (Some k) found within so_far =
         other_column env header cells n name differs ∙ so_far ∙ was ∙ sym now
 
     later : k < n → Goal
-    later lt =
-        let was = ap (λ b. if b then single (defined (get_or cells k [])) else None) (lt-ltb k n lt) in
-        let now = ap (λ b. if b then single (defined (get_or cells k [])) else None) (lt-ltb k (n + 1) (omega (arith, lt))) in
-        by_name (bytes_eq (get_or header n []) name) refl ∙ so_far ∙ was ∙ sym now
-      where
-        by_name : (b : Bool) → bytes_eq (get_or header n []) name ≡ b → look_up (with_defined env (named_cell header cells n)) name ≡ look_up env name
-        by_name false differs = other_column env header cells n name differs
-        by_name true same =
-            let is = (bytes_eq-Decides (get_or header n []) name).0 same in
-            let not_first : is_first header n ≡ false = first_is header name n k is found ∙ other (k == n) refl in
-            later_column env header cells n name not_first
-          where
-            other : (b : Bool) → (k == n) ≡ b → b ≡ false
-            other true equal = let same_column = eqb-true k n equal in absurd (omega (arith, lt, same_column))
-            other false differs = refl
+    later lt = grind (arith, lt-ltb, bytes_eq, other_column, bytes_eq-Decides, first_is, later_column, eqb-true)
 
 pub up_to : (header cells : Row) (name : Text) (n : ℕ) → n ≤ length header → look_up (entries_of header cells n) name ≡ before cells n (column_of header name)
-up_to header cells name zero within = look_up-empty name ∙ sym (nothing (column_of header name))
-  where
-    nothing : (found : Option ℕ) → before cells 0 found ≡ None
-    nothing None = refl
-    nothing (Some k) = ap (λ b. if b then single (defined (get_or cells k [])) else None) (le-ltb k 0 (omega arith))
+up_to header cells name zero within = grind (arith, look_up-empty, le-ltb)
 up_to header cells name (suc n) within =
     let so_far = up_to header cells name n (omega (arith, within)) in
     let one : suc n ≡ n + 1 = omega arith in
@@ -153,19 +120,7 @@ all_columns header cells name (Some k) is =
     ap (λ b. if b then single (defined (get_or cells k [])) else None) (lt-ltb k (length header) at.0)
 
 pub text_of_row : (header cells : Row) (name : Text) → text_of (row_of (named_cells header cells)) name ≡ cell_of header cells name
-text_of_row header cells name =
-    ap text_in (up_to header cells name (length header) (omega arith) ∙ all_columns header cells name (column_of header name) refl)
-    ∙ as_text (cell_of header cells name)
-  where
-    as_text : (o : Option Text) → text_in (single o) ≡ o
-    as_text None = refl
-    as_text (Some t) = refl
+text_of_row header cells name = grind (arith, up_to, all_columns)
 
 pub in_row : (header cells : Row) (name : Text) → is_some (look_up (row_of (named_cells header cells)) name) ≡ is_some (cell_of header cells name)
-in_row header cells name =
-    ap is_some (up_to header cells name (length header) (omega arith) ∙ all_columns header cells name (column_of header name) refl)
-    ∙ as_some (cell_of header cells name)
-  where
-    as_some : (o : Option Text) → is_some (single o) ≡ is_some o
-    as_some None = refl
-    as_some (Some t) = refl
+in_row header cells name = grind (arith, is_some, up_to, all_columns)

@@ -1,5 +1,5 @@
 -- The entries of a row, column by column.
-use Rattle.std.proofs.Common.{List, [], add-one, ap, arith, suc, sym, ℕ, ◌++◌, ◌+◌, ◌∙◌, ◌∷◌, ◌≡◌}
+use Rattle.std.proofs.Common.{List, [], add-one, ap, arith, suc, ℕ, ◌++◌, ◌∙◌, ◌≡◌}
 use Rattle.std.proofs.lemmas.List.Elements.{filter_map-append}
 use Rattle.std.proofs.lemmas.List.Sums.{fold-append}
 use Rattle.std.specs.List.{cons_option, filter_map, range_with_len}
@@ -18,11 +18,7 @@ abbrev pub entries_of : Row → Row → ℕ → Environment
 entries_of header cells n = row_of (cells_of header cells n)
 
 pub cells_more : (header cells : Row) (n : ℕ) → cells_of header cells (suc n) ≡ cells_of header cells n ++ cons_option (named_cell header cells n) []
-cells_more header cells n =
-    let at : 0 + n ≡ n = omega arith in
-    ap (filter_map (named_cell header cells)) (ap (range_with_len 0) (sym (add-one n)) ∙ range_more 0 n)
-    ∙ filter_map-append (named_cell header cells) (range_with_len 0 n) ((0 + n) ∷ [])
-    ∙ ap (λ column. cells_of header cells n ++ cons_option (named_cell header cells column) []) at
+cells_more header cells n = grind (arith, add-one, range_more, filter_map-append)
 
 pub entries_more : (header cells : Row) (n : ℕ) → entries_of header cells (suc n) ≡ with_defined (entries_of header cells n) (named_cell header cells n)
 entries_more header cells n =

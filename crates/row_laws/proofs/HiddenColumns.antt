@@ -1,13 +1,14 @@
 -- What a row hides of a request, column by column.
-use Rattle.std.proofs.Common.{◌≡◌, ℕ, Bool, true, false, ◌&&◌, List, [], ◌∷◌, length, get_or, None, is_some, refl, ◌∙◌}
+use Rattle.std.proofs.Common.{◌≡◌, ℕ, List, [], length, get_or, ◌∙◌, arith}
 use Rattle.std.specs.Prelude.{sum_by, if◌then◌else◌}
 use Rattle.std.specs.List.{range_with_len}
+use Rattle.std.proofs.lemmas.Grind.{common_steps}
 use Rattle.text_model.specs.Texts.{Text}
 use Rattle.text_model.proofs.Lists.{sum_by-same}
 use Rattle.environment_model.specs.Environment.{Environment, Entry, Meaning, look_up, byte_count, member_count, meaning_bytes, meaning_members}
 use Rattle.target_vars.specs.EnvValue.{EachNameOnce}
 use Rattle.kev_read.specs.Pairs.{KeyValue}
-use Rattle.kbart_rows.specs.Cells.{Row, defined, is_first, name_cell, named_cell, named_cells}
+use Rattle.kbart_rows.specs.Cells.{Row, named_cell, named_cells}
 use Rattle.row_laws.specs.Shadowing.{requested, row_of, hidden, found_in, has_cell, requested_bytes, requested_members, hidden_bytes_at, hidden_members_at}
 use Rattle.row_laws.proofs.RequestedEntries.{bytes_requested, members_counted}
 use Rattle.row_laws.proofs.HiddenSums.{hidden_sum}
@@ -24,14 +25,7 @@ module _ (f : Meaning → ℕ) (env : Environment) (once : EachNameOnce env) (un
 
   of_column : (header cells : Row) (n : ℕ)
       → of_cell weigh header cells (named_cell header cells n) ≡ (if has_cell header cells n then under (get_or header n []) else 0)
-  of_column header cells n = by_first (is_first header n) (get_or cells n [])
-    where
-      by_first : (b : Bool) (cell : Text)
-          → of_cell weigh header cells (if b then name_cell (get_or header n []) cell else None)
-          ≡ (if b && is_some (defined cell) then under (get_or header n []) else 0)
-      by_first false cell = refl
-      by_first true [] = refl
-      by_first true (b ∷ text) = is_under (get_or header n [])
+  of_column header cells n = grind (arith, common_steps)
 
   pub hidden_columns : (header cells : Row) → sum_by (λ (e : Entry). f e.meaning) (hidden (row_of (named_cells header cells)) env)
       ≡ sum_by (λ n. if has_cell header cells n then under (get_or header n []) else 0) (range_with_len 0 (length header))

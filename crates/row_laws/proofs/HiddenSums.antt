@@ -1,6 +1,7 @@
 -- The bytes and members that a row hides, name by name of the row.
 use Rattle.std.proofs.Common.{◌≡◌, ℕ, ◌+◌, Bool, true, false, [], ◌∷◌, Some, None, is_some, bytes_eq, refl, sym, ap, ◌∙◌, arith}
 use Rattle.std.specs.Prelude.{sum_by}
+use Rattle.std.proofs.lemmas.Grind.{common_steps}
 use Rattle.std.proofs.lemmas.List.Sums.{sum_by-cons}
 use Rattle.std.proofs.lemmas.Slice.Eq.{bytes_eq-Decides}
 use Rattle.environment_model.specs.Environment.{Environment, Entry, Meaning, look_up, is_there}
@@ -60,20 +61,8 @@ module _ (f : Meaning → ℕ) where
               → sum_by weigh (hidden (e ∷ row) env) ≡ found_in f (look_up env e.name) + sum_by weigh (hidden row env)
               → found_in f (look_up (x ∷ env) e.name) ≡ found_in f (look_up env e.name)
               → sum_by weigh (hidden (e ∷ row) (x ∷ env)) ≡ found_in f (look_up (x ∷ env) e.name) + sum_by weigh (hidden row (x ∷ env))
-          by_row true there test rest found =
-              let both : is_there (e ∷ row) x.name ≡ true = test ∙ there in
-              let left : hidden (e ∷ row) (x ∷ env) ≡ x ∷ hidden (e ∷ row) env = rw both refl in
-              let right : hidden row (x ∷ env) ≡ x ∷ hidden row env = rw there refl in
-              let a = ap (sum_by weigh) left ∙ sum_by-cons weigh x (hidden (e ∷ row) env) in
-              let b = ap (sum_by weigh) right ∙ sum_by-cons weigh x (hidden row env) in
-              omega (arith, a, b, rest, found)
-          by_row false absent test rest found =
-              let neither : is_there (e ∷ row) x.name ≡ false = test ∙ absent in
-              let left : hidden (e ∷ row) (x ∷ env) ≡ hidden (e ∷ row) env = rw neither refl in
-              let right : hidden row (x ∷ env) ≡ hidden row env = rw absent refl in
-              let a = ap (sum_by weigh) left in
-              let b = ap (sum_by weigh) right in
-              omega (arith, a, b, rest, found)
+          by_row true there test rest found = grind (arith, common_steps)
+          by_row false absent test rest found = grind (arith, common_steps)
 
   pub hidden_sum : (row env : Environment) → EachNameOnce row → EachNameOnce env
       → sum_by weigh (hidden row env) ≡ sum_by (λ (e : Entry). found_in f (look_up env e.name)) row

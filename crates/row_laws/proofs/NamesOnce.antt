@@ -1,7 +1,7 @@
 -- A row has each name once, and so has a request.
-use Rattle.std.proofs.Common.{◌≡◌, Bool, true, false, List, [], ◌∷◌, refl, sym, subst}
+use Rattle.std.proofs.Common.{Bool, true, false, List, [], ◌∷◌, arith}
 use Rattle.text_model.specs.Texts.{Text}
-use Rattle.environment_model.specs.Environment.{Environment, Single, is_there, with_text}
+use Rattle.environment_model.specs.Environment.{Environment, with_text}
 use Rattle.environment_model.specs.Lists.{is_list}
 use Rattle.environment_model.proofs.Environments.{with_text-new, with_text-known}
 use Rattle.target_vars.specs.EnvValue.{EachNameOnce}
@@ -13,11 +13,7 @@ use Rattle.kbart_rows.specs.Filling as by_cells
 use Rattle.row_laws.specs.Shadowing.{requested, row_of}
 
 once-with_text : (env : Environment) (name t : Text) → EachNameOnce env → EachNameOnce (with_text env name t)
-once-with_text env name t once = by_test (is_there env name) refl
-  where
-    by_test : (b : Bool) → is_there env name ≡ b → EachNameOnce (with_text env name t)
-    by_test true known = subst EachNameOnce (sym (with_text-known env name t known)) once
-    by_test false new = subst EachNameOnce (sym (with_text-new env name t new)) (once-push env (record { name = name; meaning = Single t }) once new)
+once-with_text env name t once = grind (arith, with_text-known, with_text-new, once-push)
 
 -- ---- all cells, all pairs
 

@@ -9,11 +9,11 @@ use Rattle.std.proofs.lemmas.List.Sums.{fold_push, sum_by_push}
 use Rattle.std.proofs.lemmas.Slice.Eq.{bytes_eq-Decides}
 use Rattle.std.proofs.Math.Bool.{or-false, or-true}
 use Rattle.text_model.specs.Texts.{Text}
-use Rattle.environment_model.specs.Environment.{Environment, is_there, text_of, is_among, byte_count, member_count}
+use Rattle.environment_model.specs.Environment.{Environment, is_there, is_among, byte_count, member_count}
 use Rattle.environment_model.specs.Lists.{is_list, standard_lists}
 use Rattle.environment_model.proofs.Environments.{byte_count-with_text, member_count-with_text, byte_count-with_member, member_count-with_member}
 use Rattle.environment_model.proofs.Environments.{with_text-known}
-use Rattle.kev_read.specs.Pairs.{KeyValue, all_of, first_of, has_key}
+use Rattle.kev_read.specs.Pairs.{KeyValue, all_of, has_key}
 use Rattle.kev_read.specs.Filling.{added, fill_one, filled}
 use Rattle.row_laws.specs.Shadowing.{requested, first_bytes}
 use Rattle.environment_model.proofs.NameTests.{differs_back}
@@ -79,13 +79,7 @@ pair_bytes lists pairs pair = by_list (is_list lists pair.key) refl
     by_list : (b : Bool) → is_list lists pair.key ≡ b
         → byte_count (fill_one lists (requested lists pairs) pair)
         ≡ byte_count (requested lists pairs) + weight (all_of pairs pair.key) (is_list lists pair.key) (length pair.value)
-    by_list true is =
-        let no_text : is_some (text_of (requested lists pairs) pair.key) ≡ false =
-        ap is_some (text_requested lists pairs pair.key ∙ ap (λ b. if b then None else first_of pairs pair.key) is) in
-        ap (λ b. byte_count (added b (requested lists pairs) pair)) is
-        ∙ byte_count-with_member (requested lists pairs) pair.key pair.value no_text
-        ∙ ap (λ m. byte_count (requested lists pairs) + m) (sym (always (all_of pairs pair.key) (length pair.value)))
-        ∙ ap (λ b. byte_count (requested lists pairs) + weight (all_of pairs pair.key) b (length pair.value)) (sym is)
+    by_list true is = grind (arith, is_some, text_requested, byte_count-with_member, always)
     by_list false is =
         ap (λ b. byte_count (added b (requested lists pairs) pair)) is
         ∙ by_values (all_of pairs pair.key) refl is
@@ -93,21 +87,7 @@ pair_bytes lists pairs pair = by_list (is_list lists pair.key) refl
 
 pair_members : (lists : List Text) (pairs : List KeyValue) (pair : KeyValue)
     → member_count (fill_one lists (requested lists pairs) pair) ≡ member_count (requested lists pairs) + (if is_list lists pair.key then 1 else 0)
-pair_members lists pairs pair = by_list (is_list lists pair.key) refl
-  where
-    by_list : (b : Bool) → is_list lists pair.key ≡ b
-        → member_count (fill_one lists (requested lists pairs) pair) ≡ member_count (requested lists pairs) + (if is_list lists pair.key then 1 else 0)
-    by_list true is =
-        let no_text : is_some (text_of (requested lists pairs) pair.key) ≡ false =
-        ap is_some (text_requested lists pairs pair.key ∙ ap (λ b. if b then None else first_of pairs pair.key) is) in
-        ap (λ b. member_count (added b (requested lists pairs) pair)) is
-        ∙ member_count-with_member (requested lists pairs) pair.key pair.value no_text
-        ∙ ap (λ b. member_count (requested lists pairs) + (if b then 1 else 0)) (sym is)
-    by_list false is =
-        ap (λ b. member_count (added b (requested lists pairs) pair)) is
-        ∙ member_count-with_text (requested lists pairs) pair.key pair.value
-        ∙ (let same : member_count (requested lists pairs) ≡ member_count (requested lists pairs) + 0 = omega arith in same)
-        ∙ ap (λ b. member_count (requested lists pairs) + (if b then 1 else 0)) (sym is)
+pair_members lists pairs pair = grind (arith, is_some, text_requested, member_count-with_member, member_count-with_text)
 
 -- ---- all pairs
 
@@ -163,40 +143,14 @@ module _ (l : Text) (lists : List Text) (new : is_list lists l ≡ false) where
           let with' = byte_count (requested (l ∷ lists) (pairs ++ pair ∷ [])) in
           let without' = byte_count (requested lists (pairs ++ pair ∷ [])) in
           subst (Gain with' without') (sym values) (grows vs pair.value with without with' without' before left right)
-      by_key false differs =
-          let vs = all_of pairs l in
-          let left : byte_count (requested (l ∷ lists) (pairs ++ pair ∷ []))
-          ≡ byte_count (requested (l ∷ lists) pairs) + weight (all_of pairs pair.key) (is_list lists pair.key) (length pair.value) =
-          ap byte_count (requested-push (l ∷ lists) pairs pair) ∙ pair_bytes (l ∷ lists) pairs pair
-          ∙ ap (λ b. byte_count (requested (l ∷ lists) pairs) + weight (all_of pairs pair.key) b (length pair.value)) (other_list pair.key differs) in
-          let right = ap byte_count (requested-push lists pairs pair) ∙ pair_bytes lists pairs pair in
-          let values : all_of (pairs ++ pair ∷ []) l ≡ vs = all_of-push pairs pair l ∙ ap (λ us. vs ++ us) (all_of-none pair l differs) ∙ append-nil vs in
-          subst (Gain (byte_count (requested (l ∷ lists) (pairs ++ pair ∷ []))) (byte_count (requested lists (pairs ++ pair ∷ [])))) (sym values)
-          (omega (arith, left, right, before))
+      by_key false differs = grind (arith, requested-push, pair_bytes, other_list, all_of-push, all_of-none, append-nil)
 
   members_next : (pairs : List KeyValue) (pair : KeyValue) → MembersAre pairs → MembersAre (pairs ++ pair ∷ [])
   members_next pairs pair before = by_key (bytes_eq pair.key l) refl
     where
       by_key : (b : Bool) → bytes_eq pair.key l ≡ b → MembersAre (pairs ++ pair ∷ [])
-      by_key true same =
-          let vs = all_of pairs l in
-          let left : member_count (requested (l ∷ lists) (pairs ++ pair ∷ [])) ≡ member_count (requested (l ∷ lists) pairs) + 1 =
-          ap member_count (requested-push (l ∷ lists) pairs pair) ∙ pair_members (l ∷ lists) pairs pair
-          ∙ ap (λ b. member_count (requested (l ∷ lists) pairs) + (if b then 1 else 0)) (own_list pair.key same) in
-          let right : member_count (requested lists (pairs ++ pair ∷ [])) ≡ member_count (requested lists pairs) + 0 =
-          ap member_count (requested-push lists pairs pair) ∙ pair_members lists pairs pair
-          ∙ ap (λ b. member_count (requested lists pairs) + (if b then 1 else 0)) (own_new pair.key same) in
-          let values = ap length (all_of-push pairs pair l ∙ ap (λ us. vs ++ us) (all_of-one pair l same)) ∙ length-append vs (pair.value ∷ []) in
-          omega (arith, left, right, values, before)
-      by_key false differs =
-          let vs = all_of pairs l in
-          let left : member_count (requested (l ∷ lists) (pairs ++ pair ∷ []))
-          ≡ member_count (requested (l ∷ lists) pairs) + (if is_list lists pair.key then 1 else 0) =
-          ap member_count (requested-push (l ∷ lists) pairs pair) ∙ pair_members (l ∷ lists) pairs pair
-          ∙ ap (λ b. member_count (requested (l ∷ lists) pairs) + (if b then 1 else 0)) (other_list pair.key differs) in
-          let right = ap member_count (requested-push lists pairs pair) ∙ pair_members lists pairs pair in
-          let values = ap length (all_of-push pairs pair l ∙ ap (λ us. vs ++ us) (all_of-none pair l differs) ∙ append-nil vs) in
-          omega (arith, left, right, values, before)
+      by_key true same = grind (arith, requested-push, pair_members, own_list, own_new, all_of-push, all_of-one, length-append)
+      by_key false differs = grind (arith, requested-push, pair_members, other_list, all_of-push, all_of-none, append-nil)
 
   bytes_all : (rest pairs : List KeyValue) → BytesAre pairs → BytesAre (pairs ++ rest)
   bytes_all [] pairs h = subst BytesAre (sym (append-nil pairs)) h

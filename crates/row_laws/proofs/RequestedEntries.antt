@@ -1,10 +1,10 @@
 -- What a request without a row has under a key.
-use Rattle.std.proofs.Common.{◌≡◌, Bool, true, false, List, [], ◌∷◌, ◌++◌, Option, Some, None, is_some, slice_get, bytes_eq, refl, sym, ap, ◌∙◌, subst}
-use Rattle.std.proofs.Common.{append_assoc}
-use Rattle.std.specs.Prelude.{if◌then◌else◌, sum_by, length}
+use Rattle.std.proofs.Common.{◌≡◌, Bool, true, false, List, [], ◌∷◌, ◌++◌, Option, Some, None, is_some, bytes_eq, refl, sym, ap, ◌∙◌}
+use Rattle.std.proofs.Common.{append_assoc, arith}
+use Rattle.std.specs.Prelude.{if◌then◌else◌}
 use Rattle.std.proofs.lemmas.Slice.Eq.{bytes_eq-Decides}
 use Rattle.text_model.specs.Texts.{Text}
-use Rattle.environment_model.specs.Environment.{Environment, Meaning, Single, Several, look_up, is_there, text_in, text_of, members_in, members_of}
+use Rattle.environment_model.specs.Environment.{Environment, Meaning, Single, Several, look_up, text_of, members_of}
 use Rattle.environment_model.specs.Environment.{meaning_bytes, meaning_members, with_text, with_member, more}
 use Rattle.environment_model.specs.Lists.{is_list}
 use Rattle.environment_model.proofs.Environments.{look_up-empty, look_up-same, look_up-other, look_up-append, with_member-empty, with_member-same}
@@ -14,7 +14,7 @@ use Rattle.environment_model.proofs.OtherNames.{with_text-differs, with_member-d
 use Rattle.kev_read.specs.Pairs.{KeyValue, all_of, first_of}
 use Rattle.kev_read.specs.Filling as by_pairs
 use Rattle.kev_read.specs.Filling.{added, fill_one}
-use Rattle.row_laws.specs.Shadowing.{requested, found_in, first_bytes, requested_bytes, requested_members}
+use Rattle.row_laws.specs.Shadowing.{requested, found_in, requested_bytes, requested_members}
 
 -- what a name is bound to after more values
 abbrev pub grown : List Text → Bool → Option Meaning → Option Meaning
@@ -38,17 +38,7 @@ grown-more v (w ∷ ws) false (Some (Several ts)) = refl
 -- ---- one pair
 
 pub with_text-same : (env : Environment) (key t : Text) → look_up (with_text env key t) key ≡ grown (t ∷ []) false (look_up env key)
-with_text-same env key t = by_found (look_up env key) refl
-  where
-    by_found : (o : Option Meaning) → look_up env key ≡ o → look_up (with_text env key t) key ≡ grown (t ∷ []) false (look_up env key)
-    by_found None is =
-        let absent : is_there env key ≡ false = ap is_some is in
-        ap (λ es. look_up es key) (with_text-new env key t absent)
-        ∙ look_up-append env (record { name = key; meaning = Single t } ∷ []) key absent
-        ∙ look_up-same (record { name = key; meaning = Single t }) [] key (itself key)
-        ∙ ap (grown (t ∷ []) false) (sym is)
-    by_found (Some (Single u)) is = ap (λ es. look_up es key) (with_text-known env key t (ap is_some is)) ∙ is ∙ ap (grown (t ∷ []) false) (sym is)
-    by_found (Some (Several us)) is = ap (λ es. look_up es key) (with_text-known env key t (ap is_some is)) ∙ is ∙ ap (grown (t ∷ []) false) (sym is)
+with_text-same env key t = grind (arith, is_some, with_text-new, look_up-append, look_up-same, itself, with_text-known)
 
 with_member-grows : (env : Environment) (key t : Text) → look_up (with_member env key t) key ≡ grown (t ∷ []) true (look_up env key)
 with_member-grows [] key t =
@@ -96,13 +86,7 @@ look_up-filled lists env (pair ∷ pairs) key = look_up-filled lists (fill_one l
     by_key : (b : Bool) → bytes_eq pair.key key ≡ b
         → grown (all_of pairs key) (is_list lists key) (look_up (fill_one lists env pair) key)
         ≡ grown (all_of (pair ∷ pairs) key) (is_list lists key) (look_up env key)
-    by_key true same =
-        let one : look_up (fill_one lists env pair) key ≡ grown (pair.value ∷ []) (is_list lists key) (look_up env key) =
-        subst (λ k. look_up (fill_one lists env pair) k ≡ grown (pair.value ∷ []) (is_list lists k) (look_up env k))
-        ((bytes_eq-Decides pair.key key).0 same) (own_pair env (is_list lists pair.key) pair) in
-        ap (grown (all_of pairs key) (is_list lists key)) one
-        ∙ grown-more pair.value (all_of pairs key) (is_list lists key) (look_up env key)
-        ∙ ap (λ vs. grown vs (is_list lists key) (look_up env key)) (sym (all_of-own pair pairs key same))
+    by_key true same = grind (arith, bytes_eq-Decides, own_pair, grown-more, all_of-own)
     by_key false differs =
         ap (grown (all_of pairs key) (is_list lists key)) (other_pair env (is_list lists pair.key) pair key differs)
         ∙ ap (λ vs. grown vs (is_list lists key) (look_up env key)) (sym (all_of-other pair pairs key differs))
@@ -113,42 +97,18 @@ look_up-requested lists pairs key = look_up-filled lists [] pairs key ∙ ap (gr
 
 pub text_requested : (lists : List Text) (pairs : List KeyValue) (key : Text)
     → text_of (requested lists pairs) key ≡ (if is_list lists key then None else first_of pairs key)
-text_requested lists pairs key = ap text_in (look_up-requested lists pairs key) ∙ by_values (all_of pairs key) (is_list lists key)
-  where
-    by_values : (vs : List Text) (b : Bool) → text_in (grown vs b None) ≡ (if b then None else slice_get vs 0)
-    by_values [] true = refl
-    by_values [] false = refl
-    by_values (v ∷ vs) true = refl
-    by_values (v ∷ vs) false = refl
+text_requested lists pairs key = grind (arith, look_up-requested)
 
 pub members_requested : (lists : List Text) (pairs : List KeyValue) (key : Text)
     → members_of (requested lists pairs) key ≡ (if is_list lists key then all_of pairs key else [])
-members_requested lists pairs key = ap members_in (look_up-requested lists pairs key) ∙ by_values (all_of pairs key) (is_list lists key)
-  where
-    by_values : (vs : List Text) (b : Bool) → members_in (grown vs b None) ≡ (if b then vs else [])
-    by_values [] true = refl
-    by_values [] false = refl
-    by_values (v ∷ vs) true = refl
-    by_values (v ∷ vs) false = refl
+members_requested lists pairs key = grind (arith, look_up-requested)
 
 -- ---- how much is under a key
 
 pub bytes_requested : (lists : List Text) (pairs : List KeyValue) (key : Text)
     → found_in meaning_bytes (look_up (requested lists pairs) key) ≡ requested_bytes lists pairs key
-bytes_requested lists pairs key = ap (found_in meaning_bytes) (look_up-requested lists pairs key) ∙ by_values (all_of pairs key) (is_list lists key)
-  where
-    by_values : (vs : List Text) (b : Bool) → found_in meaning_bytes (grown vs b None) ≡ (if b then sum_by length vs else first_bytes vs)
-    by_values [] true = refl
-    by_values [] false = refl
-    by_values (v ∷ vs) true = refl
-    by_values (v ∷ vs) false = refl
+bytes_requested lists pairs key = grind (arith, look_up-requested)
 
 pub members_counted : (lists : List Text) (pairs : List KeyValue) (key : Text)
     → found_in meaning_members (look_up (requested lists pairs) key) ≡ requested_members lists pairs key
-members_counted lists pairs key = ap (found_in meaning_members) (look_up-requested lists pairs key) ∙ by_values (all_of pairs key) (is_list lists key)
-  where
-    by_values : (vs : List Text) (b : Bool) → found_in meaning_members (grown vs b None) ≡ (if b then length vs else 0)
-    by_values [] true = refl
-    by_values [] false = refl
-    by_values (v ∷ vs) true = refl
-    by_values (v ∷ vs) false = refl
+members_counted lists pairs key = grind (arith, look_up-requested)

@@ -1,16 +1,15 @@
 -- Sums over the entries of a row, column by column.
-use Rattle.std.proofs.Common.{◌≡◌, ℕ, ◌+◌, ◌≤◌, ◌==◌, zero, suc, Bool, true, false, List, [], ◌∷◌, length, get_or, Option, Some, None, is_some, refl, sym, ap}
+use Rattle.std.proofs.Common.{◌≡◌, ℕ, ◌+◌, ◌≤◌, ◌==◌, zero, suc, true, false, List, [], ◌∷◌, length, get_or, Option, Some, None, is_some, refl, sym, ap}
 use Rattle.std.proofs.Common.{add-one, arith, ◌∙◌}
-use Rattle.std.specs.Prelude.{sum_by, if◌then◌else◌}
+use Rattle.std.specs.Prelude.{sum_by}
 use Rattle.std.proofs.lemmas.Bool.{eqb-true}
 use Rattle.std.proofs.lemmas.List.Sums.{sum_by-cons, sum_by_push}
 use Rattle.std.specs.List.{filter_map, range_with_len}
 use Rattle.std.specs.Option.{option_map_or}
-use Rattle.text_model.specs.Texts.{Text}
 use Rattle.text_model.proofs.Lists.{range_more, sum_by-same}
 use Rattle.environment_model.specs.Environment.{Entry, Single, is_there, byte_count, meaning_bytes}
 use Rattle.environment_model.proofs.Environments.{with_text-new}
-use Rattle.kbart_rows.specs.Cells.{NamedCell, Row, cell_bytes, column_of, is_first, name_cell, named_cell, named_cells}
+use Rattle.kbart_rows.specs.Cells.{NamedCell, Row, cell_bytes, column_of, is_first, named_cell, named_cells}
 use Rattle.kbart_rows.specs.Filling.{with_defined}
 use Rattle.row_laws.specs.Shadowing.{row_of}
 use Rattle.row_laws.proofs.Columns.{entries_of, entries_more}
@@ -54,16 +53,7 @@ module _ (weigh : Entry → ℕ) (header cells : Row) where
   one_column : (n : ℕ) → n ≤ length header
       → sum_by weigh (with_defined (entries_of header cells n) (named_cell header cells n))
       ≡ sum_by weigh (entries_of header cells n) + of_cell (named_cell header cells n)
-  one_column n within = by_first (is_first header n) refl (get_or cells n [])
-    where
-      by_first : (b : Bool) → is_first header n ≡ b → (cell : Text)
-          → sum_by weigh (with_defined (entries_of header cells n) (if b then name_cell (get_or header n []) cell else None))
-          ≡ sum_by weigh (entries_of header cells n) + of_cell (if b then name_cell (get_or header n []) cell else None)
-      by_first false first cell = omega arith
-      by_first true first [] = omega arith
-      by_first true first (b ∷ text) =
-          ap (sum_by weigh) (with_text-new (entries_of header cells n) (get_or header n []) (b ∷ text) (is_new n within first))
-          ∙ sum_by_push weigh (entries_of header cells n) (record { name = get_or header n []; meaning = Single (b ∷ text) })
+  one_column n within = grind (arith, entries_of, with_text-new, is_new, sum_by_push)
 
   columns_up_to : (n : ℕ) → n ≤ length header
       → sum_by weigh (entries_of header cells n) ≡ sum_by (λ column. of_cell (named_cell header cells column)) (range_with_len 0 n)

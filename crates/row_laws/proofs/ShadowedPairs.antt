@@ -2,12 +2,13 @@
 
 use Rattle.std.proofs.Common.{◌≡◌, ◌+◌, Bool, true, false, List, [], ◌∷◌, ◌++◌, is_some, bytes_eq, refl, sym, ap, ◌∙◌, append-nil, arith}
 use Rattle.std.specs.Prelude.{if◌then◌else◌}
+use Rattle.std.proofs.lemmas.Grind.{common_steps}
 use Rattle.std.proofs.lemmas.List.Elements.{filter-append}
 use Rattle.std.proofs.lemmas.List.Filters.{sum_by-filter_both}
 use Rattle.std.proofs.lemmas.List.Sums.{sum_by-append}
 use Rattle.text_model.specs.Texts.{Text}
-use Rattle.environment_model.specs.Environment.{Environment, Entry, Single, Several, look_up, is_there, text_in, text_of, byte_count, member_count}
-use Rattle.environment_model.specs.Environment.{meaning_bytes, meaning_members, with_text, with_member, more}
+use Rattle.environment_model.specs.Environment.{Environment, Several, look_up, is_there, text_in, text_of, byte_count, member_count}
+use Rattle.environment_model.specs.Environment.{with_text, with_member}
 use Rattle.environment_model.specs.Lists.{is_list}
 use Rattle.environment_model.proofs.Environments.{look_up-append, with_member-empty, with_member-same}
 use Rattle.environment_model.proofs.Environments.{with_member-other, with_member-append, with_member-text, with_text-new, with_text-known}
@@ -15,20 +16,12 @@ use Rattle.kev_read.specs.Pairs.{KeyValue}
 use Rattle.kev_read.specs.Filling as by_pairs
 use Rattle.kev_read.specs.Filling.{added, fill_one}
 use Rattle.kbart_rows.specs.Cells.{NamedCell}
-use Rattle.row_laws.specs.Shadowing.{requested, row_of, is_hidden, is_visible, visible, hidden}
+use Rattle.row_laws.specs.Shadowing.{requested, row_of, visible, hidden}
 use Rattle.row_laws.proofs.Shadowing.{HasTextsAlone, look_up-front, look_up-visible, members_of_texts, row_has_texts, same_name, visible-hidden, visible-seen}
 use Rattle.row_laws.proofs.Shadowing.{there_is_text, with_text-append}
 
 with_text-hidden : (row env : Environment) (name t : Text) → is_there row name ≡ true → visible row (with_text env name t) ≡ visible row env
-with_text-hidden row env name t there = by_test (is_there env name) refl
-  where
-    by_test : (b : Bool) → is_there env name ≡ b → visible row (with_text env name t) ≡ visible row env
-    by_test true known = ap (visible row) (with_text-known env name t known)
-    by_test false new =
-        ap (visible row) (with_text-new env name t new)
-        ∙ filter-append (is_visible row) env (record { name = name; meaning = Single t } ∷ [])
-        ∙ ap (λ es. visible row env ++ es) (visible-hidden row (record { name = name; meaning = Single t }) [] there)
-        ∙ append-nil (visible row env)
+with_text-hidden row env name t there = grind (arith, common_steps)
 
 with_member-hidden : (row env : Environment) (name t : Text) → is_there row name ≡ true → visible row (with_member env name t) ≡ visible row env
 with_member-hidden row [] name t there =
@@ -37,16 +30,8 @@ with_member-hidden row (e ∷ env) name t there = by_name (bytes_eq e.name name)
   where
     by_name : (b : Bool) → bytes_eq e.name name ≡ b → visible row (with_member env name t) ≡ visible row env
         → visible row (with_member (e ∷ env) name t) ≡ visible row (e ∷ env)
-    by_name true same after =
-        let there' : is_there row e.name ≡ true = same_name row e.name name same ∙ there in
-        ap (visible row) (with_member-same e env name t same)
-        ∙ visible-hidden row (record { name = e.name; meaning = more e.meaning t }) env there'
-        ∙ sym (visible-hidden row e env there')
-    by_name false other after = ap (visible row) (with_member-other e env name t other) ∙ by_row (is_there row e.name) refl
-      where
-        by_row : (b : Bool) → is_there row e.name ≡ b → visible row (e ∷ with_member env name t) ≡ visible row (e ∷ env)
-        by_row true over = visible-hidden row e (with_member env name t) over ∙ after ∙ sym (visible-hidden row e env over)
-        by_row false seen = visible-seen row e (with_member env name t) seen ∙ ap (λ es. e ∷ es) after ∙ sym (visible-seen row e env seen)
+    by_name true same after = grind (arith, same_name, with_member-same, visible-hidden)
+    by_name false other after = grind (arith, with_member-other, visible-hidden, visible-seen)
 
 -- ---- a pair whose key the row does not have
 
@@ -59,11 +44,7 @@ with_text-visible row env name t absent = by_test (is_there env name) refl
 
     by_test : (b : Bool) → is_there env name ≡ b → visible row (with_text env name t) ≡ with_text (visible row env) name t
     by_test true known = ap (visible row) (with_text-known env name t known) ∙ sym (with_text-known (visible row env) name t (same_test ∙ known))
-    by_test false new =
-        ap (visible row) (with_text-new env name t new)
-        ∙ filter-append (is_visible row) env (record { name = name; meaning = Single t } ∷ [])
-        ∙ ap (λ es. visible row env ++ es) (visible-seen row (record { name = name; meaning = Single t }) [] absent)
-        ∙ sym (with_text-new (visible row env) name t (same_test ∙ new))
+    by_test false new = grind (arith, with_text-new, filter-append, visible-seen, same_test)
 
 with_member-visible : (row env : Environment) (name t : Text) → is_there row name ≡ false
     → visible row (with_member env name t) ≡ with_member (visible row env) name t
@@ -74,19 +55,8 @@ with_member-visible row (e ∷ env) name t absent = by_name (bytes_eq e.name nam
   where
     by_name : (b : Bool) → bytes_eq e.name name ≡ b → visible row (with_member env name t) ≡ with_member (visible row env) name t
         → visible row (with_member (e ∷ env) name t) ≡ with_member (visible row (e ∷ env)) name t
-    by_name true same after =
-        let absent' : is_there row e.name ≡ false = same_name row e.name name same ∙ absent in
-        ap (visible row) (with_member-same e env name t same)
-        ∙ visible-seen row (record { name = e.name; meaning = more e.meaning t }) env absent'
-        ∙ sym (with_member-same e (visible row env) name t same)
-        ∙ ap (λ es. with_member es name t) (sym (visible-seen row e env absent'))
-    by_name false other after = ap (visible row) (with_member-other e env name t other) ∙ by_row (is_there row e.name) refl
-      where
-        by_row : (b : Bool) → is_there row e.name ≡ b → visible row (e ∷ with_member env name t) ≡ with_member (visible row (e ∷ env)) name t
-        by_row true over = visible-hidden row e (with_member env name t) over ∙ after ∙ ap (λ es. with_member es name t) (sym (visible-hidden row e env over))
-        by_row false seen =
-            visible-seen row e (with_member env name t) seen ∙ ap (λ es. e ∷ es) after
-            ∙ sym (with_member-other e (visible row env) name t other) ∙ ap (λ es. with_member es name t) (sym (visible-seen row e env seen))
+    by_name true same after = grind (arith, same_name, with_member-same, visible-seen)
+    by_name false other after = grind (arith, with_member-other, visible-hidden, visible-seen)
 
 -- ---- all pairs
 
@@ -127,44 +97,19 @@ entries_are lists cells pairs =
 pub look_up_is : (lists : List Text) (cells : List NamedCell) (pairs : List KeyValue) (name : Text)
     → look_up (by_pairs.filled lists (row_of cells) pairs) name
     ≡ (if is_there (row_of cells) name then look_up (row_of cells) name else look_up (requested lists pairs) name)
-look_up_is lists cells pairs name = ap (λ es. look_up es name) (entries_are lists cells pairs) ∙ by_row (is_there (row_of cells) name) refl
-  where
-    by_row : (b : Bool) → is_there (row_of cells) name ≡ b
-        → look_up (row_of cells ++ visible (row_of cells) (requested lists pairs)) name
-        ≡ (if b then look_up (row_of cells) name else look_up (requested lists pairs) name)
-    by_row true there = look_up-front (row_of cells) (visible (row_of cells) (requested lists pairs)) name there
-    by_row false absent =
-        look_up-append (row_of cells) (visible (row_of cells) (requested lists pairs)) name absent
-        ∙ look_up-visible (row_of cells) (requested lists pairs) name absent
+look_up_is lists cells pairs name = grind (arith, entries_are, look_up-front, look_up-append, look_up-visible)
 
 -- ---- sums
 
 pub bytes_are : (lists : List Text) (cells : List NamedCell) (pairs : List KeyValue)
     → byte_count (by_pairs.filled lists (row_of cells) pairs) + byte_count (hidden (row_of cells) (requested lists pairs))
     ≡ byte_count (row_of cells) + byte_count (requested lists pairs)
-bytes_are lists cells pairs =
-    let row = row_of cells in
-    let env = requested lists pairs in
-    let all : byte_count (by_pairs.filled lists row pairs) ≡ byte_count (row ++ visible row env) = ap byte_count (entries_are lists cells pairs) in
-    let parts : byte_count (row ++ visible row env) ≡ byte_count row + byte_count (visible row env) =
-    sum_by-append (λ (e : Entry). meaning_bytes e.meaning) row (visible row env) in
-    let both : byte_count (hidden row env) + byte_count (visible row env) ≡ byte_count env =
-    sum_by-filter_both (is_hidden row) (is_visible row) (λ x. refl) (λ (e : Entry). meaning_bytes e.meaning) env in
-    omega (arith, all, parts, both)
+bytes_are lists cells pairs = grind (arith, entries_are, sum_by-append, sum_by-filter_both)
 
 pub members_are : (lists : List Text) (cells : List NamedCell) (pairs : List KeyValue)
     → member_count (by_pairs.filled lists (row_of cells) pairs) + member_count (hidden (row_of cells) (requested lists pairs))
     ≡ member_count (requested lists pairs)
-members_are lists cells pairs =
-    let row = row_of cells in
-    let env = requested lists pairs in
-    let all : member_count (by_pairs.filled lists row pairs) ≡ member_count (row ++ visible row env) = ap member_count (entries_are lists cells pairs) in
-    let parts : member_count (row ++ visible row env) ≡ member_count row + member_count (visible row env) =
-    sum_by-append (λ (e : Entry). meaning_members e.meaning) row (visible row env) in
-    let both : member_count (hidden row env) + member_count (visible row env) ≡ member_count env =
-    sum_by-filter_both (is_hidden row) (is_visible row) (λ x. refl) (λ (e : Entry). meaning_members e.meaning) env in
-    let none = members_of_texts row (row_has_texts cells) in
-    omega (arith, all, parts, both, none)
+members_are lists cells pairs = grind (arith, entries_are, sum_by-append, sum_by-filter_both, members_of_texts, row_has_texts)
 
 pub no_members : (cells : List NamedCell) → member_count (row_of cells) ≡ 0
 no_members cells = members_of_texts (row_of cells) (row_has_texts cells)

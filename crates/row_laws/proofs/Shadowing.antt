@@ -1,14 +1,12 @@
 -- A row hides the entries of a request that have its names.
 
-use Rattle.std.proofs.Common.{◌≡◌, ◌+◌, Bool, true, false, List, [], ◌∷◌, ◌++◌, Some, is_some, bytes_eq, refl, sym, ap, ◌∙◌, append_assoc, arith}
-use Rattle.std.specs.Prelude.{if◌then◌else◌}
+use Rattle.std.proofs.Common.{◌≡◌, Bool, true, false, List, [], ◌∷◌, ◌++◌, Some, is_some, bytes_eq, refl, sym, ap, ◌∙◌, append_assoc, arith}
 use Rattle.std.proofs.lemmas.Slice.Eq.{bytes_eq-Decides}
 use Rattle.text_model.specs.Texts.{Text}
 use Rattle.environment_model.specs.Environment.{Environment, Entry, Meaning, Single, Several, look_up, is_there, text_in, text_of, member_count}
 use Rattle.environment_model.specs.Environment.{meaning_members, with_text}
 use Rattle.environment_model.proofs.Environments.{look_up-empty, look_up-same, look_up-other, look_up-append}
 use Rattle.environment_model.proofs.Environments.{with_text-new, with_text-known, member_count-cons}
-use Rattle.kev_read.specs.Filling.{fill_one}
 use Rattle.kbart_rows.specs.Cells.{NamedCell}
 use Rattle.kbart_rows.specs.Filling as by_cells
 use Rattle.row_laws.specs.Shadowing.{row_of, visible}
@@ -28,11 +26,7 @@ texts-push [] name t alone = (tt, tt)
 texts-push (e ∷ env) name t alone = (alone.0, texts-push env name t alone.1)
 
 texts-with_text : (env : Environment) (name t : Text) → HasTextsAlone env → HasTextsAlone (with_text env name t)
-texts-with_text env name t alone = by_test (is_there env name)
-  where
-    by_test : (b : Bool) → HasTextsAlone (if b then env else (env ++ record { name = name; meaning = Single t } ∷ []))
-    by_test true = alone
-    by_test false = texts-push env name t alone
+texts-with_text env name t alone = grind (arith, texts-push)
 
 texts-filled : (env : Environment) (cells : List NamedCell) → HasTextsAlone env → HasTextsAlone (by_cells.with_named_cells env cells)
 texts-filled env [] alone = alone
@@ -82,19 +76,7 @@ look_up-front (e ∷ front) back name there = by_name (bytes_eq e.name name) ref
 
 pub with_text-append : (front back : Environment) (name t : Text) → is_there front name ≡ false → with_text (front ++ back) name t
     ≡ front ++ with_text back name t
-with_text-append front back name t absent = by_test (is_there back name) refl
-  where
-    e : Entry
-    e = record { name = name; meaning = Single t }
-
-    same_test : is_there (front ++ back) name ≡ is_there back name
-    same_test = ap is_some (look_up-append front back name absent)
-
-    by_test : (b : Bool) → is_there back name ≡ b → with_text (front ++ back) name t ≡ front ++ with_text back name t
-    by_test true there = with_text-known (front ++ back) name t (same_test ∙ there) ∙ ap (λ es. front ++ es) (sym (with_text-known back name t there))
-    by_test false new =
-        with_text-new (front ++ back) name t (same_test ∙ new) ∙ append_assoc front back (record { name = name; meaning = Single t } ∷ [])
-        ∙ ap (λ es. front ++ es) (sym (with_text-new back name t new))
+with_text-append front back name t absent = grind (arith, is_some, look_up-append, with_text-known, with_text-new, append_assoc)
 
 -- ---- what is not hidden
 

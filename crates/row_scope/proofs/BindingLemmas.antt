@@ -1,11 +1,11 @@
 -- Bindings of names in a request without a row, and in a row over it.
-use Rattle.std.proofs.Common.{◌≡◌, ℕ, ◌+◌, ◌<◌, ◌≤◌, true, [], ◌∷◌, All, length, take, drop, Option, Some, None, is_some, refl, sym, ap, ◌∙◌, subst, arith, inl}
+use Rattle.std.proofs.Common.{◌≡◌, ℕ, ◌+◌, ◌<◌, ◌≤◌, true, [], ◌∷◌, All, length, take, drop, Option, Some, None, is_some, refl, sym, ap, ◌∙◌, subst, arith}
+use Rattle.std.proofs.lemmas.Grind.{common_steps}
 use Rattle.std.proofs.Common.{inr, length-append, if◌then◌else◌}
 use Rattle.std.proofs.lemmas.List.Elements.{All-weaker, All-take, All-drop}
 use Rattle.text_model.specs.Texts.{Text}
 use Rattle.environment_model.specs.Environment.{Environment, Meaning, Single, Several, look_up, is_there, text_in, text_of, members_in}
 use Rattle.target_vars.specs.EnvValue.{EnvValue, IsWithin, piece_at}
-use Rattle.target_vars.proofs.Growth.{front_piece}
 use Rattle.kbart_rows.specs.Cells.{Row, cell_of, defined}
 use Rattle.row_scope.specs.Bindings.{IsBound, laid_in, laid_over}
 use Rattle.row_scope.specs.declared.binding.Binding.{Binding}
@@ -54,16 +54,7 @@ module _ (values : EnvValue) (line : Text) (row requested full : Environment) (h
   bound_by_request inside binding.Nothing nothing h =
       let same = not_hidden nothing in
       (ap text_in same ∙ h.0, ap members_in same ∙ h.1)
-  bound_by_request inside (binding.Text start len) nothing h =
-      let same = not_hidden nothing in
-      let long = length-append values.buffer line in
-      let within = h.0.within.inside in (
-        record {
-          within = record { inside = omega (arith, long, within); one_side = inl within };
-          is = ap text_in same ∙ h.0.is ∙ ap Some (sym (front_piece values.buffer line (start, len) within));
-        },
-        ap members_in same ∙ h.1,
-      )
+  bound_by_request inside (binding.Text start len) nothing h = grind (arith, common_steps)
   bound_by_request inside (binding.List first count) nothing h =
       let same = not_hidden nothing in
       let within : All (λ at. at.0 + at.1 ≤ length values.buffer) values.spans = All-weaker (IsWithin values) _ (λ at w. w.inside) values.spans inside in

@@ -1,9 +1,8 @@
 -- Sums of the lengths of spans.
 use Rattle.std.proofs.Common.{◌≡◌, ℕ, ◌+◌, ◌*◌, ◌≤◌, List, [], ◌∷◌, ◌++◌, All, Some, length, take, drop, get_or, slice_get, sum_by, sym, ap, ◌∙◌, subst, arith}
+use Rattle.std.proofs.lemmas.Grind.{common_steps}
 use Rattle.std.proofs.Common.{length-drop}
-use Rattle.std.proofs.Math.Logic.{⊎_elim}
-use Rattle.std.proofs.lemmas.Bool.{cases_lt}
-use Rattle.std.proofs.lemmas.List.{length-take-le, drop-take, take-take, get_or_append_left, get_or_push}
+use Rattle.std.proofs.lemmas.List.{length-take-le, drop-take, take-take}
 use Rattle.std.proofs.lemmas.List.Elements.{All-head, All-tail, All-take, All-drop}
 use Rattle.std.proofs.lemmas.List.Sums.{sum_by_more, sum_by-cons, sum_by-take-drop}
 use Rattle.std.proofs.lemmas.Option.{slice_get_within, get_or_from_slice_get}
@@ -20,13 +19,7 @@ lengths_more spans i at there =
 -- the sum of one more span comes last
 pub ends_more : (spans : List (ℕ × ℕ)) (ends : List ℕ) (i end : ℕ) → length ends ≡ i + 1 → ((k d : ℕ) → k ≤ i → get_or ends k d ≡ lengths (take k spans))
     → end ≡ lengths (take (i + 1) spans) → (k d : ℕ) → k ≤ i + 1 → get_or (ends ++ end ∷ []) k d ≡ lengths (take k spans)
-ends_more spans ends i end many sums last k d within =
-    ⊎_elim
-    (λ before. get_or_append_left ends (end ∷ []) d k (omega (arith, many, before)) ∙ sums k d (omega (arith, before)))
-    (λ after.
-    let same : k ≡ i + 1 = omega (arith, within, after) in
-    get_or_push ends end d k (omega (arith, many, same)) ∙ last ∙ ap (λ n. lengths (take n spans)) (sym same))
-    (cases_lt k (i + 1))
+ends_more spans ends i end many sums last k d within = grind (arith, common_steps)
 
 -- the lengths of some spans, from the sums
 pub lengths_between : (spans : List (ℕ × ℕ)) (first count : ℕ) → lengths (take (first + count) spans) ≡ lengths (take first spans)

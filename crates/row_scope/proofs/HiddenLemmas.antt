@@ -1,6 +1,7 @@
 -- Keys of a request that a row hides, column by column.
 use Rattle.std.proofs.Common.{◌≡◌, ℕ, ◌+◌, ◌≤◌, zero, suc, Bool, true, false, ◌&&◌, nat_lt, List, [], ◌∷◌, ◌++◌, All, length, get_or, Option, Some, None}
-use Rattle.std.proofs.Common.{is_some, refl, sym, ap, ◌∙◌, arith, if◌then◌else◌}
+use Rattle.std.proofs.lemmas.Grind.{common_steps}
+use Rattle.std.proofs.Common.{refl, sym, ap, ◌∙◌, arith, if◌then◌else◌}
 use borrow.Author.Tests.{ltb-false}
 use Rattle.std.specs.Prelude.{sum_by}
 use Rattle.std.specs.List.{filter_map, cons_option, range_with_len}
@@ -11,10 +12,9 @@ use Rattle.std.proofs.lemmas.List.Sums.{sum_by-cons}
 use Rattle.std.proofs.lemmas.Option.{cond_some}
 use Rattle.text_model.specs.Texts.{Text}
 use Rattle.text_model.proofs.Lists.{range_more}
-use Rattle.environment_model.specs.Lists.{is_list}
 use Rattle.kev_read.specs.Pairs.{KeyValue, all_of}
-use Rattle.kbart_rows.specs.Cells.{Row, defined, is_first}
-use Rattle.row_laws.specs.Shadowing.{first_bytes, has_cell, requested_bytes, requested_members}
+use Rattle.kbart_rows.specs.Cells.{Row, is_first}
+use Rattle.row_laws.specs.Shadowing.{has_cell, requested_bytes, requested_members}
 use Rattle.row_scope.specs.Private.Kept.{hidden_key, hidden_keys, hidden_of}
 use Rattle.row_scope.specs.declared.hidden.HiddenKey.{HiddenKey}
 
@@ -81,17 +81,9 @@ no_values : (values : List Text) → nat_lt 0 (length values) ≡ false → valu
 no_values [] none = refl
 no_values (v ∷ vs) none = absurd (omega (arith, ltb-false 0 (length (v ∷ vs)) none))
 
-nothing_either_way : (b : Bool) → ◌≡◌ {A = ℕ} (if b then 0 else 0) 0
-nothing_either_way true = refl
-nothing_either_way false = refl
-
 no_sums : (lists : List Text) (pairs : List KeyValue) (key : Text) → nat_lt 0 (length (all_of pairs key)) ≡ false
     → (requested_bytes lists pairs key ≡ 0) × (requested_members lists pairs key ≡ 0)
-no_sums lists pairs key none =
-    let is = no_values (all_of pairs key) none in (
-      ap (λ values. if is_list lists key then sum_by length values else first_bytes values) is ∙ nothing_either_way (is_list lists key),
-      ap (λ values. if is_list lists key then length values else 0) is ∙ nothing_either_way (is_list lists key),
-    )
+no_sums lists pairs key none = grind (arith, common_steps)
 
 -- `part` is the first of two sums, of bytes, or the second, of members
 module _ (part : ℕ × ℕ → ℕ) (nothing : part (0, 0) ≡ 0) (header cells : Row) (lists : List Text) (pairs : List KeyValue) where
@@ -112,18 +104,7 @@ module _ (part : ℕ × ℕ → ℕ) (nothing : part (0, 0) ≡ 0) (header cells
   none_hidden false x y are = refl
 
   of_column : (n : ℕ) → option_map_or (λ key. part (hidden_of cells key)) (hidden_key header lists pairs n) 0 ≡ hidden_at n
-  of_column n =
-      let key = get_or header n [] in
-      by_first (is_first header n) (nat_lt 0 (length (all_of pairs key))) (requested_bytes lists pairs key) (requested_members lists pairs key)
-      (no_sums lists pairs key)
-    where
-      by_first : (first some : Bool) (x y : ℕ) → (some ≡ false → (x ≡ 0) × (y ≡ 0))
-          → option_map_or (λ key. part (hidden_of cells key))
-          (if (first && some) then Some (key_of n x y) else None) 0
-          ≡ (if first && is_some (defined (get_or cells n [])) then part (x, y) else 0)
-      by_first false some x y none = refl
-      by_first true true x y none = part_hidden (is_some (defined (get_or cells n []))) x y
-      by_first true false x y none = sym (none_hidden (is_some (defined (get_or cells n []))) x y (none refl))
+  of_column n = grind (arith, common_steps)
 
   pub sum_of_keys : sum_by (λ key. part (hidden_of cells key)) (hidden_keys header lists pairs) ≡ sum_by hidden_at (range_with_len 0 (length header))
   sum_of_keys = sum-filter_map (hidden_key header lists pairs) (λ key. part (hidden_of cells key)) hidden_at of_column (range_with_len 0 (length header))

@@ -1,5 +1,5 @@
 -- What is known about the names of a request, and one more.
-use Rattle.std.proofs.Common.{◌≡◌, ℕ, zero, suc, List, [], ◌∷◌, Option, Some, slice_get, slice_set, refl, sym, ap, subst, inl, inr, ◌⊎◌}
+use Rattle.std.proofs.Common.{◌≡◌, ℕ, zero, suc, List, [], ◌∷◌, Option, Some, slice_get, slice_set, refl, ap, inl, inr, ◌⊎◌, arith}
 use Rattle.std.proofs.Math.Logic.{⊎_elim}
 use Rattle.row_scope.specs.RowValue.{KnownValue}
 use Rattle.row_scope.specs.Private.Kept.{AreKnown, IsKnown}
@@ -15,14 +15,4 @@ after_set (z ∷ xs) (suc n) y (suc i) x is = ⊎_elim (λ at. inl (ap suc at.0,
 
 pub one_more_known : (known : KnownValue) (names : List (Option KnownName)) (number : ℕ) (k : KnownName) → AreKnown known names → IsKnown known number k
     → AreKnown known (slice_set names number (Some k))
-one_more_known known names number k old its =
-    record {
-      apart = old.apart;
-      are = λ n j is.
-          ⊎_elim
-          (λ new.
-          let same : k ≡ j = cc in
-          subst (IsKnown known n) same (subst (λ m. IsKnown known m k) (sym new.0) its))
-          (λ before. old.are n j before)
-          (after_set names number (Some k) n (Some j) is);
-    }
+one_more_known known names number k old its = grind (arith, after_set)

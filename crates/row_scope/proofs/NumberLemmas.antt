@@ -1,9 +1,8 @@
 -- Names with their own numbers, and one more.
-use Rattle.std.proofs.Common.{◌≡◌, ℕ, ◌+◌, Bool, true, false, cond, List, [], ◌∷◌, length, Some, None, String, Global, string_bytes, map, refl, sym, ap, ◌∙◌}
-use Rattle.std.proofs.Common.{arith, subst, inl, inr, ◌⊎◌}
+use Rattle.std.proofs.Common.{◌≡◌, ℕ, ◌+◌, cond, List, [], ◌∷◌, length, Some, None, String, Global, string_bytes, map, refl, ap, ◌∙◌}
+use Rattle.std.proofs.Common.{arith, ◌⊎◌}
 use Rattle.std.specs.Map.{lookup}
 use Rattle.std.specs.Str.{bytes_eq}
-use Rattle.std.proofs.Math.Logic.{⊎_elim}
 use Rattle.std.proofs.lemmas.Slice.Eq.{bytes_eq-Decides}
 use Rattle.text_model.specs.Texts.{Text}
 use Rattle.row_scope.specs.NameNumbers.{Numbering, AreKept, own_number}
@@ -26,32 +25,11 @@ module _ (old new : Numbering) (key : Text) (is : (name : Text) → own_number n
 
   -- a name with a number is the new one, or had it before
   split : (name : Text) (n : ℕ) → own_number new name ≡ Some n → ((key ≡ name) × (length old ≡ n)) ⊎ (own_number old name ≡ Some n)
-  split name n found = by_test (bytes_eq key name) refl where
-    by_test : (b : Bool) → bytes_eq key name ≡ b → ((key ≡ name) × (length old ≡ n)) ⊎ (own_number old name ≡ Some n)
-    by_test true same =
-        let at : Some (length old) ≡ Some n = ap (λ b. cond b (Some (length old)) (own_number old name)) (sym same) ∙ sym (is name) ∙ found in
-        inl ((bytes_eq-Decides key name).0 same, cc)
-    by_test false other = inr (ap (λ b. cond b (Some (length old)) (own_number old name)) (sym other) ∙ sym (is name) ∙ found)
+  split name n found = grind (arith, bytes_eq-Decides)
 
   pub kept : AreKept old new
   kept name None own = own
-  kept name (Some n) found = by_test (bytes_eq key name) refl where
-    by_test : (b : Bool) → bytes_eq key name ≡ b → own_number new name ≡ Some n
-    by_test true same =
-        let none : own_number old name ≡ None = subst (λ t. own_number old t ≡ None) ((bytes_eq-Decides key name).0 same) absent in
-        absurd (cc)
-    by_test false other = is name ∙ ap (λ b. cond b (Some (length old)) (own_number old name)) other ∙ found
+  kept name (Some n) found = grind (arith, bytes_eq-Decides)
 
   pub still : IsNumbering old → length new ≡ length old + 1 → IsNumbering new
-  still known longer =
-      record {
-        apart = λ a b n first second.
-            ⊎_elim
-            (λ it.
-            ⊎_elim (λ other. sym it.0 ∙ other.0) (λ before. let low = known.below b n before in absurd (omega (arith, low, it.1))) (split b n second))
-            (λ before.
-            ⊎_elim (λ it. let low = known.below a n before in absurd (omega (arith, low, it.1))) (λ too. known.apart a b n before too) (split b n second))
-            (split a n first);
-        below = λ name n found.
-            ⊎_elim (λ it. omega (arith, longer, it.1)) (λ before. let low = known.below name n before in omega (arith, longer, low)) (split name n found);
-      }
+  still known longer = grind (arith, split)

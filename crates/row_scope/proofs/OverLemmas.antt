@@ -1,8 +1,8 @@
 -- Bindings of the names of a code by their numbers, while the columns of a row are read.
 use Rattle.std.proofs.Common.{◌≡◌, ◌≢◌, ◌⊎◌, ℕ, ◌+◌, ◌<◌, zero, suc, List, [], ◌∷◌, All, length, get_or, set, Option, Some, None, is_some, slice_get, inl}
+use Rattle.std.proofs.lemmas.Grind.{common_steps}
 use Rattle.std.proofs.Common.{inr, refl, sym, ap, ◌∙◌, subst, arith, if◌then◌else◌}
 use Rattle.std.proofs.Math.Logic.{⊎_elim}
-use Rattle.std.proofs.lemmas.Bool.{cases_lt}
 use Rattle.std.proofs.lemmas.List.{length-map}
 use Rattle.std.proofs.lemmas.Option.{none-some, slice_get-map, slice_get_read, slice_get_within}
 use Rattle.std.specs.Option.{option_map}
@@ -84,13 +84,7 @@ module _ (t : TargetRequestValue) (line : Text) (places : List NameColumn)
   -- one more column
   no_cell_more : (k i : ℕ) (place : NameColumn) → slice_get places k ≡ Some place → (place.number ≡ i → defined (get_or (cells_in line) place.column []) ≡ None)
       → HasNoCell line places k i → HasNoCell line places (k + 1) i
-  no_cell_more k i place here none before j other below at same =
-      ⊎_elim (λ earlier. before j other earlier at same)
-      (λ from.
-      let now : j ≡ k = omega (arith, below, from) in
-      let is : place ≡ other = (cc (sym here, ap (slice_get places) (sym now), at)) in
-      ap (λ (p : NameColumn). defined (get_or (cells_in line) p.column [])) (sym is) ∙ none (ap (λ (p : NameColumn). p.number) is ∙ same))
-      (cases_lt j k)
+  no_cell_more k i place here none before j other below at same = grind (arith, common_steps)
 
   -- its cell is missing
   pub bound_without_cell : (k : ℕ) (place : NameColumn) (start len : ℕ) (bindings : List Binding) → slice_get places k ≡ Some place

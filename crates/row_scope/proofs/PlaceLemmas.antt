@@ -1,6 +1,7 @@
 -- The columns of a code's names.
 use Rattle.std.proofs.Common.{◌≡◌, ℕ, ◌+◌, ◌<◌, List, [], ◌∷◌, ◌++◌, Some, None, arith}
 use Rattle.std.specs.List.{Contains}
+use Rattle.std.proofs.lemmas.Grind.{common_steps}
 use Rattle.std.proofs.Math.Logic.{⊎_elim}
 use Rattle.std.proofs.lemmas.Bool.{cases_lt}
 use Rattle.std.proofs.lemmas.List.Elements.{Contains-append_left, Contains-push}
@@ -16,11 +17,7 @@ HasColumns code header places n =
 
 module _ (code : Code) (header : Row) (places : List NameColumn) (n : ℕ) (has : HasColumns code header places n) where
   pub one_without : column_of header (name_at code n) ≡ None → HasColumns code header places (n + 1)
-  one_without none number column below some =
-      ⊎_elim
-      (λ before. has number column before some)
-      (λ last. let same : number ≡ n = omega (arith, below, last) in absurd (cc))
-      (cases_lt number n)
+  one_without none number column below some = grind (arith, common_steps)
 
   pub one_with : (at : ℕ) → column_of header (name_at code n) ≡ Some at → HasColumns code header (places ++ record { column = at; number = n } ∷ []) (n + 1)
   one_with at there number column below some =

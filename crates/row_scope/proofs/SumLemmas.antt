@@ -1,14 +1,11 @@
 -- How many bytes and members a request has, depending on the lists that are declared.
-use Rattle.std.proofs.Common.{◌≡◌, ℕ, ◌+◌, ◌<◌, ◌≤◌, ◌||◌, List, [], ◌∷◌, ◌++◌, length, take, get_or, refl, sym, ap, ◌∙◌, arith}
-use Rattle.std.specs.List.{list_any}
-use Rattle.std.specs.Str.{bytes_eq}
+use Rattle.std.proofs.Common.{◌≡◌, ℕ, ◌+◌, ◌<◌, ◌≤◌, List, [], ◌∷◌, ◌++◌, length, take, get_or, refl, sym, ap, ◌∙◌, arith}
+use Rattle.std.proofs.lemmas.Grind.{common_steps}
 use Rattle.std.proofs.lemmas.List.{take_more, map_push}
 use Rattle.std.proofs.lemmas.List.Filters.{sum_by-filter_both}
-use Rattle.std.proofs.lemmas.List.Folds.{list_any-append}
-use Rattle.std.proofs.Math.Bool.{or_comm}
 use Rattle.text_model.specs.Texts.{Text}
 use Rattle.environment_model.specs.Environment.{Environment, Entry, byte_count, member_count, meaning_bytes, meaning_members}
-use Rattle.environment_model.specs.Lists.{is_list, standard_lists}
+use Rattle.environment_model.specs.Lists.{is_list}
 use Rattle.code_model.specs.Code.{Code}
 use Rattle.machine_model.specs.Operands.{name_at}
 use Rattle.row_laws.specs.Shadowing.{hidden, is_hidden, is_visible}
@@ -26,12 +23,7 @@ hidden_members_le row env = omega (arith, sum_by-filter_both (is_hidden row) (is
 
 -- the order of the declared lists does not matter
 last_is_first : (l : Text) (lists : List Text) (key : Text) → is_list (l ∷ lists) key ≡ is_list (lists ++ l ∷ []) key
-last_is_first l lists key =
-    let p = λ (n : Text). bytes_eq n key in
-    list_any-append p standard_lists (l ∷ lists)
-    ∙ ap (λ b. list_any p standard_lists || b) (list_any-append p (l ∷ []) lists ∙ or_comm (list_any p (l ∷ [])) (list_any p lists)
-    ∙ sym (list_any-append p lists (l ∷ [])))
-    ∙ sym (list_any-append p standard_lists (lists ++ l ∷ []))
+last_is_first l lists key = grind (arith, common_steps)
 
 pub names_more : (code : Code) (numbers : List ℕ) (k d : ℕ) → k < length numbers → names_at code (take (k + 1) numbers) ≡ names_at code (take k numbers)
     ++ name_at code (get_or numbers k d) ∷ []

@@ -1,5 +1,6 @@
 -- The last row that is tried decides the entry of a target, and how its explanation ends.
 use Rattle.std.proofs.Common.{◌≡◌, ℕ, ◌+◌, ◌≤◌, List, [], ◌∷◌, ◌++◌, Option, Some, None, Bool, true, false, cond, ◌||◌, map, nat_lt, refl, ap, sym, ◌∙◌}
+use Rattle.std.proofs.lemmas.Grind.{common_steps}
 use Rattle.std.proofs.Common.{subst, arith, codes}
 use Rattle.std.specs.Prelude.{All, find, if◌then◌else◌}
 use Rattle.std.specs.List.{AllByRecursion, AllZip, enumerate_from, flat_map, list_any}
@@ -13,7 +14,6 @@ use Rattle.kbart_rows.specs.Identifiers.{ids_of, matching_rows}
 use Rattle.rule_parser.specs.Meaning.{meaning}
 use Rattle.verified_runs.specs.declared.run.TheConstants.{MAX_LINK_BYTES}
 use Rattle.menu.specs.Links.{is_link}
-use Rattle.menu.specs.WebLink.{is_web_link}
 use Rattle.menu.specs.declared.entry.Resolution.{Resolution}
 use Rattle.menu.specs.declared.entry.Resolution.TheVariants as resolution
 use Rattle.verified_runs.specs.Fates.{OverBudget}
@@ -48,11 +48,7 @@ module _ (target : RuleTarget) (pairs : List KeyValue) where
 
   web_is_link : (row : ℕ) (o : Option Text) → is_link (resolution_by row (fate_of_meaning o)) ≡ is_web o
   web_is_link row None = refl
-  web_is_link row (Some link) = by_web (is_web_link link)
-    where
-      by_web : (web : Bool) → is_link (if web then resolution.Link row link else resolution.NotAWebLink) ≡ web
-      by_web true = refl
-      by_web false = refl
+  web_is_link row (Some link) = grind (arith, common_steps)
 
   g_is_link : (row : ℕ) → is_link (g row) ≡ test row
   g_is_link row = web_is_link row (meaning target.rules (environment_by_rules target pairs row))
@@ -108,13 +104,7 @@ module _ (target : RuleTarget) (pairs : List KeyValue) where
 
     rows_end : (rows : List ℕ) (place row : ℕ) (before : Resolution)
         → Ends (flat_map text (enumerate_from place (row ∷ rows))) (last_resolution before (map g (row ∷ rows)))
-    rows_end [] place row before =
-        let here = text_ends place row in
-        record {
-          lines = here.lines ++ [];
-          are = lines_joined (text (place, row)) [] here.lines [] here.are no_lines;
-          last = subst (λ ls. EndAs ls (g row)) (sym (append-nil here.lines)) here.last;
-        }
+    rows_end [] place row before = grind (arith, text_ends, lines_joined, no_lines, append-nil)
     rows_end (next ∷ rows) place row before =
         let here = text_ends place row in
         let rest = rows_end rows (place + 1) next (g row) in

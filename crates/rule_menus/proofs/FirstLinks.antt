@@ -1,6 +1,7 @@
 -- The resolution by rules is a link exactly if there is a first row on which the rules give a web link, and then it is that link.
 use Rattle.std.proofs.Common.{◌≡◌, ℕ, ◌≤◌, List, Option, Some, None, Bool, true, false, length, nat_lt, refl, ap, ◌∙◌, subst, arith}
 use Rattle.std.specs.Prelude.{◌↔◌, if◌then◌else◌}
+use Rattle.std.proofs.lemmas.Grind.{common_steps}
 use Rattle.std.proofs.lemmas.Bool.Decides.{nat_tests}
 use Rattle.text_model.specs.Texts.{Text}
 use Rattle.kev_read.specs.Pairs.{KeyValue}
@@ -62,12 +63,7 @@ module _ (target : RuleTarget) (pairs : List KeyValue) where
       by_test false under is = by_meaning (meant row) refl (grind (arith, nat_tests, under)) is
 
   gives_link : (row : ℕ) (link : Text) → MeansWebLink target pairs row link → f row ≡ resolution.Link row link
-  gives_link row link h =
-      let within : most row ≤ MAX_LINK_BYTES = h.within in
-      let test : nat_lt MAX_LINK_BYTES (most row) ≡ false = grind (arith, nat_tests) in
-      ap (λ b. resolution_by row (if b then OverBudget (most row) else fate_of_meaning (meant row))) test
-      ∙ ap (λ o. resolution_by row (fate_of_meaning o)) h.means
-      ∙ ap (λ w. if w then resolution.Link row link else resolution.NotAWebLink) h.web
+  gives_link row link h = grind (arith, common_steps)
 
   own_number : (row place : ℕ) (link : Text) → f row ≡ resolution.Link place link → place ≡ row
   own_number row place link is = (read_link row place link is).own

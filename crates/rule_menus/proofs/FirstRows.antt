@@ -3,6 +3,7 @@ use Rattle.std.proofs.Common.{◌≡◌, ℕ, zero, suc, ◌+◌, ◌≤◌, ◌
 use Rattle.std.specs.Prelude.{find, if◌then◌else◌}
 use Rattle.std.specs.List.{range_with_len}
 use Rattle.std.specs.Option.{unwrap_or}
+use Rattle.std.proofs.lemmas.Grind.{common_steps}
 use Rattle.std.proofs.lemmas.Bool.{cases_lt, false≢true}
 use Rattle.text_model.specs.Texts.{Text}
 use Rattle.menu.specs.Links.{is_link}
@@ -25,27 +26,10 @@ module _ (f : ℕ → Resolution) (p : ℕ → Bool) (own : (row place : ℕ) (l
 
   -- a row before them that is not tried, or has no link, changes nothing
   wider : (from n row : ℕ) (link : Text) → (p from ≡ true → is_link (f from) ≡ true → ⊥) → IsFirstFrom (from + 1) n row link → IsFirstFrom from (suc n) row link
-  wider from n row link none h =
-      record {
-        after = omega (arith, h.after);
-        there = omega (arith, h.there);
-        passes = h.passes;
-        links = h.links;
-        first = λ other low high passes links. ⊎_elim
-            (λ lt. h.first other (omega arith) (omega arith) passes links)
-            (λ le. let same : other ≡ from = omega arith in absurd (none (subst (λ k. p k ≡ true) same passes) (subst (λ k. is_link (f k) ≡ true) same links)))
-            (cases_lt from other);
-      }
+  wider from n row link none h = grind (arith, common_steps)
 
   narrower : (from n row : ℕ) (link : Text) → from < row → IsFirstFrom from (suc n) row link → IsFirstFrom (from + 1) n row link
-  narrower from n row link lt h =
-      record {
-        after = omega arith;
-        there = omega (arith, h.there);
-        passes = h.passes;
-        links = h.links;
-        first = λ other low high passes links. h.first other (omega arith) (omega arith) passes links;
-      }
+  narrower from n row link lt h = grind (arith, common_steps)
 
   -- the claim for the rows after the first one
   abbrev FirstIfChosen : ℕ → ℕ → ℕ → Text → Type 0
@@ -62,15 +46,7 @@ module _ (f : ℕ → Resolution) (p : ℕ → Bool) (own : (row place : ℕ) (l
       by_link : (b : Bool) → is_link (f from) ≡ b → p from ≡ true
           → unwrap_or (cond b (Some (f from)) (find is_link (attempts (from + 1) n))) (last_resolution (f from) (attempts (from + 1) n)) ≡ Link row link
           → FirstIfChosen (from + 1) n row link → IsFirstFrom from (suc n) row link
-      by_link true linked passes is rest =
-          let same : row ≡ from = own from row link is in
-          record {
-            after = omega arith;
-            there = omega arith;
-            passes = subst (λ k. p k ≡ true) (sym same) passes;
-            links = subst (λ k. f k ≡ Link row link) (sym same) is;
-            first = λ other low high passes links. omega arith;
-          }
+      by_link true linked passes is rest = grind (arith, common_steps)
       by_link false unlinked passes is rest = wider from n row link (λ pass linked. false≢true (sym unlinked ∙ linked)) (rest (f from) unlinked is)
 
       by_test : (b : Bool) → p from ≡ b

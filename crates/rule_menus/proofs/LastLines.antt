@@ -9,7 +9,7 @@ use Rattle.menu.specs.Links.{link_under}
 use Rattle.menu.specs.Printed.{resolution_text}
 use Rattle.menu.specs.declared.entry.Resolution.{Resolution}
 use Rattle.menu.specs.declared.entry.Resolution.TheVariants as resolution
-use Rattle.rule_menus.specs.Explanations.{EndAs, holding_line, last_line, row_line, space}
+use Rattle.rule_menus.specs.Explanations.{EndAs, holding_line, last_line, space}
 use Rattle.rule_menus.proofs.Lines.{lacks}
 use Rattle.rule_menus.proofs.OneLine.{digits_lack}
 
@@ -64,12 +64,7 @@ module _ (lines : List Text) where
   one_text (resolution.Link row link) resolution.NoRow x y = absurd (omega (arith, marks _ _ x.2 y))
   one_text (resolution.Link row link) resolution.NoLink x y = absurd (omega (arith, marks _ _ x.2 y))
   one_text (resolution.Link row link) resolution.NotAWebLink x y = absurd (omega (arith, marks _ _ x.2 y))
-  one_text (resolution.Link row link) (resolution.Link place text) x y =
-      let number : decimal row ≡ decimal place = ap (drop 4) (same_Some (row_line row) (row_line place) (sym x.0 ∙ y.0)) in
-      let link_is = same_link x.1 y.1 link text (one_line _ _ x.2 y.2) in (
-        ap (λ t. codes "link " ++ t) number,
-        λ name. ap (λ t. Some (record { name = name; link = t })) link_is,
-      )
+  one_text (resolution.Link row link) (resolution.Link place text) x y = grind (arith, same_Some, same_link, one_line)
   one_text (resolution.OverBudget bytes) other x y = absurd x
   one_text r (resolution.OverBudget bytes) x y = absurd y
 

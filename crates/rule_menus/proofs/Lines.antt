@@ -1,6 +1,7 @@
 -- The lines of texts that are joined, and the last of them.
-use Rattle.std.proofs.Common.{◌≡◌, ℕ, List, [], ◌∷◌, ◌++◌, Bool, true, not, ◌==◌, Option, Some, None, filter, refl, ap, sym, ◌∙◌, append_assoc, codes}
+use Rattle.std.proofs.Common.{◌≡◌, ℕ, List, [], ◌∷◌, ◌++◌, Bool, true, not, ◌==◌, Option, Some, None, filter, refl, ap, sym, ◌∙◌, codes, arith}
 use Rattle.std.specs.List.{AllByRecursion, flat_map, last_or, list_all}
+use Rattle.std.proofs.lemmas.Grind.{common_steps}
 use Rattle.std.proofs.lemmas.Bool.{and_parts, not-true}
 use Rattle.std.proofs.lemmas.List.{append-nil}
 use Rattle.std.proofs.lemmas.List.Elements.{filter-append}
@@ -38,11 +39,7 @@ longer_line (b ∷ front) text line lines one h =
     record { before = λ rest. rw (not-true (b == line_feed) parts.0) (ap (after_byte b) (inner.before rest)) }
 
 pub lines_joined : (a b : Text) (xs ys : List Text) → HasLines a xs → HasLines b ys → HasLines (a ++ b) (xs ++ ys)
-lines_joined a b xs ys h k =
-    record {
-      before = λ rest.
-          ap lines_of (append_assoc a b rest) ∙ h.before (b ++ rest) ∙ ap (λ ls. xs ++ ls) (k.before rest) ∙ sym (append_assoc xs ys (lines_of rest));
-    }
+lines_joined a b xs ys h k = grind (arith, common_steps)
 
 pub are_lines : (text : Text) (lines : List Text) → HasLines text lines → lines_of text ≡ lines
 are_lines text lines h = ap lines_of (sym (append-nil text)) ∙ h.before [] ∙ append-nil lines
@@ -92,9 +89,5 @@ pub end_joined : (front lines : List Text) (r : Resolution) → EndAs lines r �
 end_joined front lines resolution.NoRow is = last_joined front lines (codes "no row") is
 end_joined front lines resolution.NoLink is = last_joined front lines (codes "  no rule holds") is
 end_joined front lines resolution.NotAWebLink is = last_joined front lines (codes "  not a web link") is
-end_joined front lines (resolution.Link row link) is = (
-  ap (last_or None) (filter-append begins_row front lines) ∙ last_joined (filter begins_row front) (filter begins_row lines) _ is.0,
-  is.1,
-  last_joined front lines _ is.2,
-)
+end_joined front lines (resolution.Link row link) is = grind (arith, filter-append, last_joined)
 end_joined front lines (resolution.OverBudget bytes) is = absurd is

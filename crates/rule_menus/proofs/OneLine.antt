@@ -1,11 +1,10 @@
 -- What is printed on one line has no LF.
-use Rattle.std.proofs.Common.{◌≡◌, ℕ, zero, suc, ◌/◌, ◌%◌, ◌<◌, List, [], ◌∷◌, ◌++◌, Bool, true, false, not, ◌&&◌, ◌==◌, Option, Some, None, length, take}
-use Rattle.std.proofs.Common.{refl, ap, ◌∙◌, codes}
-use Rattle.std.proofs.Common.{arith, nat_le}
+use Rattle.std.proofs.Common.{◌≡◌, ℕ, zero, suc, ◌/◌, ◌%◌, ◌<◌, List, [], ◌∷◌, ◌++◌, Bool, true, false, not, ◌&&◌, ◌==◌, Option, Some, None, length}
+use Rattle.std.proofs.lemmas.Grind.{common_steps}
+use Rattle.std.proofs.Common.{refl, ap, ◌∙◌, codes, arith}
 use Rattle.std.specs.Prelude.{if◌then◌else◌}
 use Rattle.std.specs.List.{flat_map}
 use Rattle.std.specs.Fmt.{decimal, digit_glyph, digits, digits_onto}
-use Rattle.std.proofs.lemmas.Bool.{and_parts}
 use Rattle.std.proofs.lemmas.Bool.Decides.{nat_tests}
 use Rattle.std.proofs.lemmas.List.Folds.{list_all-append}
 use Rattle.text_model.specs.Texts.{Text, is_hexadecimal, is_reserved, is_unreserved, percent}
@@ -14,7 +13,6 @@ use Rattle.text_model.specs.UriText.{IsUriText, nothing, and_character, and_trip
 use Rattle.environment_model.specs.Environment.{Meaning, Single, Several}
 use Rattle.uri_grammar.specs.Characters.{dot}
 use Rattle.uri_grammar.specs.Names.{IsVarchar, IsVarname, character_varchar, triplet_varchar, first_varchar, next_varchar, dotted_varchar, is_name_character}
-use Rattle.printed_text.specs.declared.quoting.TheConstants.{MAX_SHOWN}
 use Rattle.printed_text.specs.Printed.{byte_text, escape, is_plain, is_visible, quotation_mark, quoted, shortened, visible, visible_byte}
 use Rattle.rule_explanation.specs.Explanation.{meaning_text}
 use Rattle.rule_menus.specs.Explanations.{line_feed}
@@ -73,18 +71,10 @@ escape_one b =
     (one_joined (digits 16 false (b / 16)) (digits 16 false (b % 16)) (digits_one 16 (b / 16)) (digits_one 16 (b % 16)))
 
 byte_text_one : (b : ℕ) → is_one_line (byte_text b) ≡ true
-byte_text_one b = by_test (is_plain b) refl
-  where
-    by_test : (x : Bool) → is_plain b ≡ x → is_one_line (if x then (b ∷ []) else escape b) ≡ true
-    by_test true plain = one_more b [] (plain_one b plain) refl
-    by_test false other = escape_one b
+byte_text_one b = grind (arith, one_more, plain_one, escape_one)
 
 visible_byte_one : (b : ℕ) → is_one_line (visible_byte b) ≡ true
-visible_byte_one b = by_test (is_visible b) refl
-  where
-    by_test : (x : Bool) → is_visible b ≡ x → is_one_line (if x then (b ∷ []) else escape b) ≡ true
-    by_test true seen = one_more b [] (visible_one b seen) refl
-    by_test false other = escape_one b
+visible_byte_one b = grind (arith, one_more, visible_one, escape_one)
 
 pub visible_text_one : (text : Text) → is_one_line (visible text) ≡ true
 visible_text_one text = one_flat visible_byte visible_byte_one text
@@ -95,11 +85,7 @@ quoted_one text =
     (one_flat byte_text byte_text_one text)) refl
 
 shortened_one : (text : Text) → is_one_line (shortened text) ≡ true
-shortened_one text = by_test (nat_le (length text) MAX_SHOWN)
-  where
-    by_test : (x : Bool) → is_one_line (if x then quoted text else quoted (take MAX_SHOWN text) ++ codes "...") ≡ true
-    by_test true = quoted_one text
-    by_test false = one_joined (quoted (take MAX_SHOWN text)) (codes "...") (quoted_one (take MAX_SHOWN text)) refl
+shortened_one text = grind (arith, quoted_one, one_joined)
 
 pub meaning_one : (m : Option Meaning) → is_one_line (meaning_text m) ≡ true
 meaning_one None = refl
@@ -116,16 +102,9 @@ name_character_one c is = grind (arith, nat_tests)
 hexadecimal_one : (c : ℕ) → is_hexadecimal c ≡ true → not (c == line_feed) ≡ true
 hexadecimal_one c is = grind (arith, nat_tests)
 
-percent_one : (c : ℕ) → (c == percent) ≡ true → not (c == line_feed) ≡ true
-percent_one c is = grind (arith, nat_tests)
-
 varchar_one : (v : Text) → IsVarchar v → is_one_line v ≡ true
 varchar_one _ (character_varchar c is) = one_more c [] (name_character_one c is) refl
-varchar_one _ (triplet_varchar c high low is) =
-    let parts = and_parts (c == percent) (is_hexadecimal high && is_hexadecimal low) is in
-    let digits = and_parts (is_hexadecimal high) (is_hexadecimal low) parts.1 in
-    one_more c (high ∷ low ∷ []) (percent_one c parts.0)
-    (one_more high (low ∷ []) (hexadecimal_one high digits.0) (one_more low [] (hexadecimal_one low digits.1) refl))
+varchar_one _ (triplet_varchar c high low is) = grind (arith, common_steps)
 
 pub name_one : (name : Text) → IsVarname name → is_one_line name ≡ true
 name_one _ (first_varchar v is) = varchar_one v is

@@ -1,7 +1,7 @@
 -- The lines of a row's text: the one that names the row, indented ones, and those of the rule that holds.
 use Rattle.std.proofs.Common.{◌≡◌, ℕ, zero, suc, ◌+◌, List, [], ◌∷◌, Bool, true, false, not, cond, Option, Some, None, IfSome, All}
 use Rattle.std.proofs.Common.{take}
-use Rattle.std.proofs.Common.{option_map, refl, codes}
+use Rattle.std.proofs.Common.{option_map, refl, codes, arith}
 use Rattle.std.specs.Prelude.{if◌then◌else◌}
 use Rattle.std.specs.List.{AllByRecursion, enumerate_from, find, position_or_len}
 use Rattle.std.specs.Fmt.{decimal}
@@ -23,7 +23,7 @@ use Rattle.rule_parser.specs.declared.rule.Rule.{Rule}
 use Rattle.rule_parser.specs.Meaning.{guards_hold, meaning, seen}
 use Rattle.rule_parser.specs.Mentions.{bound_names, mentioned, names_of_line}
 use Rattle.rule_parser.specs.Names.{each_once}
-use Rattle.rule_parser.specs.Rules.{IsBound, IsGuard, IsSound, IsSoundGuard, IsSoundRule, RuleSet}
+use Rattle.rule_parser.specs.Rules.{IsBound, IsGuard, IsSound, IsSoundRule, RuleSet}
 use Rattle.rule_parser.specs.Statements.{guard_text}
 use Rattle.printed_text.specs.Printed.{visible}
 use Rattle.rule_explanation.specs.Failing.{failing_guard, failing_rules, guard_fails, numbered, rule_holds}
@@ -150,9 +150,4 @@ module _ (trees : TreesAreSound) (uri : ExpansionsAreUriText) where
 
 pub sound_indented : (rules : RuleSet) (look : LookUp) (detailed : Bool) → IsSound rules
     → IsIndented (if detailed then failing_lines look rules.rules else [])
-sound_indented rules look detailed sound =
-    detailed_indented look rules.rules detailed
-    (all_mapped (IsSoundRule rules.lists) HasGuards rules.rules
-    (λ rule is. all_mapped (IsSoundGuard rules.lists) IsGuard rule.guards (λ g h. h.tokens)
-    (recursion_from_All (IsSoundGuard rules.lists) rule.guards is.guards))
-    (recursion_from_All (IsSoundRule rules.lists) rules.rules sound.rules))
+sound_indented rules look detailed sound = grind (arith, detailed_indented, all_mapped, recursion_from_All)

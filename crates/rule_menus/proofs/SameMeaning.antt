@@ -1,6 +1,7 @@
 -- Rules mean the same in the environment with the lists of their code as in the one with their own lists.
-use Rattle.std.proofs.Common.{◌≡◌, ℕ, List, [], Option, Some, None, Bool, true, false, refl, sym, ap, ◌∙◌}
+use Rattle.std.proofs.Common.{◌≡◌, ℕ, List, [], Option, Some, None, Bool, refl, sym, arith}
 use Rattle.std.specs.Prelude.{◌↔◌, All, if◌then◌else◌}
+use Rattle.std.proofs.lemmas.Grind.{common_steps}
 use Rattle.std.proofs.lemmas.List.Elements.{recursion_from_All}
 use Rattle.text_model.specs.Texts.{Text}
 use Rattle.environment_model.specs.Environment.{Environment, Meaning, look_up, is_there, text_in, members_in, text_of, members_of}
@@ -53,13 +54,7 @@ module _ (laws : LawsBelow) where
         → read (look_up (requested others pairs) name) ≡ by_kind (is_list others name)
         → is_list lists name ≡ is_list others name
         → read (look_up (filled lists entries pairs) name) ≡ read (look_up (filled others entries pairs) name)
-    agrees read by_kind name here there same =
-        ap read (laws.shadow lists cells pairs name) ∙ by_row (is_there entries name) ∙ ap read (sym (laws.shadow others cells pairs name))
-      where
-        by_row : (b : Bool) → read (if b then look_up entries name else look_up (requested lists pairs) name)
-            ≡ read (if b then look_up entries name else look_up (requested others pairs) name)
-        by_row true = refl
-        by_row false = here ∙ ap by_kind same ∙ sym there
+    agrees read by_kind name here there same = grind (arith, common_steps)
 
     text_agrees : (name : Text) → is_list lists name ≡ is_list others name
         → text_of (filled lists entries pairs) name ≡ text_of (filled others entries pairs) name

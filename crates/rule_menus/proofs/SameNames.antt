@@ -1,9 +1,9 @@
 -- A name of the code of rules is a list in the code's environment exactly if it is one in the environment of the rules.
-use Rattle.std.proofs.Common.{◌≡◌, ℕ, zero, suc, List, [], ◌∷◌, Some, Bool, true, false, refl, sym, ap, ◌∙◌, subst, slice_get}
+use Rattle.std.proofs.Common.{◌≡◌, ℕ, zero, suc, List, [], ◌∷◌, Some, Bool, true, false, refl, sym, ◌∙◌, subst, slice_get, arith}
 use Rattle.std.specs.Prelude.{◌||◌, filter, map, if◌then◌else◌}
 use Rattle.std.specs.List.{AllByRecursion}
 use Rattle.std.specs.Str.{bytes_eq}
-use Rattle.std.proofs.lemmas.Bool.{false≢true, or_right}
+use Rattle.std.proofs.lemmas.Bool.{or_right}
 use Rattle.std.proofs.lemmas.List.Folds.{list_any-append}
 use Rattle.std.proofs.lemmas.Slice.Eq.{bytes_eq-Decides}
 use Rattle.text_model.specs.Texts.{Text}
@@ -34,11 +34,7 @@ declared_at lists (n ∷ names) (suc k) name all at = declared_at lists names k 
 -- a name with the kind of a list is among the lists of the table
 among_lists : (names : List Name) (k : ℕ) (name : Name) → slice_get names k ≡ Some name → name.list ≡ true → is_among name.text (list_texts names) ≡ true
 among_lists [] k name at list = absurd (cc)
-among_lists (n ∷ names) zero name at list =
-    let same : n ≡ name = cc in
-    let is : n.list ≡ true = ap (λ (m : Name). m.list) same ∙ list in
-    let found : bytes_eq n.text name.text ≡ true = (bytes_eq-Decides n.text name.text).1 (ap (λ (m : Name). m.text) same) in
-    rw is (rw found refl)
+among_lists (n ∷ names) zero name at list = grind (arith, bytes_eq-Decides)
 among_lists (n ∷ names) (suc k) name at list = by_kind n.list (among_lists names k name at list)
   where
     by_kind : (b : Bool) → is_among name.text (list_texts names) ≡ true
@@ -73,15 +69,4 @@ same_kind lists names k name all at = by_kind name.list refl (declared_at lists 
     by_kind : (b : Bool) → name.list ≡ b → is_list lists name.text ≡ b → is_list (list_texts names) name.text ≡ is_list lists name.text
     by_kind true list is =
         parts ∙ or_right (is_among name.text standard_lists) (is_among name.text (list_texts names)) (among_lists names k name at list) ∙ sym is
-    by_kind false list is = by_test (is_list (list_texts names) name.text) refl
-      where
-        not_standard : is_among name.text standard_lists ≡ false
-        not_standard =
-            first_false (is_among name.text standard_lists) (is_among name.text lists)
-            (sym (list_any-append (λ n. bytes_eq n name.text) standard_lists lists) ∙ is)
-
-        by_test : (b : Bool) → is_list (list_texts names) name.text ≡ b → is_list (list_texts names) name.text ≡ is_list lists name.text
-        by_test true among =
-            let own = or_other (is_among name.text standard_lists) (is_among name.text (list_texts names)) (sym parts ∙ among) not_standard in
-            absurd (false≢true (sym is ∙ lists_declared lists names name.text all own))
-        by_test false among = among ∙ sym is
+    by_kind false list is = grind (arith, first_false, list_any-append, or_other, parts, lists_declared)

@@ -1,9 +1,8 @@
 -- Registries with the same menus have the same replies.
-use Rattle.std.proofs.Common.{◌≡◌, ℕ, List, Bool, Option, Some, None, refl, sym, ap, ◌∙◌, subst}
+use Rattle.std.proofs.Common.{◌≡◌, ℕ, List, Bool, None, refl, sym, ap, ◌∙◌, subst, arith}
+use Rattle.std.proofs.lemmas.Grind.{common_steps}
 use Rattle.kev_read.specs.Pairs.{KeyValue, pairs_of}
 use Rattle.kev_read.specs.Refusal.{refusal}
-use Rattle.kev_read.specs.declared.error.KevError.{KevError}
-use Rattle.kev_read.specs.declared.error.KevError.TheVariants as kev
 use Rattle.menu.specs.Entries.{MenuEntry}
 use Rattle.registry.specs.Targets.{TargetValue}
 use Rattle.registry.specs.Entries.{menu_of}
@@ -41,14 +40,7 @@ reply_parts targets bytes _ _ (no_memory at without_body routed) other = absurd 
 
 module _ (targets others : List TargetValue) (same : (pairs : List KeyValue) → menu_of targets pairs ≡ menu_of others pairs) where
   same_value : (at : RouteValue) (a b : ReplyValue) → IsReplyTo (menu_of targets) at a → IsReplyTo (menu_of others) at b → a ≡ b
-  same_value (route.Menu page query) a b x y = by_refusal (refusal query) x y
-    where
-      by_refusal : (f : Option KevError) → IsQueryReply (menu_of targets) page query f a → IsQueryReply (menu_of others) page query f b → a ≡ b
-      by_refusal None x y = x ∙ ap (page_of page) (same (pairs_of query)) ∙ sym y
-      by_refusal (Some kev.TooManyPairs) x y = x ∙ sym y
-      by_refusal (Some kev.WrongVersion) x y = x ∙ sym y
-      by_refusal (Some kev.TooLong) x y = absurd x
-      by_refusal (Some kev.NoMemory) x y = absurd x
+  same_value (route.Menu page query) a b x y = grind (arith, common_steps)
   same_value route.NotFound a b x y = x ∙ sym y
   same_value route.MethodNotAllowed a b x y = x ∙ sym y
   same_value route.BadRequest a b x y = x ∙ sym y

@@ -1,5 +1,5 @@
 -- What code does depends only on what the names of its table denote.
-use Rattle.std.proofs.Common.{◌≡◌, ℕ, zero, suc, Option, Some, None, true, refl, sym, ap, ◌∙◌, subst, slice_get}
+use Rattle.std.proofs.Common.{◌≡◌, ℕ, zero, suc, Option, Some, None, true, refl, sym, ap, ◌∙◌, subst, slice_get, arith}
 use Rattle.std.specs.Prelude.{◌&&◌}
 use Rattle.std.proofs.lemmas.Bool.{and_parts, false≢true}
 use Rattle.environment_model.specs.Environment.{Environment, text_of, members_of}
@@ -40,11 +40,7 @@ list_in_table c a b right =
 
 module _ (c : Code) (v w : Environment) (agree : AgreeOn c v w) where
   text_same : (a b : ℕ) → has_right_operands c (instruction.Text a b) ≡ true → text_of v (name_at c b) ≡ text_of w (name_at c b)
-  text_same a b right = by_name (slice_get c.names b) refl
-    where
-      by_name : (o : Option Name) → slice_get c.names b ≡ o → text_of v (text_of_name o) ≡ text_of w (text_of_name o)
-      by_name None none = absurd (false≢true (ap names_text (sym none) ∙ text_in_table c a b right))
-      by_name (Some name) at = (agree b name at).0
+  text_same a b right = grind (arith, text_in_table)
 
   members_same : (a b : ℕ) → has_right_operands c (instruction.List a b) ≡ true → members_of v (name_at c b) ≡ members_of w (name_at c b)
   members_same a b right = by_name (slice_get c.names b) refl

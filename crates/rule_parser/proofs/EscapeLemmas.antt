@@ -1,5 +1,6 @@
 -- Escaped texts: no two texts have the same, and one that begins with another continues with an escaped text.
 use Rattle.std.proofs.Common.{◌≡◌, ℕ, ◌<◌, ◌≤◌, [], ◌∷◌, ◌++◌, Bool, true, false, ◌==◌, ◌⊎◌, inl, inr, length, get_or, if◌then◌else◌, refl, ap, sym, ◌∙◌, arith}
+use Rattle.std.proofs.lemmas.Grind.{common_steps}
 use Rattle.std.proofs.Math.Bool.{beq}
 use Rattle.std.specs.Char.{encode_utf8}
 use Rattle.std.specs.List.{AllByRecursion}
@@ -74,17 +75,7 @@ not_both b d p e s = both_ways (is_special b) p (ap is_special e ∙ s)
 
 rest_after_bytes : (d b : ℕ) (t s more : Text) → (escaped t ≡ escaped s ++ more → (u : Text) × (escaped u ≡ more)) → escaped (d ∷ t) ≡ escaped (b ∷ s) ++ more
     → (u : Text) × (escaped u ≡ more)
-rest_after_bytes d b t s more next e =
-    elim (cases_Bool (is_special b)) [
-      | inl x ↦ elim (cases_Bool (is_special d)) [
-        | inl y ↦ next (same_parts _ _ _ _ (same_parts _ _ _ _ (sym (escaped_special d t y) ∙ e ∙ ap (λ v. v ++ more) (escaped_special b s x))).1).1
-        | inr y ↦ absurd (not_both d 92 y (same_parts _ _ _ _ (sym (escaped_plain d t y) ∙ e ∙ ap (λ v. v ++ more) (escaped_special b s x))).0 refl)
-      ]
-      | inr x ↦ elim (cases_Bool (is_special d)) [
-        | inl y ↦ absurd (not_both b 92 x (sym (same_parts _ _ _ _ (sym (escaped_special d t y) ∙ e ∙ ap (λ v. v ++ more) (escaped_plain b s x))).0) refl)
-        | inr y ↦ next (same_parts _ _ _ _ (sym (escaped_plain d t y) ∙ e ∙ ap (λ v. v ++ more) (escaped_plain b s x))).1
-      ]
-    ]
+rest_after_bytes d b t s more next e = grind (arith, common_steps)
 
 -- a text cannot be both empty and not empty
 not_empty : (x : ℕ) (t : Text) → [] ≡ x ∷ t → ⊥
@@ -93,55 +84,23 @@ not_empty x t e = cc
 -- an escaped text that begins with another escaped text continues with an escaped text
 pub escaped_rest : (t s more : Text) → escaped t ≡ escaped s ++ more → (u : Text) × (escaped u ≡ more)
 escaped_rest t [] more e = (t, e)
-escaped_rest [] (b ∷ s) more e =
-    elim (cases_Bool (is_special b)) [
-      | inl x ↦ absurd (not_empty _ _ (e ∙ ap (λ t. t ++ more) (escaped_special b s x)))
-      | inr x ↦ absurd (not_empty _ _ (e ∙ ap (λ t. t ++ more) (escaped_plain b s x)))
-    ]
+escaped_rest [] (b ∷ s) more e = grind (arith, common_steps)
 escaped_rest (d ∷ t) (b ∷ s) more e = rest_after_bytes d b t s more (escaped_rest t s more) e
 
-backslash_is_no_quote : (s t : Text) → 92 ∷ s ≡ 34 ∷ t → ⊥
-backslash_is_no_quote s t e = cc
-
 bytes_same : (d b : ℕ) (t u : Text) → (escaped t ≡ escaped u → t ≡ u) → escaped (d ∷ t) ≡ escaped (b ∷ u) → d ∷ t ≡ b ∷ u
-bytes_same d b t u next e =
-    elim (cases_Bool (is_special d)) [
-      | inl y ↦ elim (cases_Bool (is_special b)) [
-        | inl x ↦ both_same (same_parts _ _ _ _ (same_parts _ _ _ _ (sym (escaped_special d t y) ∙ e ∙ escaped_special b u x)).1)
-        | inr x ↦ absurd (not_both b 92 x (sym (same_parts _ _ _ _ (sym (escaped_special d t y) ∙ e ∙ escaped_plain b u x)).0) refl)
-      ]
-      | inr y ↦ elim (cases_Bool (is_special b)) [
-        | inl x ↦ absurd (not_both d 92 y (same_parts _ _ _ _ (sym (escaped_plain d t y) ∙ e ∙ escaped_special b u x)).0 refl)
-        | inr x ↦ both_same (same_parts _ _ _ _ (sym (escaped_plain d t y) ∙ e ∙ escaped_plain b u x))
-      ]
-    ]
-  where
-    both_same : (d ≡ b) × (escaped t ≡ escaped u) → d ∷ t ≡ b ∷ u
-    both_same p = ap (λ x. x ∷ t) p.0 ∙ ap (λ l. b ∷ l) (next p.1)
+bytes_same d b t u next e = grind (arith, common_steps)
 
 -- a text is determined by its escaped form
 pub escaped_same : (t u : Text) → escaped t ≡ escaped u → t ≡ u
 escaped_same [] [] e = refl
-escaped_same [] (b ∷ u) e =
-    elim (cases_Bool (is_special b)) [
-      | inl x ↦ absurd (not_empty _ _ (e ∙ escaped_special b u x))
-      | inr x ↦ absurd (not_empty _ _ (e ∙ escaped_plain b u x))
-    ]
-escaped_same (d ∷ t) [] e =
-    elim (cases_Bool (is_special d)) [
-      | inl x ↦ absurd (not_empty _ _ (sym e ∙ escaped_special d t x))
-      | inr x ↦ absurd (not_empty _ _ (sym e ∙ escaped_plain d t x))
-    ]
+escaped_same [] (b ∷ u) e = grind (arith, common_steps)
+escaped_same (d ∷ t) [] e = grind (arith, common_steps)
 escaped_same (d ∷ t) (b ∷ u) e = bytes_same d b t u (escaped_same t u) e
 
 -- a bare quote
 pub not_quote : (u more : Text) → escaped u ≡ 34 ∷ more → ⊥
 not_quote [] more e = not_empty _ _ e
-not_quote (b ∷ u) more e =
-    elim (cases_Bool (is_special b)) [
-      | inl x ↦ backslash_is_no_quote _ _ (sym (escaped_special b u x) ∙ e)
-      | inr x ↦ not_both b 34 x (same_parts _ _ _ _ (sym (escaped_plain b u x) ∙ e)).0 refl
-    ]
+not_quote (b ∷ u) more e = grind (arith, common_steps)
 
 -- a special byte at the beginning
 abbrev BeginsSpecial : Text → Type 0
@@ -150,11 +109,7 @@ BeginsSpecial text = (b : ℕ) × (rest : Text) × (text ≡ b ∷ rest) × (is_
 -- a backslash has a special byte after it
 pub after_backslash : (u more : Text) → escaped u ≡ 92 ∷ more → BeginsSpecial more
 after_backslash [] more e = absurd (not_empty _ _ e)
-after_backslash (b ∷ u) more e =
-    elim (cases_Bool (is_special b)) [
-      | inl x ↦ (b, escaped u, sym (same_parts _ _ _ _ (sym (escaped_special b u x) ∙ e)).1, x)
-      | inr x ↦ absurd (not_both b 92 x (same_parts _ _ _ _ (sym (escaped_plain b u x) ∙ e)).0 refl)
-    ]
+after_backslash (b ∷ u) more e = grind (arith, common_steps)
 
 -- a character's first byte
 plain_first : (bs next : Text) → ArePlain bs → 0 < length bs → BeginsSpecial (bs ++ next) → ⊥
@@ -167,11 +122,7 @@ plain_first (d ∷ bs) next p l h = not_both d h.0 p.0 (same_parts _ _ _ _ h.2).
 pub escaped_more : (whole t rest next : Text) (c : ℕ) (waits : Bool) → is_special c ≡ waits → whole ≡ escaped t ++ waiting waits rest
     → rest ≡ encode_utf8 c ++ next
     → whole ≡ escaped (t ++ encode_utf8 c) ++ next
-escaped_more whole t rest next c true s w r =
-    let alone : encode_utf8 c ≡ c ∷ [] = encode_ascii c (special_is_ascii c s) in
-    let one : escaped (c ∷ []) ≡ 92 ∷ c ∷ [] = escaped_special c [] s in
-    let both : escaped (t ++ c ∷ []) ≡ escaped t ++ 92 ∷ c ∷ [] = escaped-append t (c ∷ []) ∙ ap (λ u. escaped t ++ u) one in
-    w ∙ rw (r, alone, both, append_assoc (escaped t) (92 ∷ c ∷ []) next) refl
+escaped_more whole t rest next c true s w r = grind (arith, encode_ascii, special_is_ascii, escaped_special, escaped-append, append_assoc)
 escaped_more whole t rest next c false s w r =
     let plain : escaped (encode_utf8 c) ≡ encode_utf8 c = escaped_plain_text (encode_utf8 c) (plain_bytes c s) in
     let both : escaped (t ++ encode_utf8 c) ≡ escaped t ++ encode_utf8 c = escaped-append t (encode_utf8 c) ∙ ap (λ u. escaped t ++ u) plain in

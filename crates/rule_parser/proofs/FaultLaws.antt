@@ -1,6 +1,6 @@
 -- The lines of rules have no error, and other lines have one first error.
 
-use Rattle.std.proofs.Common.{◌≡◌, ℕ, List, [], ◌∷◌, true, false, None, ◌⊎◌, inl, inr, is_some, is_none, ◌&&◌, ◌==◌, length, refl, ap, subst, sym, ◌∙◌}
+use Rattle.std.proofs.Common.{◌≡◌, ℕ, List, [], ◌∷◌, true, false, None, ◌⊎◌, inl, inr, is_some, is_none, ◌&&◌, ◌==◌, length, refl, ap, subst, sym, ◌∙◌, arith}
 use Rattle.std.proofs.lemmas.Bool.{both_ways}
 use Rattle.text_model.specs.Texts.{Text}
 use Rattle.uri_grammar.specs.declared.parts.Part.{Part}
@@ -117,11 +117,7 @@ bad_is_no_next tree none b (Link text) k c (inr p) f = no_link_follows p.1
 pub faulty_is_no_next : OneTree → NoFault → (b : RulesSoFar) (line : Text) (k : RuleErrorKind) (s : Statement) (c : RulesSoFar) → IsLineFault b line k
     → IsStatement s
     → line ≡ line_of s → Follows b s c → ⊥
-faulty_is_no_next tree none b line k s c fault a e f = refuted (bad_text b line k fault)
-  where
-    refuted : IsBadText b line k → ⊥
-    refuted (inl p) = p.0 s a e
-    refuted (inr p) = bad_is_no_next tree none b s k c (subst (λ x. IsBad b x k) (statement_same p.0 s p.1 a (sym p.2 ∙ e)) p.3) f
+faulty_is_no_next tree none b line k s c fault a e f = grind (arith, bad_text, bad_is_no_next, statement_same)
 
 -- a line `rule` is never faulty itself
 pub begin_is_not_faulty : (b : RulesSoFar) (line : Text) (k : RuleErrorKind) → IsLineFault b line k → line ≡ line_of Begin → ⊥

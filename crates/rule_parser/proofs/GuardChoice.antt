@@ -5,6 +5,7 @@ use Rattle.std.specs.Char.{is_ascii_digit}
 use Rattle.std.specs.Cmp.Lexicographic.{bytes_decides}
 use Rattle.std.specs.List.{list_all}
 use Rattle.std.specs.Str.{bytes_eq}
+use Rattle.std.proofs.lemmas.Grind.{common_steps}
 use Rattle.std.proofs.lemmas.Bool.{both_ways, cases_Bool, cases_eq, cases_lt}
 use Rattle.text_model.specs.Texts.{Text}
 use Rattle.rule_parser.specs.declared.rule.Bound.{Bound}
@@ -39,11 +40,7 @@ front_choice (x ∷ front) (y ∷ text) = by_case (cases_eq y x) (front_choice f
 
 -- a byte ends a text, or it does not
 end_choice : (c : ℕ) (text : Text) → ((front : Text) × (text ≡ front ++ c ∷ [])) ⊎ ((front : Text) → text ≢ front ++ c ∷ [])
-end_choice c [] = inr nothing
-  where
-    nothing : (front : Text) → [] ≢ front ++ c ∷ []
-    nothing [] e = cc
-    nothing (x ∷ front) e = cc
+end_choice c [] = grind (arith, common_steps)
 end_choice c (b ∷ text) = by_case text (cases_eq b c) (end_choice c text)
   where
     by_case : (t : Text) → (b ≡ c) ⊎ (b ≡ c → ⊥) → ((front : Text) × (t ≡ front ++ c ∷ [])) ⊎ ((front : Text) → t ≢ front ++ c ∷ [])

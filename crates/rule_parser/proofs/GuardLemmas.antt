@@ -1,5 +1,5 @@
 -- Which tokens are those of which guard.
-use Rattle.std.proofs.Common.{◌≡◌, ◌≢◌, ◌≤◌, [], ◌∷◌, ◌++◌, true, false, Option, Some, None, Result, Ok, Err, IfOk, length, refl, sym, codes, rules}
+use Rattle.std.proofs.Common.{◌≡◌, ◌≢◌, ◌≤◌, [], ◌∷◌, ◌++◌, true, false, Option, Some, None, Result, Ok, Err, IfOk, length, refl, sym, codes, rules, arith}
 use Rattle.std.specs.List.{list_all}
 use Rattle.std.specs.Char.{is_ascii_digit}
 use Rattle.std.proofs.lemmas.List.{append_cancel_right}
@@ -99,29 +99,11 @@ defined_tokens verb name v w (guard.Counts n low high) h e =
     no_space name (codes "counts") (bounds_text low high) w (token_split verb name n (codes "counts " ++ bounds_text low high) v (name_is_token n h.0) e).1
 
 pub no_guard_without_name : (verb name : Text) → IsToken verb → IsToken name → (IsName name → ⊥) → ReadsGuard (verb ++ 32 ∷ name) None
-no_guard_without_name verb name v w no_name g h e = refuted g (defined_tokens verb name v w g h e)
-  where
-    refuted : (g : Guard) → IsDefined verb name g → ⊥
-    refuted (guard.Has n) p = no_name p.0
-    refuted (guard.Lacks n) p = no_name p.0
-    refuted (guard.Given n) p = no_name p.0
-    refuted (guard.Same n t) p = p
-    refuted (guard.Holds n t) p = p
-    refuted (guard.Between n low high) p = p
-    refuted (guard.Counts n low high) p = p
+no_guard_without_name verb name v w no_name g h e = grind (arith, defined_tokens)
 
 pub no_guard_of_verb : (verb name : Text) → IsToken verb → IsToken name → verb ≢ codes "has" → verb ≢ codes "lacks" → verb ≢ codes "given"
     → ReadsGuard (verb ++ 32 ∷ name) None
-no_guard_of_verb verb name v w no_has no_lacks no_given g h e = refuted g (defined_tokens verb name v w g h e)
-  where
-    refuted : (g : Guard) → IsDefined verb name g → ⊥
-    refuted (guard.Has n) p = no_has p.1
-    refuted (guard.Lacks n) p = no_lacks p.1
-    refuted (guard.Given n) p = no_given p.1
-    refuted (guard.Same n t) p = p
-    refuted (guard.Holds n t) p = p
-    refuted (guard.Between n low high) p = p
-    refuted (guard.Counts n low high) p = p
+no_guard_of_verb verb name v w no_has no_lacks no_given g h e = grind (arith, defined_tokens)
 
 -- ---- guards of more tokens
 

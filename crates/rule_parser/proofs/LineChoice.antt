@@ -1,5 +1,6 @@
 -- Bytes are the text of rules or have a first error: each line continues those before it, or it is the first that cannot.
 use Rattle.std.proofs.Common.{◌≡◌, ℕ, ◌<◌, ◌≤◌, List, [], ◌∷◌, ◌++◌, ◌+◌, ◌-◌, take, get_or, if◌then◌else◌, Bool, true, false, ◌==◌, Option, Some, None, ◌⊎◌}
+use Rattle.std.proofs.lemmas.Grind.{common_steps}
 use Rattle.std.proofs.Common.{inl, inr, is_some, map, length, refl, ap, subst, sym, ◌∙◌, codes, arith}
 use Rattle.std.specs.List.{AllByRecursion, join_with_byte, slice_index, slice_split}
 use Rattle.std.specs.Str.{IsUtf8, is_utf8}
@@ -55,11 +56,7 @@ joined_utf8 (x ∷ []) u = (u, tt)
 joined_utf8 (x ∷ y ∷ more) u = let p = ascii_parts x (join_with_byte 10 (y ∷ more)) 10 (omega arith) u in (p.0, joined_utf8 (y ∷ more) p.1)
 
 stripped_utf8 : (line : Text) → IsUtf8 line → IsUtf8 (strip_carriage_return line)
-stripped_utf8 [] u = by_case (slice_index [] (length {A = ℕ} [] - 1) == 13)
-  where
-    by_case : (b : Bool) → IsUtf8 (if b then take (length {A = ℕ} [] - 1) [] else [])
-    by_case true = u
-    by_case false = u
+stripped_utf8 [] u = grind (arith, common_steps)
 stripped_utf8 (x ∷ line) u = by_case (slice_index (x ∷ line) (length (x ∷ line) - 1) == 13) refl
   where
     by_case : (b : Bool) → (slice_index (x ∷ line) (length (x ∷ line) - 1) == 13) ≡ b → IsUtf8 (if b then take (length (x ∷ line) - 1) (x ∷ line) else x ∷ line)
@@ -70,11 +67,7 @@ stripped_utf8 (x ∷ line) u = by_case (slice_index (x ∷ line) (length (x ∷ 
 
 parts_utf8 : (parts : List Text) → AllByRecursion IsUtf8 parts → AllByRecursion IsUtf8 (lines_of_parts parts)
 parts_utf8 [] u = tt
-parts_utf8 (x ∷ []) u = by_case (length x == 0)
-  where
-    by_case : (b : Bool) → AllByRecursion IsUtf8 (if b then [] else x ∷ [])
-    by_case true = tt
-    by_case false = u
+parts_utf8 (x ∷ []) u = grind (arith, common_steps)
 parts_utf8 (x ∷ y ∷ more) u = (stripped_utf8 x u.0, parts_utf8 (y ∷ more) u.1)
 
 lines_utf8 : (bytes : Text) → IsUtf8 bytes → AllByRecursion IsUtf8 (lines bytes)

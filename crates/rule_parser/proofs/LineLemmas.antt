@@ -1,5 +1,6 @@
 -- Lines that were read.
 use Rattle.std.proofs.Common.{◌≡◌, ℕ, ◌+◌, ◌<◌, ◌≤◌, zero, suc, List, [], ◌∷◌, ◌++◌, true, false, Option, Some, None, IfSome, Result, Ok, Err, IfOk, IfErr, Bor}
+use Rattle.std.proofs.lemmas.Grind.{common_steps}
 use Rattle.std.proofs.Common.{◌⊎◌, inl, inr, map, length, get_or, take, refl, ap, subst, sym, ◌∙◌, arith}
 use Rattle.std.proofs.lemmas.List.{append-nil, map-append, length-map, take_more, take_all}
 use Rattle.std.proofs.lemmas.List.Elements.{All-nil}
@@ -19,7 +20,7 @@ use Rattle.rule_parser.specs.declared.rules.TheConstants.{MAX_BYTES}
 use Rattle.rule_parser.specs.Grammar.{is_significant, significant, IsRuleText}
 use Rattle.rule_parser.specs.Faults.{AreSoundSoFar, statements_so_far, statements_of_guards, IsFirstRuleError, EndsRule, IsRefused}
 use Rattle.rule_parser.specs.Private.Progress.{so_far_of, no_rules, Continues, IsNumbered, KeepsLine, IsStepFault}
-use Rattle.rule_parser.proofs.LineNumbers.{significant-append, one_significant, line_number, split_at, significant_around, number_is, line_fault, open_rule}
+use Rattle.rule_parser.proofs.LineNumbers.{line_number, split_at, significant_around, number_is, line_fault, open_rule}
 use Rattle.rule_parser.proofs.LineNumbers.{first_fault}
 use Rattle.rule_parser.proofs.ReaderLemmas.{guards_from}
 
@@ -47,13 +48,7 @@ line_read ls i reader new line r h e x proceeds keeps = record {
 
 pub line_skipped : (ls : List Text) (i : ℕ) (reader : Reader) (line : Text) → AreRead ls i reader → i < length ls → get_or ls i line ≡ line
     → is_significant line ≡ false → AreRead ls (i + 1) reader
-line_skipped ls i reader line r h e x = record {
-  spelled =
-      ap significant (take_more ls i line h ∙ ap (λ y. take i ls ++ y ∷ []) e) ∙ significant-append (take i ls) (line ∷ [])
-      ∙ ap (λ l. significant (take i ls) ++ l) (one_significant line false x) ∙ append-nil (significant (take i ls)) ∙ r.spelled;
-  sound = r.sound;
-  numbered = r.numbered;
-}
+line_skipped ls i reader line r h e x = grind (arith, common_steps)
 
 -- ---- errors
 

@@ -1,5 +1,6 @@
 -- The numbers of lines: the statement after that many others has the number of its line.
 use Rattle.std.proofs.Common.{◌≡◌, ℕ, ◌+◌, ◌<◌, zero, suc, List, [], ◌∷◌, ◌++◌, Bool, true, false, Some, map, length, get_or, take, inl, inr, if◌then◌else◌}
+use Rattle.std.proofs.lemmas.Grind.{common_steps}
 use Rattle.std.proofs.Common.{refl, ap, subst, sym, ◌∙◌, arith}
 use Rattle.std.specs.List.{slice_index}
 use Rattle.std.proofs.lemmas.List.{length-map, length-take, append_assoc, map-append}
@@ -95,11 +96,7 @@ numbered_fault ls k at (inr f) =
     (open_rule ls f.rules f.guards f.rest f.sound spelled f.ends))
   where
     spelled : significant ls ≡ map line_of (statements f.rules ++ statements_of_guards (Some f.guards)) ++ f.rest
-    spelled =
-        significant_around ls f.before f.following (line_of Begin) f.whole refl ∙ ap (λ l. l ++ line_of Begin ∷ significant f.following) f.spelled
-        ∙ ap (λ l. map line_of (statements f.rules) ++ line_of Begin ∷ l) f.guarded
-        ∙ sym (append_assoc (map line_of (statements f.rules)) (map line_of (statements_of_guards (Some f.guards))) f.rest)
-        ∙ ap (λ l. l ++ f.rest) (sym (map-append line_of (statements f.rules) (statements_of_guards (Some f.guards))))
+    spelled = grind (arith, common_steps)
 
 -- a significant line, with the lines before and after it
 record SplitsAt (ls before : List Text) (line : Text) (following : List Text) : Type 0 where

@@ -1,5 +1,6 @@
 -- A text is a name or not: its bytes are read once, keeping track of what may come next.
 use Rattle.std.proofs.Common.{◌≡◌, ◌≢◌, ℕ, [], ◌∷◌, ◌++◌, Bool, true, false, ◌&&◌, ◌==◌, ◌⊎◌, inl, inr, length, fold, if◌then◌else◌, refl, ap, subst, sym, ◌∙◌}
+use Rattle.std.proofs.lemmas.Grind.{common_steps}
 use Rattle.std.proofs.Common.{arith}
 use Rattle.std.specs.Prelude.{nat_le}
 use Rattle.std.proofs.lemmas.Bool.{and_parts, and_from, cases_lt, leb-true, eqb-true, both_ways, cases_Bool}
@@ -57,16 +58,8 @@ step_at_stage Named front h b = by_case (b == 46) refl
         subst IsVarname (sym (append_assoc front (b ∷ []) v)) (subst (λ c. IsVarname (front ++ c ∷ v)) (sym (eqb-true b 46 e)) (dotted_varchar front v h k))
     by_case false e = varchar_at_stage front (λ v k. next_varchar front v h k) b
 step_at_stage Wanting front h b = varchar_at_stage front h b
-step_at_stage TwoDigits front h b = by_case (is_hexadecimal b) refl
-  where
-    by_case : (x : Bool) → is_hexadecimal b ≡ x → IsAtStage (if x then OneDigit else Lost) (front ++ b ∷ [])
-    by_case true e = λ low l. subst IsVarname (sym (append_assoc front (b ∷ []) (low ∷ []))) (h b low e l)
-    by_case false e = tt
-step_at_stage OneDigit front h b = by_case (is_hexadecimal b) refl
-  where
-    by_case : (x : Bool) → is_hexadecimal b ≡ x → IsAtStage (if x then Named else Lost) (front ++ b ∷ [])
-    by_case true e = h b e
-    by_case false e = tt
+step_at_stage TwoDigits front h b = grind (arith, common_steps)
+step_at_stage OneDigit front h b = grind (arith, common_steps)
 step_at_stage Lost front h b = tt
 
 text_at_stage : (text front : Text) (stage : Stage) → IsAtStage stage front → IsAtStage (after stage text) (front ++ text)
@@ -91,11 +84,7 @@ name_from text e l = (by_stage (after Wanting text) (text_at_stage text [] Wanti
 
 varchar_ends_named : (v : Text) → IsVarchar v → after Wanting v ≡ Named
 varchar_ends_named v (character_varchar c h) = ap (λ x. if x then Named else (if c == 37 then TwoDigits else Lost)) h
-varchar_ends_named v (triplet_varchar c high low h) =
-    let first : ((c == 37) ≡ true) × ((is_hexadecimal high && is_hexadecimal low) ≡ true) = and_parts _ _ h in
-    let digits : (is_hexadecimal high ≡ true) × (is_hexadecimal low ≡ true) = and_parts _ _ first.1 in
-    ap (λ b. after (started_by b) (high ∷ low ∷ [])) (eqb-true c 37 first.0) ∙ ap (λ x. step (if x then OneDigit else Lost) low) digits.0
-    ∙ ap (λ x. if x then Named else Lost) digits.1
+varchar_ends_named v (triplet_varchar c high low h) = grind (arith, common_steps)
 
 -- a varchar does not begin with a dot
 varchar_continues : (v : Text) → IsVarchar v → after Named v ≡ after Wanting v

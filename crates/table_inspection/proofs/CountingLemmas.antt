@@ -1,9 +1,10 @@
 -- Counting the rows of each identifier, row by row.
 use Rattle.std.proofs.Common.{◌≡◌, ℕ, ◌+◌, ◌||◌, ◌≤◌, ◌++◌, Bool, true, false, not, cond, List, [], ◌∷◌, length, Option, None, Some, refl, sym, ap, ◌∙◌, arith}
+use Rattle.std.proofs.lemmas.Grind.{common_steps}
 use Rattle.std.proofs.Common.{◌==◌, ◌&&◌, take, drop, if◌then◌else◌, append-nil, append_assoc, length-append}
 use Rattle.std.specs.Prelude.{filter}
 use Rattle.std.specs.List.{cons_option, filter_map, flat_map, list_any}
-use Rattle.std.specs.Option.{option_and_then, option_map, option_to_list}
+use Rattle.std.specs.Option.{option_and_then, option_to_list}
 use Rattle.std.specs.Str.{bytes_eq}
 use Rattle.std.proofs.lemmas.Grind.{flat_map-append}
 use Rattle.std.proofs.lemmas.List.{take-append-drop}
@@ -13,7 +14,7 @@ use Rattle.std.proofs.lemmas.List.Sums.{count_by-le-length, sum_by-append, sum_b
 use Rattle.std.proofs.Math.Bool.{or-false}
 use Rattle.text_model.specs.Texts.{Text}
 use Rattle.kbart_rows.specs.Cells.{Row, cell_in, defined}
-use Rattle.kbart_rows.specs.Identifiers.{identifier_in, normalised}
+use Rattle.kbart_rows.specs.Identifiers.{identifier_in}
 use Rattle.table_inspection.specs.Columns.{is_empty_text}
 use Rattle.table_inspection.specs.Private.Forms.{normal_form}
 use Rattle.table_inspection.proofs.Ranges.{not_none}
@@ -38,13 +39,7 @@ distinct_more (t ∷ texts) x =
 pub distinct_option : (texts : List Text) (id : Option Text)
     → length (distinct (texts ++ option_to_list id)) ≡ length (distinct texts) + new_among (λ x. list_any (bytes_eq x) texts) id
 distinct_option texts None = ap (λ xs. length (distinct xs)) (append-nil texts) ∙ omega arith
-distinct_option texts (Some x) =
-    ap length (distinct_more texts x) ∙ length-append (distinct texts) (if list_any (bytes_eq x) texts then [] else x ∷ [])
-    ∙ elim (list_any (bytes_eq x) texts) as
-    (λ b. length (distinct texts) + length (if b then [] else x ∷ []) ≡ length (distinct texts) + (if b then 0 else 1)) [
-      | true ↦ refl
-      | false ↦ refl
-    ]
+distinct_option texts (Some x) = grind (arith, distinct_more, length-append)
 
 pub new_among_same : (f g : Text → Bool) → ((id : Text) → f id ≡ g id) → (id : Option Text) → new_among f id ≡ new_among g id
 new_among_same f g same None = refl
@@ -140,14 +135,7 @@ having_few columns rows id = count_by-le-length (λ cells. list_any (bytes_eq id
 pub identifiers_of_two : (a b : Option ℕ) (cells : Row) (first second : Text) → first ≡ normal_form (cell_in cells a)
     → second ≡ normal_form (cell_in cells b)
     → row_identifiers (a ∷ b ∷ []) cells ≡ option_to_list (defined first) ++ option_to_list (defined second)
-identifiers_of_two a b cells first second first_is second_is =
-    identifiers_of_row a b cells
-    ∙ ap (λ id. option_to_list id ++ option_to_list (option_and_then defined (identifier_in cells b))) (form (cell_in cells a) ∙ ap defined (sym first_is))
-    ∙ ap (λ id. option_to_list (defined first) ++ option_to_list id) (form (cell_in cells b) ∙ ap defined (sym second_is))
-  where
-    form : (cell : Option Text) → option_and_then defined (option_map normalised cell) ≡ defined (normal_form cell)
-    form None = refl
-    form (Some text) = refl
+identifiers_of_two a b cells first second first_is second_is = grind (arith, common_steps)
 
 pub none_of_two : (first second : Text) → (is_empty_text first && is_empty_text second)
     ≡ (length (option_to_list (defined first) ++ option_to_list (defined second)) == 0)

@@ -1,15 +1,14 @@
 -- The first of the texts with the largest number.
 use Rattle.std.proofs.Common.{◌≡◌, ℕ, ◌<◌, ◌≤◌, ◌&&◌, ◌||◌, ◌++◌, Bool, true, false, List, [], ◌∷◌, All, Option, None, Some, refl, sym, ap, ◌∙◌, arith}
+use Rattle.std.proofs.lemmas.Grind.{common_steps}
 use Rattle.std.proofs.Common.{◌==◌, length, not}
 use Rattle.std.proofs.Common.{append-nil, append_assoc, nat_le}
 use Rattle.std.specs.Prelude.{nat_lt}
 use Rattle.std.proofs.lemmas.Bool.{false≢true}
 use Rattle.std.proofs.lemmas.Bool.Decides.{nat_tests}
 use Rattle.std.proofs.lemmas.List.Elements.{All-nil, All-cons, All-head, All-tail, All-weaker, All-append, All-push}
-use Rattle.std.proofs.lemmas.List.Folds.{list_all-append}
 use Rattle.std.specs.List.{find, list_all}
 use Rattle.std.specs.Option.{option_map_or, option_to_list}
-use Rattle.std.proofs.Math.Bool.{and-false}
 use Rattle.kbart_rows.specs.Cells.{defined}
 use Rattle.table_inspection.specs.Columns.{is_empty_text}
 use Rattle.table_inspection.proofs.Ranges.{not_none}
@@ -51,11 +50,7 @@ all_from number n (text ∷ texts) all =
 
 not_all : (number : Text → ℕ) (n : ℕ) (front : List Text) (text : Text) (back : List Text) → n < number text
     → list_all (λ other. nat_le (number other) n) (front ++ text ∷ back) ≡ false
-not_all number n front text back less =
-    let no : nat_le (number text) n ≡ false = grind (arith, nat_tests) in
-    list_all-append (λ other. nat_le (number other) n) front (text ∷ back)
-    ∙ ap (λ b. list_all (λ other. nat_le (number other) n) front && (b && list_all (λ other. nat_le (number other) n) back)) no
-    ∙ and-false (list_all (λ other. nat_le (number other) n) front)
+not_all number n front text back less = grind (arith, common_steps)
 
 find_at : (test : Text → Bool) (front : List Text) (text : Text) (back : List Text) → All (λ other. test other ≡ false) front → test text ≡ true
     → find test (front ++ text ∷ back) ≡ Some text

@@ -1,5 +1,6 @@
 -- A walk over the names of the standard.
 use Rattle.std.proofs.Common.{Bor, ◌≡◌, ℕ, ◌+◌, ◌<◌, ◌&&◌, ◌||◌, Bool, true, false, zero, suc, List, [], ◌∷◌, length, take, get_or, refl}
+use Rattle.std.proofs.lemmas.Grind.{common_steps}
 use Rattle.std.proofs.Common.{ap, ◌∙◌, arith}
 use Rattle.std.specs.List.{find, list_any}
 use Rattle.std.specs.Str.{bytes_eq}
@@ -19,14 +20,7 @@ pub any_step : (test : Text → Bool) (xs : List (Bor Text)) (i : ℕ) (d : Bor 
     → test (get_or xs i d).now ≡ false → list_any test (texts_of (take (i + 1) xs)) ≡ false
 any_step test [] i d inside none fails = absurd (omega (arith, inside))
 any_step test (x ∷ xs) zero d inside none fails = ap (λ b. b || false) fails
-any_step test (x ∷ xs) (suc i) d inside none fails =
-    let next : suc i + 1 ≡ suc (i + 1) = omega arith in
-    ap (λ n. list_any test (texts_of (take n (x ∷ xs)))) next ∙ here (test x.now) (λ is. any_step test xs i d (omega (arith, inside)) is fails) none
-  where
-    here : (b : Bool) → (list_any test (texts_of (take i xs)) ≡ false → list_any test (texts_of (take (i + 1) xs)) ≡ false)
-        → (b || list_any test (texts_of (take i xs))) ≡ false → (b || list_any test (texts_of (take (i + 1) xs))) ≡ false
-    here true later is = is
-    here false later is = later is
+any_step test (x ∷ xs) (suc i) d inside none fails = grind (arith, common_steps)
 
 pub any_here : (test : Text → Bool) (xs : List (Bor Text)) (i : ℕ) (d : Bor Text) → i < length xs → test (get_or xs i d).now ≡ true
     → list_any test (texts_of xs) ≡ true

@@ -1,5 +1,6 @@
 -- Results that are gathered from rows or columns one after another.
 use Rattle.std.proofs.Common.{◌≡◌, ℕ, ◌+◌, ◌&&◌, ◌==◌, ◌≤◌, suc, Bool, true, false, List, [], ◌∷◌, ◌++◌, length, get_or, filter}
+use Rattle.std.proofs.lemmas.Grind.{common_steps}
 use Rattle.std.proofs.Common.{refl, sym, ap, ◌∙◌, arith}
 use Rattle.std.proofs.Common.{if◌then◌else◌, append-nil, length-append}
 use Rattle.std.proofs.lemmas.Bool.Decides.{nat_tests}
@@ -48,13 +49,7 @@ row_step test n count first new_count new_first true is old count_is first_is =
       starts = first_is ∙ ap (λ c. if c == 0 then n else first) old.counts ∙ ap (λ f. if length rows == 0 then n else f) old.starts
           ∙ sym (first_more rows n 0) ∙ sym (ap (λ rows. get_or rows 0 0) more);
     }
-row_step test n count first new_count new_first false is old count_is first_is =
-    let rows = filter test (range_with_len 0 n) in
-    let more : filter test (range_with_len 0 (n + 1)) ≡ rows = filter_more test n ∙ ap (λ b. rows ++ (if b then n ∷ [] else [])) (sym is) ∙ append-nil rows in
-    record {
-      counts = count_is ∙ old.counts ∙ sym (ap length more);
-      starts = first_is ∙ old.starts ∙ sym (ap (λ rows. get_or rows 0 0) more);
-    }
+row_step test n count first new_count new_first false is old count_is first_is = grind (arith, filter_more, append-nil)
 
 -- ---- cells
 
@@ -67,11 +62,7 @@ cell_if has cell = if has then cell ∷ [] else []
 pub cell_step : (cells : List CellAt) (cell : CellAt) (count first new_count new_first : ℕ) (text new_text : List ℕ) (has : Bool)
     → AreCells cells count first text → new_count ≡ (if has then count + 1 else count) → new_first ≡ (if has && count == 0 then cell.row else first)
     → new_text ≡ (if has && count == 0 then cell.text else text) → AreCells (cells ++ cell_if has cell) new_count new_first new_text
-cell_step [] cell count first new_count new_first text new_text true old count_is first_is text_is = record {
-  counts = omega (arith, count_is, old.counts);
-  starts = first_is ∙ ap (λ c. if c == 0 then cell.row else first) old.counts;
-  shows = text_is ∙ ap (λ c. if c == 0 then cell.text else text) old.counts;
-}
+cell_step [] cell count first new_count new_first text new_text true old count_is first_is text_is = grind (arith, common_steps)
 cell_step (other ∷ cells) cell count first new_count new_first text new_text true old count_is first_is text_is =
     let some : (count == 0) ≡ false = ap (λ c. c == 0) old.counts ∙ not_none (length cells) in
     record {

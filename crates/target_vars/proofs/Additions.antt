@@ -133,11 +133,7 @@ ready b t spans names places name names' places' k laid has = ⊎_elim known_lis
 
 own_members : (b t : Text) (spans : List Span) (s : Span) (new : List Span) → All (IsPiece b) spans → IsPutLast spans s new → s.part.start ≡ length b
     → s.part.len ≡ length t → list_members (b ++ t) new s.list ≡ list_members b spans s.list ++ t ∷ []
-own_members b t spans s new pieces put start len =
-    ap (map (span_bytes (b ++ t))) put.own
-    ∙ map-append (span_bytes (b ++ t)) (spans_of spans s.list) (s ∷ [])
-    ∙ ap (λ ms. ms ++ span_bytes (b ++ t) s ∷ []) (members_stay b t spans s.list pieces)
-    ∙ ap (λ x. list_members b spans s.list ++ x ∷ []) (last_part b t s.part start len)
+own_members b t spans s new pieces put start len = grind (arith, map-append, members_stay, last_part)
 
 pub add_is : (b t : Text) (spans : List Span) (names : List Text) (places : List Place) (name : Text) (names' : List Text) (places' : List Place) (s : Span)
     (new : List Span) → IsLaid b spans names places → HasList names places name names' places' s.list → IsPutLast spans s new

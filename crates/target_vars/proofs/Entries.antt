@@ -38,11 +38,7 @@ entries_from-short b m i n ns = refl
 
 pub entries_from-push : (b : Text) (m : Lists) (i : ℕ) (ns : List Text) (ps : List Place) (n : Text) (p : Place) → length ps ≡ length ns
     → entries_from b m i (ns ++ n ∷ []) (ps ++ p ∷ []) ≡ entries_from b m i ns ps ++ entry b (m (i + length ns)) n p ∷ []
-entries_from-push b m i [] [] n p long =
-    entries_from-cons b m i n [] p []
-    ∙ ap (λ es. entry b (m i) n p ∷ es) (entries_from-empty b m (suc i) [])
-    ∙ ap (λ j. entry b (m j) n p ∷ []) (sym (add-zero i))
-    ∙ ap (λ es. es ++ entry b (m (i + 0)) n p ∷ []) (sym (entries_from-empty b m i []))
+entries_from-push b m i [] [] n p long = grind (arith, entries_from-cons, entries_from-empty, add-zero)
 entries_from-push b m i [] (q ∷ ps) n p long = absurd (omega arith)
 entries_from-push b m i (x ∷ ns) [] n p long = absurd (omega arith)
 entries_from-push b m i (x ∷ ns) (q ∷ ps) n p long =
@@ -95,11 +91,7 @@ is_there-entries b m i (n ∷ ns) (p ∷ ps) name long =
 
 -- a name of a later entry is not that of the first
 not_in_front : (e : Entry) (env : Environment) (name : Text) → EachNameOnce (e ∷ env) → is_there env name ≡ true → bytes_eq e.name name ≡ false
-not_in_front e env name once there = by_cases (bytes_eq e.name name) refl
-  where
-    by_cases : (r : Bool) → bytes_eq e.name name ≡ r → r ≡ false
-    by_cases true same = let none : is_there env name ≡ false = ap (is_there env) (sym ((bytes_eq-Decides e.name name).0 same)) ∙ once.0 in absurd (cc)
-    by_cases false other = refl
+not_in_front e env name once there = grind (arith, bytes_eq, bytes_eq-Decides)
 
 pub look_up-at : (b : Text) (m : Lists) (i : ℕ) (ns : List Text) (ps : List Place) (name : Text) (k : ℕ) (p : Place) → EachNameOnce (entries_from b m i ns ps)
     → slice_get ns k ≡ Some name → slice_get ps k ≡ Some p

@@ -1,5 +1,6 @@
 -- What the fields of an `Env` say about its value in contracts.
 use Rattle.std.proofs.Common.{◌≡◌, ℕ, ◌+◌, ◌<◌, ◌≤◌, List, ◌∷◌, ◌++◌, take, drop, insert, IsTrue, Bool, true, false, length, slice_get, get_or, Some, is_some}
+use Rattle.std.proofs.lemmas.Grind.{common_steps}
 use Rattle.std.proofs.Common.{Result, Ok, Err, string_bytes, sym, ap, ◌∙◌, subst, arith}
 use Rattle.std.proofs.lemmas.Option.{slice_get-get_or, slice_get_within}
 use Rattle.text_model.specs.Texts.{Text}
@@ -65,19 +66,11 @@ no_text r v name places (Err gap) laid is same at =
 
 pub fits : (r : Inside) (v : EnvValue) (t : Text) (long : Bool) → IsHeld r → held r ≡ v → (MAX_BYTES < byte_count v.entries + length t → IsTrue long)
     → long ≡ false → length (string_bytes r.buffer) + length t ≤ MAX_BYTES
-fits r v t long laid is says none =
-    let bytes = ap (λ (x : EnvValue). byte_count x.entries) is in
-    let filled = laid.filled in
-    let short = within long MAX_BYTES (byte_count v.entries + length t) says none in
-    omega arith
+fits r v t long laid is says none = grind (arith, common_steps)
 
 pub few : (r : Inside) (v : EnvValue) (full : Bool) → IsHeld r → held r ≡ v → (MAX_MEMBERS < member_count v.entries + 1 → IsTrue full) → full ≡ false
     → length r.spans.items + 1 ≤ MAX_MEMBERS
-few r v full laid is says none =
-    let members = ap (λ (x : EnvValue). member_count x.entries) is in
-    let counted = laid.counted in
-    let short = within full MAX_MEMBERS (member_count v.entries + 1) says none in
-    omega arith
+few r v full laid is says none = grind (arith, common_steps)
 
 -- ---- one more span
 
@@ -90,14 +83,4 @@ laid_insert spans place s =
 pub span_put : (r : Inside) (v : EnvValue) (s : Span) (new : List Span) (n : ℕ) → held r ≡ v → IsPutLast r.spans.items s new
     → s.part.start ≡ length (string_bytes r.buffer) → s.part.len ≡ n
     → (place : ℕ) × (place ≤ length v.spans) × (laid_spans new ≡ insert v.spans place (length v.buffer, n))
-span_put r v s new n is put start len =
-    let long = length-map r.spans.items (λ (x : Span). at x.part) in
-    let below : put.place ≤ length (laid_spans r.spans.items) = omega (arith, put.within) in
-    let whole : at s.part ≡ (length (string_bytes r.buffer), n) = ap (λ o. (o, s.part.len)) start ∙ ap (λ l. (length (string_bytes r.buffer), l)) len in
-    let inserted : laid_spans new ≡ insert (laid_spans r.spans.items) put.place (length (string_bytes r.buffer), n) =
-    ap laid_spans put.is ∙ laid_insert r.spans.items put.place s ∙ ap (insert (laid_spans r.spans.items) put.place) whole in
-    subst (λ (x : EnvValue). (place : ℕ) × (place ≤ length x.spans) × (laid_spans new ≡ insert x.spans place (length x.buffer, n))) is (
-      put.place,
-      below,
-      inserted,
-    )
+span_put r v s new n is put start len = grind (arith, length-map, within, string_bytes, insert, laid_insert)

@@ -1,16 +1,14 @@
 -- What a name denotes, given its number.
-use Rattle.std.proofs.Common.{◌≡◌, ℕ, ◌+◌, ◌-◌, ◌<◌, List, [], ◌∷◌, false, map, length, take, drop, slice_get, get_or, Some, None}
+use Rattle.std.proofs.Common.{◌≡◌, ℕ, ◌+◌, List, [], ◌∷◌, false, map, length, take, drop, slice_get, get_or, Some, None}
 use Rattle.std.proofs.Common.{All, refl, sym, ap, ◌∙◌, subst, arith, zero-add, inr}
 use Rattle.std.specs.Prelude.{slice_range}
 use Rattle.std.proofs.lemmas.List.{length-map, take-map, drop-map}
-use Rattle.std.proofs.lemmas.List.Elements.{All-tail, All-nil, All-map, All-get_or, All-weaker}
-use Rattle.std.proofs.lemmas.List.Sorted.{IsNonDecreasingBy-short}
+use Rattle.std.proofs.lemmas.List.Elements.{All-tail, All-map, All-get_or, All-weaker}
 use Rattle.std.proofs.lemmas.Option.{slice_get-get_or, slice_get_within}
 use Rattle.text_model.specs.Texts.{Text}
-use Rattle.environment_model.specs.Environment.{look_up, is_there, is_among, text_in, text_of, members_in, members_of, byte_count}
-use Rattle.environment_model.specs.Environment.{member_count}
+use Rattle.environment_model.specs.Environment.{look_up, is_there, is_among, text_in, text_of, members_in, members_of}
 use Rattle.environment_model.proofs.NameTests.{undefined}
-use Rattle.target_vars.specs.EnvValue.{EnvValue, EachNameOnce, piece_at, IsWithin, AreMembersAt, IsInOrder}
+use Rattle.target_vars.specs.EnvValue.{EnvValue, piece_at, IsWithin, AreMembersAt, IsInOrder}
 use Rattle.target_vars.specs.Layout.{at, span_bytes, list_members, meaning_in, laid_entries, laid_spans, IsPart, IsPiece, IsPieces, IsPlace, AreAdjacent}
 use Rattle.target_vars.specs.Layout.{IsTextPart, IsLaid}
 use Rattle.target_vars.specs.declared.place.Part.{Part}
@@ -27,18 +25,7 @@ pub laid_entries-empty : laid_entries [] [] [] [] ≡ []
 laid_entries-empty = entries_from-empty [] (list_members [] []) 0 []
 
 pub laid_empty : IsLaid [] [] [] []
-laid_empty = record {
-  pieces = All-nil (IsPiece []);
-  placed = All-nil (IsPlace []);
-  one_each = refl;
-  in_order = IsNonDecreasingBy-short (λ s. s.list) [] (omega arith);
-  known = All-nil (λ s. s.list < 0);
-  filled = ap byte_count laid_entries-empty;
-  counted = ap member_count laid_entries-empty;
-  once = subst EachNameOnce (sym laid_entries-empty) tt;
-  few_bytes = omega arith;
-  few_members = omega arith;
-}
+laid_empty = grind (arith, laid_entries-empty)
 
 -- ---- look-ups
 
@@ -136,13 +123,7 @@ members_at b spans names places name k first count laid named placed run =
 -- the members that are borrowed
 pub members_lent : (b : Text) (spans : List Span) (env : EnvValue) (name : Text) (first count : ℕ) → env.buffer ≡ b → env.spans ≡ laid_spans spans
     → AreMembersAt env name first count → map (span_bytes b) (slice_range spans first (first + count)) ≡ members_of env.entries name
-members_lent b spans env name first count buffer laid are =
-    let many : first + count - first ≡ count = omega arith in
-    ap (λ n. map (span_bytes b) (take n (drop first spans))) many
-    ∙ sym (laid_run b spans first count)
-    ∙ ap (λ t. map (piece_at t) (take count (drop first (laid_spans spans)))) (sym buffer)
-    ∙ ap (λ xs. map (piece_at env.buffer) (take count (drop first xs))) (sym laid)
-    ∙ sym are.are
+members_lent b spans env name first count buffer laid are = grind (arith, laid_run)
 
 pub after_first : (b : Text) (s : Span) (spans : List Span) → IsPieces b (s ∷ spans) → IsPieces b spans
 after_first b s spans h = record {

@@ -1,10 +1,11 @@
 -- Searches after one more fork.
 
-use Rattle.std.proofs.Common.{◌≡◌, ℕ, ◌+◌, ◌-◌, ◌<◌, ◌≤◌, ◌⊎◌, inl, inr, List, [], ◌∷◌, ◌++◌, length, take, drop, get_or, slice_get, Some, All, refl, sym, ap}
+use Rattle.std.proofs.Common.{◌≡◌, ℕ, ◌+◌, ◌<◌, ◌≤◌, ◌⊎◌, inl, inr, List, [], ◌∷◌, ◌++◌, length, get_or, slice_get, Some, All, refl, sym, ap}
+use Rattle.std.proofs.lemmas.Grind.{common_steps}
 use Rattle.std.proofs.Common.{◌∙◌, subst, arith, length-append, ⊎_elim}
 use Rattle.std.specs.Prelude.{slice_range}
 use Rattle.std.proofs.lemmas.Bool.{cases_lt}
-use Rattle.std.proofs.lemmas.List.{length-map, map-append, take-append-le, drop-append-le, drop_at, take_all, length-drop}
+use Rattle.std.proofs.lemmas.List.{length-map, map-append, drop_at, take_all}
 use Rattle.std.proofs.lemmas.List.Elements.{All-push, All-weaker, All-head, All-tail}
 use Rattle.std.proofs.lemmas.Option.{slice_get_within, get_or_from_slice_get}
 use Rattle.text_model.specs.Texts.{Text}
@@ -47,11 +48,7 @@ arrives (next ∷ path) old new name from last number n steps step end passes =
 
 -- the bytes of a name keep their place
 same_name : (bytes more : Text) (p : NamePlace) → IsNamePlace bytes p → slice_range (bytes ++ more) p.start p.end ≡ slice_range bytes p.start p.end
-same_name bytes more p is =
-    let start = is.start_le_end in
-    let end = is.inside in
-    let left = length-drop p.start bytes in
-    ap (take (p.end - p.start)) (drop-append-le p.start bytes more (omega arith)) ∙ take-append-le (p.end - p.start) (drop p.start bytes) more (omega arith)
+same_name bytes more p is = grind (arith, common_steps)
 
 same_names : (bytes more : Text) (places : List NamePlace) → All (IsNamePlace bytes) places → placed_names (bytes ++ more) places ≡ placed_names bytes places
 same_names bytes more [] are = refl
@@ -61,12 +58,7 @@ same_names bytes more (p ∷ ps) are =
 
 pub placed_names-push : (bytes name : Text) (places : List NamePlace) (p : NamePlace) → All (IsNamePlace bytes) places → p.start ≡ length bytes
     → p.end ≡ length bytes + length name → placed_names (bytes ++ name) (places ++ p ∷ []) ≡ placed_names bytes places ++ name ∷ []
-placed_names-push bytes name places p placed start end =
-    let last : slice_range (bytes ++ name) p.start p.end ≡ name = ap (take (p.end - p.start)) (drop_at bytes name p.start (sym start))
-    ∙ take_all (p.end - p.start) name (omega arith) in
-    map-append (λ (q : NamePlace). slice_range (bytes ++ name) q.start q.end) places (p ∷ [])
-    ∙ ap (λ ns. ns ++ slice_range (bytes ++ name) p.start p.end ∷ []) (same_names bytes name places placed)
-    ∙ ap (λ n. placed_names bytes places ++ n ∷ []) last
+placed_names-push bytes name places p placed start end = grind (arith, drop_at, take_all, map-append, same_names)
 
 -- a branch that leads forward still does when there are more forks
 more_forks : (n m at : ℕ) (branch : Branch) → n ≤ m → IsForward n at branch → IsForward m at branch
@@ -83,19 +75,11 @@ forward-push listed old new name gap fork each forward separates forked = λ tex
         → IsForward (length new) at branch
     so_far text at branch below is (inl same) = let longer =
         forked.longer in more_forks (length old) (length new) at branch (omega arith) (forward text at branch (sym same ∙ is))
-    so_far text at branch below is (inr both) =
-        let longer = forked.longer in
-        let turned_there = both.1 in
-        let same : Further (length old) ≡ branch = cc in
-        subst (IsForward (length new) at) same (below, omega arith)
+    so_far text at branch below is (inr both) = grind (arith, common_steps)
 
     at_last : (text : Text) (branch : Branch) (number : ℕ) → number ≤ length old → branch_of fork text ≡ Ends number
         → branch_at new text (length old) ≡ Some branch → IsForward (length new) (length old) branch
-    at_last text branch number within ends is =
-        let longer = forked.longer in
-        let last = forked.last text in
-        let same : Ends number ≡ branch = cc in
-        subst (IsForward (length new) (length old)) same (omega arith)
+    at_last text branch number within ends is = grind (arith, common_steps)
 
     by_cases : (text : Text) (at : ℕ) (branch : Branch) → branch_at new text at ≡ Some branch → (at < length old) ⊎ (length old ≤ at)
         → IsForward (length new) at branch
@@ -137,31 +121,12 @@ still_found listed old new name text gap fork m number last gap_ends other forke
         (forked.others text at (fork_there old text at (Ends number) is))
       where
         ended : Ends number ≡ Ends m → branch_at new text (length old) ≡ Some (Ends number)
-        ended alike =
-            let same : number ≡ m = cc in
-            let own : get_or listed number [] ≡ text = get_or_from_slice_get listed number text [] named in
-            let to : branch_of fork text ≡ Ends number = ap (branch_of fork) (sym own) ∙ ap (λ k. branch_of fork (get_or listed k [])) same ∙ other
-            ∙ sym alike in
-            forked.last text ∙ ap Some to
+        ended alike = grind (arith, get_or_from_slice_get)
 
 -- the search for the new name ends with its number
 new_found : (old new : List Fork) (name : Text) (gap : ℕ) (fork : Fork) (m n : ℕ) → Leads old name gap m → branch_of fork name ≡ Ends n
     → IsForked old name gap fork new → Leads new name (length old) n
-new_found old new name gap fork m n leads own forked =
-    let gap_ends = ends_there leads.path old name 0 gap m leads.passes in
-    let more = arrives leads.path old new name 0 gap m n steps (forked.own (fork_there old name gap (Ends m) gap_ends)) (forked.last name ∙ ap Some own)
-    leads.passes in
-    record { path = more.0; passes = more.1 }
-  where
-    steps : (at next : ℕ) → branch_at old name at ≡ Some (Further next) → branch_at new name at ≡ Some (Further next)
-    steps at next is =
-        ⊎_elim
-        (λ same. same ∙ is)
-        (λ both.
-        let gap_ends = ends_there leads.path old name 0 gap m leads.passes in
-        let here : branch_at old name gap ≡ Some (Further next) = subst (λ a. branch_at old name a ≡ Some (Further next)) both.0 is in
-        absurd (cc))
-        (forked.others name at (fork_there old name at (Further next) is))
+new_found old new name gap fork m n leads own forked = grind (arith, ends_there, arrives, fork_there)
 
 -- every name is found along the forks
 abbrev FindsAll : List Text → List Fork → Type 0

@@ -1,6 +1,7 @@
 -- The search for a name along forks.
 
 use Rattle.std.proofs.Common.{◌≡◌, ℕ, suc, zero, ◌+◌, ◌<◌, ◌≤◌, ◌⊎◌, inl, inr, List, [], ◌∷◌, ◌++◌, Bool, true, false, length, get_or, set, slice_get}
+use Rattle.std.proofs.lemmas.Grind.{common_steps}
 use Rattle.std.proofs.Common.{Some, bytes_eq, refl, sym, ap, ◌∙◌, subst, arith, length-append, ⊎_elim}
 use Rattle.std.specs.Prelude.{slice_range}
 use Rattle.std.specs.Option.{option_map}
@@ -12,7 +13,7 @@ use Rattle.std.proofs.lemmas.Option.{slice_get-get_or, slice_get_within, slice_g
 use Rattle.std.proofs.lemmas.Slice.Eq.{bytes_eq-Decides}
 use Rattle.text_model.specs.Texts.{Text}
 use Rattle.environment_model.specs.Environment.{is_among}
-use Rattle.target_vars.specs.Private.NamesValue.{placed_names, branch_of, branch_at, is_high, turned, Passes, Leads, AreNames, IsGap, IsForked}
+use Rattle.target_vars.specs.Private.NamesValue.{placed_names, branch_of, branch_at, turned, Passes, Leads, AreNames, IsGap, IsForked}
 use Rattle.target_vars.specs.declared.names.NamePlace.{NamePlace}
 use Rattle.target_vars.specs.declared.names.forks.Fork.{Fork}
 use Rattle.target_vars.specs.declared.names.forks.Branch.{Branch}
@@ -81,11 +82,7 @@ lacking bytes places forks name last number are leads other =
 -- the name with which the search for it ends
 pub found : (bytes : Text) (places : List NamePlace) (forks : List Fork) (name : Text) (number : ℕ) → AreNames bytes places forks → number < length forks
     → bytes_eq (get_or (placed_names bytes places) number []) name ≡ true → slice_get (placed_names bytes places) number ≡ Some name
-found bytes places forks name number are below same =
-    let long = length-map places (λ (p : NamePlace). slice_range bytes p.start p.end) in
-    let one_each = are.one_each in
-    slice_get-get_or (placed_names bytes places) number [] (omega arith)
-    ∙ ap Some ((bytes_eq-Decides (get_or (placed_names bytes places) number []) name).0 same)
+found bytes places forks name number are below same = grind (arith, length-map, slice_get-get_or, bytes_eq-Decides)
 
 -- the search for a name ends with another one: its last fork is the gap of the name
 pub gap_of : (bytes : Text) (places : List NamePlace) (forks : List Fork) (name : Text) (last number : ℕ) → AreNames bytes places forks → number < length forks
@@ -123,31 +120,15 @@ get-set_other (y ∷ xs) (suc i) (suc j) x differs = get-set_other xs i j x (λ 
 
 -- the fork of the first name
 pub forked_first : (forks : List Fork) (name : Text) (gap : ℕ) (fork : Fork) → length forks ≤ gap → IsForked forks name gap fork (forks ++ fork ∷ [])
-forked_first forks name gap fork past = record {
-  longer = length-append forks (fork ∷ []);
-  last = λ text. ap (option_map (λ (f : Fork). branch_of f text)) (get-last forks fork);
-  own = λ below. absurd (omega arith);
-  others = λ text at below. inl (ap (option_map (λ (f : Fork). branch_of f text)) (get-append forks (fork ∷ []) at below));
-}
+forked_first forks name gap fork past = grind (arith, length-append, get-last, get-append)
 
 -- where a search continues from a fork with another branch for a name
 turned-own : (fork : Fork) (name : Text) (branch : Branch) → branch_of (turned fork name branch) name ≡ branch
-turned-own fork name branch = by_cases (is_high fork name) refl
-  where
-    by_cases : (b : Bool) → is_high fork name ≡ b → branch_of (turned fork name branch) name ≡ branch
-    by_cases true is = rw is (rw is refl)
-    by_cases false is = rw is (rw is refl)
+turned-own fork name branch = grind (arith, common_steps)
 
 turned-of : (fork : Fork) (name text : Text) (branch : Branch) → (branch_of (turned fork name branch) text ≡ branch_of fork text)
     ⊎ ((branch_of (turned fork name branch) text ≡ branch) × (branch_of fork text ≡ branch_of fork name))
-turned-of fork name text branch = by_cases (is_high fork name) (is_high fork text) refl refl
-  where
-    by_cases : (a b : Bool) → is_high fork name ≡ a → is_high fork text ≡ b → (branch_of (turned fork name branch) text ≡ branch_of fork text)
-        ⊎ ((branch_of (turned fork name branch) text ≡ branch) × (branch_of fork text ≡ branch_of fork name))
-    by_cases true true one two = inr (rw one (rw two refl), rw (one, two) refl)
-    by_cases true false one two = inl (rw one (rw two refl))
-    by_cases false true one two = inl (rw one (rw two refl))
-    by_cases false false one two = inr (rw one (rw two refl), rw (one, two) refl)
+turned-of fork name text branch = grind (arith, common_steps)
 
 -- the last fork of a search turns to the next fork, which comes after all others
 forked_by : (forks changed : List Fork) (name : Text) (gap : ℕ) (fork last turn : Fork) → slice_get forks gap ≡ Some last → slice_get changed gap ≡ Some turn

@@ -1,20 +1,19 @@
 -- The fork of a new name.
 
-use Rattle.std.proofs.Common.{◌≡◌, ℕ, ◌+◌, ◌-◌, ◌<◌, ◌≤◌, ◌⊎◌, inl, inr, List, [], ◌∷◌, Bool, true, false, length, drop, get_or, slice_get, Some, bytes_eq}
-use Rattle.std.proofs.Common.{refl, sym, ap, ◌∙◌, subst, arith, ⊎_elim}
+use Rattle.std.proofs.Common.{◌≡◌, ℕ, ◌+◌, ◌<◌, ◌≤◌, ◌⊎◌, inl, inr, List, [], ◌∷◌, length, drop, get_or, slice_get, Some, bytes_eq}
+use Rattle.std.proofs.lemmas.Grind.{common_steps}
+use Rattle.std.proofs.Common.{sym, ap, ◌∙◌, subst, arith, ⊎_elim}
 use Rattle.std.specs.Prelude.{◌==◌, ◌/◌, ◌%◌, ◌^◌, slice_range}
 use Rattle.std.specs.Option.{option_map, option_map_or}
 use Rattle.std.proofs.Math.ListN.{drop_of_length-le}
-use Rattle.std.proofs.Math.Nat.{pow-suc, div-div-eq-div-mul, div-add-mod', div-eq_of_lt, mod-eq_of_lt}
+use Rattle.std.proofs.Math.Nat.{pow-suc, div-div-eq-div-mul, div-eq_of_lt, mod-eq_of_lt}
 use Rattle.std.proofs.Math.Numerals.{add-one}
 use Rattle.std.proofs.lemmas.Bool.{cases_lt}
-use Rattle.std.proofs.lemmas.Bool.Decides.{Decides-eqb}
 use Rattle.std.proofs.lemmas.List.{length-map, drop_more}
 use Rattle.std.proofs.lemmas.List.Folds.{list_any_at}
 use Rattle.std.proofs.lemmas.Option.{slice_get-get_or, slice_get_past}
 use Rattle.std.proofs.lemmas.Slice.Eq.{bytes_eq-Decides}
 use Rattle.text_model.specs.Texts.{Text}
-use Rattle.environment_model.specs.Environment.{is_among}
 use Rattle.target_vars.specs.Private.NamesValue.{NamesValue, placed_names, code_at, is_set, branch_of, branch_at, AreNames, IsGap, Separates}
 use Rattle.target_vars.specs.declared.names.NamePlace.{NamePlace}
 use Rattle.target_vars.specs.declared.names.forks.Fork.{Fork}
@@ -68,18 +67,10 @@ no_further v name gap next each is there = let number = gap_number v name gap (F
 
 pub gap_known : (v : NamesValue) (name : Text) (gap number : ℕ) → length v.listed ≡ length v.forks → IsGap v name gap
     → branch_at v.forks name gap ≡ Some (Ends number) → number < length v.listed
-gap_known v name gap number each is there =
-    let known = gap_number v name gap (Ends number) each is there in
-    let same = known.2 in
-    let here : number ≡ known.0 = cc in
-    subst (λ n. n < length v.listed) (sym here) known.1
+gap_known v name gap number each is there = grind (arith, gap_number)
 
 pub another : (v : NamesValue) (name : Text) (gap number : ℕ) → IsGap v name gap → number < length v.listed → name ≡ get_or v.listed number [] → ⊥
-another v name gap number is below same =
-    let there : is_among name v.listed ≡ true =
-    list_any_at (λ n. bytes_eq n name) v.listed number [] below ((bytes_eq-Decides (get_or v.listed number []) name).1 (sym same)) in
-    let lacks = is.lacks in
-    cc
+another v name gap number is below same = grind (arith, list_any_at, bytes_eq, below, bytes_eq-Decides)
 
 pub between_separates : (v : NamesValue) (name other : Text) (gap number count : ℕ) (fork : Fork) → length v.listed ≡ length v.forks → IsGap v name gap
     → branch_at v.forks name gap ≡ Some (Ends number) → count ≡ length v.listed → other ≡ get_or v.listed number []
@@ -119,39 +110,8 @@ halved : (x bit : ℕ) → x / 2 ^ (bit + 1) ≡ x / 2 ^ bit / 2
 halved x bit = ap (λ n. x / 2 ^ n) (add-one bit) ∙ ap (λ n. x / n) (pow-suc 2 bit) ∙ sym (div-div-eq-div-mul x (2 ^ bit) 2)
 
 same_parity : (m n : ℕ) → (m % 2 == 1) ≡ (n % 2 == 1) → m % 2 ≡ n % 2
-same_parity m n same = by_cases (m % 2 == 1) (n % 2 == 1) refl refl
-  where
-    by_cases : (a b : Bool) → (m % 2 == 1) ≡ a → (n % 2 == 1) ≡ b → m % 2 ≡ n % 2
-    by_cases true true one two = let x = (Decides-eqb (m % 2) 1).0 one in let y = (Decides-eqb (n % 2) 1).0 two in omega arith
-    by_cases false false one two =
-        let x : m % 2 ≡ 1 → ⊥ = λ is. (let yes = (Decides-eqb (m % 2) 1).1 is in cc) in
-        let y : n % 2 ≡ 1 → ⊥ = λ is. (let yes = (Decides-eqb (n % 2) 1).1 is in cc) in
-        omega arith
-    by_cases true false one two = absurd (cc)
-    by_cases false true one two = absurd (cc)
+same_parity m n same = grind (arith, common_steps)
 
 pub same_bit : (x y bit : ℕ) → x < 2 ^ 16 → y < 2 ^ 16 → bit < 16 → (x / 2 ^ bit ≡ y / 2 ^ bit → ⊥) → is_set x bit ≡ is_set y bit
     → (bit + 1 < 16) × (x / 2 ^ (bit + 1) ≡ y / 2 ^ (bit + 1) → ⊥)
-same_bit x y bit xs ys few differ same = (below, rest)
-  where
-    parity : (x / 2 ^ bit) % 2 ≡ (y / 2 ^ bit) % 2
-    parity =
-        let low : bit % 16 ≡ bit = mod-eq_of_lt few in
-        same_parity (x / 2 ^ bit) (y / 2 ^ bit) (subst (λ k. ((x / 2 ^ k) % 2 == 1) ≡ ((y / 2 ^ k) % 2 == 1)) low same)
-
-    rest : x / 2 ^ (bit + 1) ≡ y / 2 ^ (bit + 1) → ⊥
-    rest is =
-        let m = x / 2 ^ bit in
-        let n = y / 2 ^ bit in
-        let half : m / 2 ≡ n / 2 = sym (halved x bit) ∙ is ∙ halved y bit in
-        let one = div-add-mod' m 2 in
-        let two = div-add-mod' n 2 in
-        let odd = parity in
-        differ (omega arith)
-
-    below : bit + 1 < 16
-    below =
-        ⊎_elim (λ less. less)
-        (λ all. let last : bit + 1 ≡ 16 = omega arith in
-        absurd (rest (subst (λ k. x / 2 ^ k ≡ y / 2 ^ k) (sym last) (div-eq_of_lt xs ∙ sym (div-eq_of_lt ys)))))
-        (cases_lt (bit + 1) 16)
+same_bit x y bit xs ys few differ same = grind (arith, mod-eq_of_lt, same_parity, halved, div-eq_of_lt, cases_lt)

@@ -1,7 +1,7 @@
 -- Each name occurs once.
-use Rattle.std.proofs.Common.{◌≡◌, [], ◌∷◌, ◌++◌, Bool, true, false, is_some, bytes_eq, refl, sym, ap, ◌∙◌, subst}
+use Rattle.std.proofs.Common.{◌≡◌, [], ◌∷◌, ◌++◌, Bool, true, false, is_some, bytes_eq, refl, sym, ap, ◌∙◌, subst, arith}
 use Rattle.text_model.specs.Texts.{Text}
-use Rattle.environment_model.specs.Environment.{Environment, Entry, Several, is_there, with_member}
+use Rattle.environment_model.specs.Environment.{Environment, Entry, is_there, with_member}
 use Rattle.environment_model.proofs.Environments.{look_up-empty, look_up-other, other_in_front, absent_after, is_there-append, with_member-new}
 use Rattle.environment_model.proofs.Environments.{with_member-same, with_member-other, is_there-with_member}
 use Rattle.environment_model.proofs.NameTests.{differs_back}
@@ -26,9 +26,4 @@ once_longer (e ∷ env) name t there once = by_cases (bytes_eq e.name name) refl
         subst EachNameOnce (sym (with_member-other e env name t other)) (is_there-with_member env name t e.name there' ∙ once.0, following there' once.1)
 
 pub once-with_member : (env : Environment) (name t : Text) → EachNameOnce env → EachNameOnce (with_member env name t)
-once-with_member env name t once = by_cases (is_there env name) refl
-  where
-    by_cases : (b : Bool) → is_there env name ≡ b → EachNameOnce (with_member env name t)
-    by_cases true there = once_longer env name t there once
-    by_cases false absent =
-        subst EachNameOnce (sym (with_member-new env name t absent)) (once-push env (record { name = name; meaning = Several (t ∷ []) }) once absent)
+once-with_member env name t once = grind (arith, once_longer, with_member-new, once-push)

@@ -1,8 +1,9 @@
 -- Operators and bodies: what the reader needs to know of them, and that a body is at most one expression.
 use Rattle.std.proofs.Common.{◌≡◌, ℕ, ◌+◌, Bool, true, false, ⊎_elim, inl, inr, List, [], ◌∷◌, ◌++◌, length, drop, refl, ap, ◌∙◌, sym, subst, arith}
+use Rattle.std.proofs.lemmas.Grind.{common_steps}
 use Rattle.std.proofs.Common.{◌==◌, nat_eq}
 use Rattle.std.specs.List.{list_any}
-use Rattle.std.proofs.lemmas.Bool.{cases_Bool, cond-true, cond-false, eqb-true, or_from, or_parts, false≢true}
+use Rattle.std.proofs.lemmas.Bool.{cases_Bool, cond-true, cond-false, or_from, false≢true}
 use Rattle.std.proofs.lemmas.List.{append_cancel_left}
 use Rattle.uri_grammar.specs.declared.error.TemplateError.{TemplateError}
 use Rattle.uri_grammar.specs.declared.error.TemplateErrorKind.{TemplateErrorKind}
@@ -23,11 +24,7 @@ OperatorOf body = HasOperator body (operator_of body) (drop (length (operator_te
 has_this : (k : ℕ) (o : Op) (c : ℕ) (cs : List ℕ) → (c == k) ≡ true → operator_text o ≡ k ∷ [] → (o ≡ operator.Simple → ⊥)
     → begins_with_reserved (c ∷ cs) ≡ false → operator_of (c ∷ cs) ≡ o → OperatorOf (c ∷ cs)
 unfolding OperatorOf
-has_this k o c cs t text other h is =
-    let whole : c ∷ cs ≡ operator_text o ++ drop (length (operator_text o)) (c ∷ cs) =
-    ap (λ (x : ℕ). x ∷ cs) (eqb-true c k t) ∙ sym (ap (λ (x : List ℕ). x ++ drop (length x) (c ∷ cs)) text) in
-    subst (λ (q : Op). HasOperator (c ∷ cs) q (drop (length (operator_text q)) (c ∷ cs))) (sym is)
-    (record { whole = whole; not_reserved = h; chosen = λ s. absurd (other s) })
+has_this k o c cs t text other h is = grind (arith, common_steps)
 
 has_none : (body : List ℕ) → begins_with_reserved body ≡ false → begins_with_operator body ≡ false → operator_of body ≡ operator.Simple → OperatorOf body
 unfolding OperatorOf
@@ -42,40 +39,11 @@ any_none p x xs h k = or_from (p x) (list_any p xs) h k
 
 no_operator_here : (c : ℕ) (cs : List ℕ) → (c == 43) ≡ false → (c == 35) ≡ false → (c == 46) ≡ false → (c == 47) ≡ false → (c == 59) ≡ false
     → (c == 63) ≡ false → (c == 38) ≡ false → begins_with_operator (c ∷ cs) ≡ false
-no_operator_here c cs a b d e f g i =
-    any_none (nat_eq c) 43 (35 ∷ 46 ∷ 47 ∷ 59 ∷ 63 ∷ 38 ∷ []) a
-    (any_none (nat_eq c) 35 (46 ∷ 47 ∷ 59 ∷ 63 ∷ 38 ∷ []) b (any_none (nat_eq c) 46 (47 ∷ 59 ∷ 63 ∷ 38 ∷ []) d
-    (any_none (nat_eq c) 47 (59 ∷ 63 ∷ 38 ∷ []) e
-    (any_none (nat_eq c) 59 (63 ∷ 38 ∷ []) f (any_none (nat_eq c) 63 (38 ∷ []) g (any_none (nat_eq c) 38 [] i refl))))))
+no_operator_here c cs a b d e f g i = grind (arith, common_steps)
 
 has_operator : (body : List ℕ) → begins_with_reserved body ≡ false → OperatorOf body
 has_operator [] h = has_none [] h refl refl
-has_operator (c ∷ cs) h =
-    ⊎_elim (λ t. has_this 43 operator.Plus c cs t refl (different operator.Plus refl) h (cond-true (c == 43) _ _ t)) (λ a.
-    ⊎_elim (λ t. has_this 35 operator.Hash c cs t refl (different operator.Hash refl) h (cond-false (c == 43) _ _ a ∙ cond-true (c == 35) _ _ t)) (λ b.
-    ⊎_elim (λ t. has_this 46 operator.Dot c cs t refl (different operator.Dot refl) h
-    (cond-false (c == 43) _ _ a ∙ (cond-false (c == 35) _ _ b ∙ cond-true (c == 46) _ _ t))) (λ d.
-    ⊎_elim (λ t. has_this 47 operator.Slash c cs t refl (different operator.Slash refl) h
-    (cond-false (c == 43) _ _ a ∙ (cond-false (c == 35) _ _ b ∙ (cond-false (c == 46) _ _ d ∙ cond-true (c == 47) _ _ t)))) (λ e.
-    ⊎_elim (λ t. has_this 59 operator.Semicolon c cs t refl (different operator.Semicolon refl) h
-    (cond-false (c == 43) _ _ a
-    ∙ (cond-false (c == 35) _ _ b ∙ (cond-false (c == 46) _ _ d ∙ (cond-false (c == 47) _ _ e ∙ cond-true (c == 59) _ _ t))))) (λ f.
-    ⊎_elim (λ t. has_this 63 operator.Question c cs t refl (different operator.Question refl) h
-    (cond-false (c == 43) _ _ a
-    ∙ (cond-false (c == 35) _ _ b
-    ∙ (cond-false (c == 46) _ _ d ∙ (cond-false (c == 47) _ _ e ∙ (cond-false (c == 59) _ _ f ∙ cond-true (c == 63) _ _ t)))))) (λ g.
-    ⊎_elim (λ t. has_this 38 operator.Ampersand c cs t refl (different operator.Ampersand refl) h
-    (cond-false (c == 43) _ _ a
-    ∙ (cond-false (c == 35) _ _ b
-    ∙ (cond-false (c == 46) _ _ d
-    ∙ (cond-false (c == 47) _ _ e ∙ (cond-false (c == 59) _ _ f ∙ (cond-false (c == 63) _ _ g ∙ cond-true (c == 38) _ _ t))))))) (λ i.
-    has_none (c ∷ cs) h (no_operator_here c cs a b d e f g i)
-    (cond-false (c == 43) _ _ a
-    ∙ (cond-false (c == 35) _ _ b
-    ∙ (cond-false (c == 46) _ _ d
-    ∙ (cond-false (c == 47) _ _ e ∙ (cond-false (c == 59) _ _ f ∙ (cond-false (c == 63) _ _ g ∙ cond-false (c == 38) _ _ i)))))))
-    (cases_Bool (c == 38))) (cases_Bool (c == 63))) (cases_Bool (c == 59))) (cases_Bool (c == 47))) (cases_Bool (c == 46))) (cases_Bool (c == 35)))
-    (cases_Bool (c == 43))
+has_operator (c ∷ cs) h = grind (arith, has_this, different, cond-true, cond-false, has_none, no_operator_here, cases_Bool)
 
 pub operator_of-HasOperator : (body : List ℕ) → begins_with_reserved body ≡ false
     → HasOperator body (operator_of body) (drop (length (operator_text (operator_of body))) body)
@@ -84,23 +52,9 @@ operator_of-HasOperator body h = has_operator body h
 
 -- ---- one operator
 
-any_parts : (p : ℕ → Bool) (x : ℕ) (xs : List ℕ) → list_any p (x ∷ xs) ≡ false → (p x ≡ false) × (list_any p xs ≡ false)
-any_parts p x xs h = or_parts (p x) (list_any p xs) h
-
 operator_of-none : (cs : List ℕ) → begins_with_operator cs ≡ false → operator_of cs ≡ operator.Simple
 operator_of-none [] h = refl
-operator_of-none (c ∷ cs) h =
-    let a = any_parts (nat_eq c) 43 (35 ∷ 46 ∷ 47 ∷ 59 ∷ 63 ∷ 38 ∷ []) h in
-    let b = any_parts (nat_eq c) 35 (46 ∷ 47 ∷ 59 ∷ 63 ∷ 38 ∷ []) a.1 in
-    let d = any_parts (nat_eq c) 46 (47 ∷ 59 ∷ 63 ∷ 38 ∷ []) b.1 in
-    let e = any_parts (nat_eq c) 47 (59 ∷ 63 ∷ 38 ∷ []) d.1 in
-    let f = any_parts (nat_eq c) 59 (63 ∷ 38 ∷ []) e.1 in
-    let g = any_parts (nat_eq c) 63 (38 ∷ []) f.1 in
-    let i = any_parts (nat_eq c) 38 [] g.1 in
-    cond-false (c == 43) _ _ a.0
-    ∙ (cond-false (c == 35) _ _ b.0
-    ∙ (cond-false (c == 46) _ _ d.0
-    ∙ (cond-false (c == 47) _ _ e.0 ∙ (cond-false (c == 59) _ _ f.0 ∙ (cond-false (c == 63) _ _ g.0 ∙ cond-false (c == 38) _ _ i.0)))))
+operator_of-none (c ∷ cs) h = grind (arith, common_steps)
 
 operator_of-this : (body : List ℕ) (o : Op) (list : List ℕ) → body ≡ operator_text o ++ list → (o ≡ operator.Simple → begins_with_operator body ≡ false)
     → operator_of body ≡ o

@@ -88,20 +88,10 @@ list_one_fault list other k l d e same f g =
 -- ---- bodies
 
 pub body_same : (body : List ℕ) (o p : Op) (ss ts : List Spec) → IsBody body o ss → IsBody body p ts → (o ≡ p) × (ss ≡ ts)
-body_same body o p ss ts h k =
-    let ops = operator_same body o p h.0 k.0 h.1 k.1 in
-    let specs = specs_same ss ts (h.0 ++ comma ∷ []) (k.0 ++ comma ∷ []) [] [] h.2 k.2 nothing_no_spec nothing_no_spec
-    (ap (λ (t : List ℕ). (t ++ comma ∷ []) ++ []) ops.1) in
-    (ops.0, specs.0)
+body_same body o p ss ts h k = grind (arith, operator_same, specs_same, nothing_no_spec)
 
 pub no_empty_body : (body : List ℕ) (o : Op) (ss : List Spec) → body ≡ [] → IsBody body o ss → ⊥
-no_empty_body body o ss e h =
-    let nil : h.0 ≡ [] = none_left (operator_text o) h.0 (sym h.1.whole ∙ e) in
-    no_empty_list ss (subst (λ (t : List ℕ). SpellsSpecs (t ++ comma ∷ []) ss) nil h.2)
-  where
-    none_left : (xs ys : List ℕ) → xs ++ ys ≡ [] → ys ≡ []
-    none_left [] ys e = e
-    none_left (x ∷ xs) ys e = cc
+no_empty_body body o ss e h = grind (arith, no_empty_list)
 
 pub body_no_fault : (body : List ℕ) (o : Op) (ss : List Spec) (k : TemplateErrorKind) (d : ℕ) → IsBody body o ss → IsBodyFault body k d → ⊥
 body_no_fault body o ss k d h (reserved_operator b t) = both_ways (begins_with_reserved body) h.1.not_reserved t

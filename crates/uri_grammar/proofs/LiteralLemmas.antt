@@ -1,6 +1,7 @@
 -- Literals as a run of items, and how a literal grows by one item.
-use Rattle.std.proofs.Common.{◌≡◌, ℕ, ◌+◌, Bool, true, false, ◌||◌, List, [], ◌∷◌, ◌++◌, drop, take, refl, ◌∙◌, sym, subst, arith, ◌==◌, ◌&&◌}
+use Rattle.std.proofs.Common.{◌≡◌, ℕ, ◌+◌, true, false, List, [], ◌∷◌, ◌++◌, drop, take, refl, ◌∙◌, sym, subst, arith, ◌==◌, ◌&&◌}
 use Rattle.std.specs.Prelude.{if◌then◌else◌}
+use Rattle.std.proofs.lemmas.Grind.{common_steps}
 use Rattle.std.proofs.Math.Seq.{take-add}
 use Rattle.std.proofs.lemmas.Bool.{cond_both, cond-true, cond-false, eqb-true, and_parts, or_parts}
 use Rattle.text_model.specs.Texts.{begins_with_triplet, is_triplet, is_hexadecimal}
@@ -34,12 +35,7 @@ no_literal-length (c ∷ cs) h =
 
 pub no_length-literal : (cs : List ℕ) → literal_item_len cs ≡ 0 → begins_with_literal cs ≡ false
 no_length-literal [] h = refl
-no_length-literal (c ∷ cs) h = by_tests (is_literal_character c) (begins_with_triplet (c ∷ cs)) h
-  where
-    by_tests : (x y : Bool) → ◌≡◌ {A = ℕ} (if x then 1 else (if y then 3 else 0)) 0 → (x || y) ≡ false
-    by_tests true y e = absurd (omega (arith, e))
-    by_tests false true e = absurd (omega (arith, e))
-    by_tests false false e = refl
+no_length-literal (c ∷ cs) h = grind (arith, common_steps)
 
 -- no literal begins with a brace
 pub literal_item_len-brace : (cs : List ℕ) → literal_item_len (open_brace ∷ cs) ≡ 0

@@ -1,19 +1,18 @@
 -- Names as a run of items, how a name grows, and that a name is ASCII and URI text.
 use Rattle.std.proofs.Common.{◌≡◌, ℕ, ◌+◌, ◌<◌, ◌≤◌, true, false, ⊎_elim, suc, List, [], ◌∷◌, ◌++◌, length, drop, take, refl, ap, ◌∙◌, sym, subst, arith}
+use Rattle.std.proofs.lemmas.Grind.{common_steps}
 use Rattle.std.proofs.Common.{append_assoc, append-nil, length-append, ◌==◌, ◌&&◌, encode_utf8_all}
-use Rattle.std.specs.Char.{is_ascii_alphanumeric}
 use Rattle.std.proofs.Math.Seq.{take-add, take-length}
-use Rattle.std.proofs.lemmas.Bool.{cases_Bool, cond-true, cond-false, eqb-true, ne_eqb, both_ways, false_from_ne_true, and_parts, or_left}
+use Rattle.std.proofs.lemmas.Bool.{cases_Bool, cond-true, cond-false, eqb-true, ne_eqb, both_ways, false_from_ne_true, and_parts}
 use Rattle.std.proofs.lemmas.Bool.Decides.{nat_tests}
 use Rattle.std.proofs.lemmas.List.{length-take-le}
 use Rattle.std.proofs.lemmas.Str.{encode_ascii, encodes-append}
-use Rattle.text_model.specs.Texts.{begins_with_triplet, is_hexadecimal, is_unreserved, is_reserved}
+use Rattle.text_model.specs.Texts.{begins_with_triplet, is_hexadecimal, is_unreserved}
 use Rattle.text_model.specs.Writing.{is_unreserved_or_reserved}
 use Rattle.text_model.specs.UriText.{IsUriText}
 use Rattle.text_model.proofs.UriTexts.{IsUriText-append, IsUriText-character, IsUriText-triplet}
 use Rattle.text_model.proofs.Lists.{same_halves}
 use Rattle.text_model.proofs.UriAscii.{hexadecimal_below}
-use Rattle.text_model.proofs.TruthValues.{or_other}
 use Rattle.uri_grammar.specs.Private.Lengths.{varchar_len, next_len}
 use Rattle.uri_grammar.specs.Names.{is_name_character, IsVarchar, character_varchar, triplet_varchar, IsVarname, first_varchar, next_varchar, dotted_varchar}
 use Rattle.uri_grammar.specs.Names.{BeginsWithVarname}
@@ -43,11 +42,7 @@ next_len-varchar v x (triplet_varchar c d e t) =
     cond-false (c == 46) _ _ percent ∙ varchar_len-varchar (c ∷ d ∷ e ∷ []) x (triplet_varchar c d e t)
 
 next_len-dotted : (v x : List ℕ) → IsVarchar v → next_len (46 ∷ v ++ x) ≡ suc (length v)
-next_len-dotted v x h =
-    let size = varchar_len-varchar v x h in
-    let some = length-varchar v h in
-    let not_none : (varchar_len (v ++ x) == 0) ≡ false = ne_eqb (varchar_len (v ++ x)) 0 (λ (z : varchar_len (v ++ x) ≡ 0). omega (arith, z, size, some)) in
-    cond-false (varchar_len (v ++ x) == 0) _ _ not_none ∙ omega (arith, size)
+next_len-dotted v x h = grind (arith, varchar_len-varchar, length-varchar, ne_eqb, cond-false)
 
 IsVarchar-front : (cs : List ℕ) → 0 < varchar_len cs → IsVarchar (take (varchar_len cs) cs)
 IsVarchar-front [] h = absurd (omega arith)
@@ -160,11 +155,7 @@ encodes-varname name (dotted_varchar n v h k) =
 
 uri_character : (c : ℕ) → is_name_character c ≡ true → is_unreserved_or_reserved c ≡ true
 unfolding is_unreserved
-uri_character c w =
-    or_left (is_unreserved c) (is_reserved c) (⊎_elim
-    (λ a. or_left (is_ascii_alphanumeric c) _ a)
-    (λ a. subst (λ (k : ℕ). is_unreserved k ≡ true) (sym (eqb-true c 95 (or_other (is_ascii_alphanumeric c) (c == 95) w a))) refl)
-    (cases_Bool (is_ascii_alphanumeric c)))
+uri_character c w = grind (arith, common_steps)
 
 IsUriText-varchar : (v : List ℕ) → IsVarchar v → IsUriText v
 IsUriText-varchar v (character_varchar c w) = IsUriText-character c (uri_character c w)

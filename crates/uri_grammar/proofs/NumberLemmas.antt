@@ -1,11 +1,11 @@
 -- The numbers of prefixes, digit by digit, and their range.
 use Rattle.std.proofs.Common.{◌≡◌, ℕ, ◌+◌, ◌-◌, ◌*◌, ◌<◌, ◌≤◌, Bool, true, false, Some, None, List, [], ◌∷◌, length, get_or, drop, refl, ap, ◌∙◌, sym, arith}
+use Rattle.std.proofs.lemmas.Grind.{common_steps}
 use Rattle.std.proofs.Common.{◌&&◌, not, ◌==◌}
 use Rattle.std.specs.Prelude.{nat_le}
 use Rattle.std.specs.List.{list_all}
 use Rattle.std.specs.Char.{is_ascii_digit}
-use Rattle.std.proofs.Math.ListN.{drop_of_length-le}
-use Rattle.std.proofs.lemmas.Bool.{and_parts, and_from, leb-true, le-leb, lt-leb, cond-true, cond-false, eqb-false, not-true}
+use Rattle.std.proofs.lemmas.Bool.{and_parts, leb-true, lt-leb, cond-false, eqb-false, not-true}
 use Rattle.std.proofs.lemmas.List.{drop_more}
 use Rattle.std.proofs.Math.Bool.{and-false}
 use Rattle.text_model.specs.Number.{value_from}
@@ -87,9 +87,4 @@ too_large ds i n d h inside is l =
 
 pub all_read : (ds : List ℕ) (i n : ℕ) → HasRead ds i n → length ds ≤ i → begins_above_zero ds ≡ true → number_of ds ≡ Some n
 unfolding tests value_from
-all_read ds i n h ended started =
-    let none = drop_of_length-le ds ended in
-    let digits : list_all is_ascii_digit ds ≡ true = h.digits ∙ ap (list_all is_ascii_digit) none in
-    let value : value_from 0 ds ≡ n = h.value_is ∙ ap (value_from n) none in
-    let small : nat_le (value_from 0 ds) MAX_PREFIX ≡ true = le-leb (value_from 0 ds) MAX_PREFIX (omega (arith, value, h.small)) in
-    cond-true (is_max_length ds) _ _ (max_length-tests ds ∙ and_from _ _ started (and_from _ _ digits small)) ∙ ap (λ (x : ℕ). Some x) value
+all_read ds i n h ended started = grind (arith, common_steps)

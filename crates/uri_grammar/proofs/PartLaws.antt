@@ -204,10 +204,4 @@ one_first_fault text kind other at place r q =
     r
   where
     both : (cs ds : List ℕ) → cs ≡ ds → IsFirstFault cs kind at → IsFirstFault ds other place → (kind ≡ other) × (at ≡ place)
-    both cs ds same f g =
-        let ends = spelled_same f.parts g.parts f.front g.front f.rest g.rest f.spelled g.spelled (fault_no_part f.rest kind f.distance f.fault)
-        (fault_no_part g.rest other g.distance g.fault) (sym f.whole ∙ (same ∙ g.whole)) in
-        let faults = part_one_fault f.rest g.rest kind other f.distance g.distance ends.2 f.fault g.fault in
-        let front : length (encode_utf8_all f.front) ≡ length (encode_utf8_all g.front) = ap (λ (x : List ℕ). length (encode_utf8_all x)) ends.1 in
-        let distance : f.distance ≡ g.distance = faults.1 in
-        (faults.0, omega (arith, f.place, g.place, front, distance))
+    both cs ds same f g = grind (arith, spelled_same, fault_no_part, part_one_fault, encode_utf8_all)

@@ -1,5 +1,6 @@
 -- Modifiers and specs: what the reader needs to know of them, and that a text is at most one spec.
 use Rattle.std.proofs.Common.{◌≡◌, ℕ, ◌+◌, ◌<◌, ◌≤◌, Bool, true, false, ◌⊎◌, ⊎_elim, inl, inr, List, [], ◌∷◌, ◌++◌, length, get_or, drop, take, refl, ap, ◌∙◌}
+use Rattle.std.proofs.lemmas.Grind.{common_steps}
 use Rattle.std.proofs.Common.{sym, subst, arith, append_assoc, take-append-drop, length-append, ◌==◌, ◌&&◌, nat_eq, Some, None}
 use Rattle.std.proofs.Math.Seq.{take-add, take-append-add}
 use Rattle.std.proofs.lemmas.Bool.{cases_Bool, cond-true, cond-false, eqb-true, and_parts, false≢true}
@@ -56,12 +57,7 @@ modifier_same a b m n x y e (prefix_modifier j p) k = same_prefix b j n y e k
 modifier_ends : (a : List ℕ) (m : ℕ) (x : Bool) → IsModifier a m x → (next_len a ≡ 0) × ((a ≡ []) ⊎ (begins_with_modifier a ≡ true))
 modifier_ends a m x no_modifier = (refl, inl refl)
 modifier_ends a m x explode_modifier = (refl, inr refl)
-modifier_ends a m x (prefix_modifier digits p) = (colon digits, inr refl)
-  where
-    colon : (cs : List ℕ) → next_len (58 ∷ cs) ≡ 0
-    colon [] = refl
-    colon (c ∷ []) = refl
-    colon (c ∷ d ∷ cs) = refl
+modifier_ends a m x (prefix_modifier digits p) = grind (arith, common_steps)
 
 -- a prefix is at most the maximum, and an exploded variable has no prefix
 pub modifier_range : (a : List ℕ) (m : ℕ) (x : Bool) → IsModifier a m x → (m ≤ MAX_PREFIX) × (x ≡ true → m ≡ 0)
@@ -177,11 +173,7 @@ spec_before front rest more s h = record {
 
 pub SpellsSpecs-more : (ss : List Spec) (front piece : List ℕ) (s : Spec) → SpellsSpecs front ss → Lacks comma piece → IsSpec piece s
     → SpellsSpecs (front ++ (piece ++ comma ∷ [])) (ss ++ s ∷ [])
-SpellsSpecs-more [] front piece s h l is = (
-  [],
-  record { piece = piece; whole = ap (λ (t : List ℕ). t ++ (piece ++ comma ∷ [])) h; lacks = l; is_spec = is },
-  refl,
-)
+SpellsSpecs-more [] front piece s h l is = grind (arith, common_steps)
 SpellsSpecs-more (t ∷ ts) front piece s h l is =
     (h.0 ++ (piece ++ comma ∷ []), spec_before (front) (h.0) (piece ++ comma ∷ []) t h.1, SpellsSpecs-more ts h.0 piece s h.2 l is)
 

@@ -1,9 +1,10 @@
 -- Parts one after another: what the reader needs to know of expressions, parts and their errors.
 use Rattle.std.proofs.Common.{◌≡◌, ℕ, ◌+◌, ◌<◌, ◌≤◌, ⊎_elim, inl, inr, suc, List, [], ◌∷◌, ◌++◌, length, get_or, drop, take, refl, ap, ◌∙◌, sym, subst, arith}
+use Rattle.std.proofs.lemmas.Grind.{common_steps}
 use Rattle.std.proofs.Common.{append_assoc, append-nil, take-append-drop, true, false, ◌==◌, encode_utf8_all}
 use Rattle.std.proofs.Math.Seq.{take-add, take-append-add}
 use Rattle.std.proofs.lemmas.Bool.{eqb-true, eq-eqb, both_ways}
-use Rattle.std.proofs.lemmas.List.{drop_more, length-take-le}
+use Rattle.std.proofs.lemmas.List.{length-take-le}
 use Rattle.text_model.specs.Texts.{Text}
 use Rattle.text_model.specs.Writing.{written_ur}
 use Rattle.uri_grammar.specs.Characters.{open_brace, close_brace}
@@ -96,11 +97,7 @@ length-take_within n xs l = length-take-le n xs (omega arith)
 braced : (cs inner : List ℕ) (end : ℕ) → begins_with_brace cs ≡ true → inner ≡ drop 1 cs → end < length inner → get_or inner end 0 ≡ close_brace
     → cs ≡ open_brace ∷ take end inner ++ close_brace ∷ drop (end + 1) inner
 braced [] inner end b e l h = cc
-braced (c ∷ cs) inner end b e l h =
-    let is_brace : c ≡ open_brace = eqb-true c open_brace b in
-    let rest : drop end inner ≡ close_brace ∷ drop (end + 1) inner = drop_more inner end 0 l ∙ ap (λ x. x ∷ drop (end + 1) inner) h in
-    let whole : take end inner ++ close_brace ∷ drop (end + 1) inner ≡ cs = ap (λ x. take end inner ++ x) (sym rest) ∙ (take-append-drop end inner ∙ e) in
-    ap (λ x. x ∷ cs) is_brace ∙ ap (λ x. open_brace ∷ x) (sym whole)
+braced (c ∷ cs) inner end b e l h = grind (arith, common_steps)
 
 pub IsExpression-braced : (cs inner : List ℕ) (end : ℕ) (op : Op) (specs : List Spec) → begins_with_brace cs ≡ true → inner ≡ drop 1 cs → end < length inner
     → get_or inner end 0 ≡ close_brace → Lacks close_brace (take end inner) → IsBody (take end inner) op specs

@@ -1,12 +1,12 @@
 -- Tables that grow along edges: below every closed table, and closed at the end.
-use Rattle.std.proofs.Common.{◌≡◌, ℕ, suc, ◌+◌, ◌-◌, ◌*◌, ◌<◌, ◌≤◌, List, [], ◌∷◌, ◌++◌, length, Option, Some, None, true, refl, sym, ap, ◌∙◌, subst, arith}
+use Rattle.std.proofs.Common.{◌≡◌, ℕ, ◌+◌, ◌-◌, ◌*◌, ◌<◌, ◌≤◌, List, [], ◌∷◌, ◌++◌, length, Option, Some, None, true, refl, sym, ap, ◌∙◌, subst, arith}
+use Rattle.std.proofs.lemmas.Grind.{common_steps}
 use Rattle.std.proofs.Common.{⊎_elim}
-use Rattle.std.specs.Prelude.{option_and_then}
 use Rattle.std.specs.List.{AllByRecursion}
 use Rattle.std.proofs.Math.Path.{fun_ext}
 use Rattle.std.proofs.lemmas.Bool.{cases_lt}
 use Rattle.std.proofs.lemmas.Option.{same_Some, slice_get_past}
-use Rattle.code_model.specs.Code.{Code, reading, reading_at}
+use Rattle.code_model.specs.Code.{Code, reading_at}
 use Rattle.code_model.specs.declared.code.Instruction.{Instruction}
 use Rattle.machine_model.specs.declared.kind.Kind.{Kind}
 use Rattle.machine_model.specs.declared.kind.Kind.TheVariants.{Any}
@@ -86,12 +86,7 @@ module _ (c : Code) where
 
   -- a place without kinds has no edges
   pub closed_past_none : (p : ℕ) (t : Table) → t p ≡ None → IsClosedBefore c p t → IsClosedBefore c (p + 1) t
-  closed_past_none p t none h =
-      record {
-        first = h.first;
-        along = λ q ms lt is. ⊎_elim (λ less. h.along q ms less is) (λ more. let e : q ≡ p = omega arith in
-            let n : None ≡ Some ms = sym none ∙ ap t (sym e) ∙ is in absurd (cc)) (cases_lt q p);
-      }
+  closed_past_none p t none h = grind (arith, common_steps)
 
   above_any : (k : Kind) → kind_le Any k ≡ true → k ≡ Any
   above_any Any h = refl
@@ -99,16 +94,7 @@ module _ (c : Code) where
 
   -- closed before the end is closed
   pub closed_all : (n : ℕ) (t : Table) → length c.instrs ≤ n → IsClosedBefore c n t → IsClosed c t
-  closed_all n t le h =
-      record {
-        first = h.first.1 ∙ ap Some (fun_ext (λ r. above_any (h.first.0 r) (h.first.2.at r)));
-        along = λ p ks known. ⊎_elim (λ lt. h.along p ks lt known) (past p ks) (cases_lt p n);
-      }
-    where
-      past : (p : ℕ) (ks : Kinds) → n ≤ p → AllByRecursion (Holds t) (edges_at c p ks)
-      past p ks more =
-          let r : reading_at c p ≡ None = ap (option_and_then (reading c.version)) (slice_get_past c.instrs p (omega arith)) in
-          subst (λ o. AllByRecursion (Holds t) (for_instruction o (edges p ks (body_at c p)))) (sym r) tt
+  closed_all n t le h = grind (arith, fun_ext, above_any, cases_lt, slice_get_past)
 
   pub least_of : (n : ℕ) (t : Table) → length c.instrs ≤ n → IsClosedBefore c n t → IsBelowClosed c t → IsLeast c t
   least_of n t le h b = record { closed = closed_all n t le h; least = b }
@@ -118,18 +104,7 @@ module _ (c : Code) where
 -- one place further, or back with fewer possible rises left
 pub less_left : (n from to old new : ℕ) → from < n → to ≤ from + 1 → new ≤ old → (to < from + 1 → new < old)
     → new * (n + 1) + (n - to) < old * (n + 1) + (n - from)
-less_left n from to old new lt on less back = ⊎_elim rose further (cases_lt to (from + 1))
-  where
-    rose : to < from + 1 → new * (n + 1) + (n - to) < old * (n + 1) + (n - from)
-    rose h =
-        let k : new < old = back h in
-        let m : old ≡ (old - suc new) + suc new = omega arith in
-        subst (λ x. new * (n + 1) + (n - to) < x * (n + 1) + (n - from)) (sym m) (omega arith)
-
-    further : from + 1 ≤ to → new * (n + 1) + (n - to) < old * (n + 1) + (n - from)
-    further h =
-        let m : old ≡ (old - new) + new = omega arith in
-        subst (λ x. new * (n + 1) + (n - to) < x * (n + 1) + (n - from)) (sym m) (omega arith)
+less_left n from to old new lt on less back = grind (arith, common_steps)
 
 pub less_left_in : (n m from to old new : ℕ) → m ≡ n → from < n → to ≤ from + 1 → new ≤ old → (to < from + 1 → new < old)
     → new * (m + 1) + (m - to) < old * (n + 1) + (n - from)

@@ -2,6 +2,7 @@
 use Rattle.std.proofs.Common.{◌≡◌, ℕ, ◌+◌, ◌<◌, ◌≤◌, List, [], ◌∷◌, ◌++◌, length, Option, Some, None, true, refl, sym, ◌∙◌, subst, arith, ◌⊎◌, inl, inr}
 use Rattle.std.specs.Prelude.{nat_lt}
 use Rattle.std.specs.List.{AllByRecursion}
+use Rattle.std.proofs.lemmas.Grind.{common_steps}
 use Rattle.std.proofs.lemmas.Bool.{ltb-true}
 use Rattle.std.proofs.lemmas.Option.{same_Some}
 use Rattle.code_model.specs.Code.{Code, reading_at}
@@ -40,11 +41,7 @@ at_later from next (f ∷ fs) to le (inr h) = by_rest (at_later from next fs to 
 
 pub continues_after_both : (from next : ℕ) (es fs : List Edge) (to : ℕ) → next ≤ from → ContinuesAt from es next → ContinuesAt next fs to
     → ContinuesAt from (es ++ fs) to
-continues_after_both from next es fs to le first second = by_case (at_later from next fs to le second)
-  where
-    by_case : (to ≡ next) ⊎ ContinuesAt from fs to → ContinuesAt from (es ++ fs) to
-    by_case (inl same) = at_left from es fs to (subst (ContinuesAt from es) (sym same) first)
-    by_case (inr later) = at_right from es fs to later
+continues_after_both from next es fs to le first second = grind (arith, at_later, at_left, at_right)
 
 -- ---- the edges of a place of good form
 
@@ -83,11 +80,7 @@ module _ (c : Code) (form : HasGoodForm c) where
   next_or_head : (p : ℕ) (es : List Edge) (to : ℕ) → AllByRecursion (LeadsOnOrBack c p) es → ContinuesAt (p + 1) es to → (to ≡ p + 1) ⊎ IsReturn c p to
   next_or_head p [] to h at = inl at
   next_or_head p (e ∷ es) to h (inr at) = next_or_head p es to h.1 at
-  next_or_head p (e ∷ es) to h (inl at) = by_end h.0
-    where
-      by_end : LeadsOnOrBack c p e → (to ≡ p + 1) ⊎ IsReturn c p to
-      by_end (inl further) = absurd (omega (arith, at.0, at.1, further))
-      by_end (inr back) = inr (subst (IsReturn c p) (sym at.0) back)
+  next_or_head p (e ∷ es) to h (inl at) = grind (arith, common_steps)
 
   pub continues : (p : ℕ) (ks : Kinds) (o : Option Body) (i : Instruction) (es fs : List Edge) (next to : ℕ)
       → p < length c.instrs → o ≡ body_at c p → reading_at c p ≡ Some i → es ++ fs ≡ edges p ks o i

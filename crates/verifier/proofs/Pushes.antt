@@ -1,7 +1,7 @@
 -- A table after an edge is followed, whether its row changes or not; and the table at the start.
 use Rattle.std.proofs.Common.{◌≡◌, ◌≢◌, ℕ, zero, suc, ◌<◌, ◌≤◌, List, [], ◌∷◌, length, get_or, set, replicate, Option, Some, None, Bool, true, false, refl, sym}
-use Rattle.std.proofs.Common.{ap, ◌∙◌, subst, arith, length-set, ⊎_elim}
-use Rattle.std.proofs.lemmas.Bool.{cases_lt}
+use Rattle.std.proofs.lemmas.Grind.{common_steps}
+use Rattle.std.proofs.Common.{ap, ◌∙◌, subst, arith, length-set}
 use Rattle.std.specs.Prelude.{option_map}
 use Rattle.code_model.specs.Code.{Code}
 use Rattle.machine_model.specs.declared.kind.Kind.{Kind}
@@ -20,12 +20,7 @@ module _ (rows : List (Option Row)) (to : ℕ) (row : Row) where
 
   pub written_on : (next n : ℕ) → to < length rows → row_rises row.kinds < place_rises (get_or rows to None) → n ≤ next
       → Continues next n rows (set rows to (Some row))
-  written_on next n lt less le = record {
-    long = length-set rows to (Some row);
-    on = le;
-    less = omega (arith, table_rises_set rows to (Some row) lt, less);
-    back = λ _. omega (arith, table_rises_set rows to (Some row) lt, less);
-  }
+  written_on next n lt less le = grind (arith, length-set, table_rises_set)
 
   pub first_follows : to < length rows → get_or rows to None ≡ None → Follows (edge to (kinds_of row) ∷ []) (table_of rows) (table_of (set rows to (Some row)))
   first_follows lt is =
@@ -73,13 +68,7 @@ pub same_both : (n m : ℕ) (t u v : Table) → m ≤ n → IsSameBefore n t u �
 same_both n m t u v le a b q lt = b q lt ∙ a q (omega arith)
 
 pub on_both : (from next to : ℕ) (t u v : List (Option Row)) → Continues from next t u → Continues next to u v → Continues from to t v
-on_both from next to t u v a b = record {
-  long = b.long ∙ a.long;
-  on = omega (arith, a.on, b.on);
-  less = omega (arith, a.less, b.less);
-  back = λ lt. ⊎_elim (λ less. omega (arith, a.back less, b.less)) (λ le. let same : next ≡ from = omega (arith, a.on) in
-      let before : to < next = omega arith in omega (arith, a.less, b.back before)) (cases_lt next from);
-}
+on_both from next to t u v a b = grind (arith, common_steps)
 
 -- ---- the table at the start
 

@@ -1,6 +1,7 @@
 -- Rows of kinds, and tables of rows, in which one place is changed.
 use Rattle.std.proofs.Common.{◌≡◌, ℕ, ◌<◌, List, [], ◌∷◌, length, set, Option, Some, None, Bool, true, false, refl, sym, ap, ◌∙◌, subst, get_or-set_other}
-use Rattle.std.proofs.Common.{get_or-set_same}
+use Rattle.std.proofs.lemmas.Grind.{common_steps}
+use Rattle.std.proofs.Common.{get_or-set_same, arith}
 use Rattle.std.specs.Prelude.{◌==◌}
 use Rattle.std.specs.List.{AllByRecursion}
 use Rattle.std.proofs.lemmas.Bool.{eqb-true, eq-eqb, false≢true}
@@ -36,14 +37,7 @@ follows_one t u e ks a here other =
 
     below : (v : Table) → AllByRecursion (Holds v) (e ∷ []) → TableBelow t v → (p : ℕ) (ms : Kinds) → u p ≡ Some ms → (b : Bool) → (p == e.to) ≡ b
         → (ns : Kinds) × (v p ≡ Some ns) × IsBelow ms ns
-    below v holds b p ms known true s =
-        let same = eqb-true p e.to s in
-        let is : ks ≡ ms = same_Some _ _ (sym here ∙ ap u (sym same) ∙ known) in
-        let h = holds.0 in (
-          h.0,
-          ap v same ∙ h.1,
-          subst (λ x. IsBelow x h.0) is (a.least h.0 (λ xs was. let d = b e.to xs was in subst (IsBelow xs) (same_Some _ _ (sym d.1 ∙ h.1)) d.2) h.2),
-        )
+    below v holds b p ms known true s = grind (arith, common_steps)
     below v holds b p ms known false s = b p ms (sym (other p (λ same. false≢true (sym s ∙ eq-eqb p e.to same))) ∙ known)
 
 pub arrives_first : (ks : Kinds) → Arrives None ks ks

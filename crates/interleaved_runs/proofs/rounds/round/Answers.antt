@@ -1,9 +1,9 @@
-use Rattle.std.proofs.Common.{◌≡◌, List, [], ◌∷◌, map, refl, ap, subst}
-use Rattle.std.specs.Prelude.{IfOk, OnOk, OnErr}
+use Rattle.std.proofs.Common.{◌≡◌, List, [], ◌∷◌, map, refl, ap, subst, arith}
+use Rattle.std.specs.Prelude.{IfOk}
 use Rattle.std.specs.List.{zip}
+use Rattle.std.proofs.lemmas.Grind.{common_steps}
 use Rattle.target_vars.specs.EnvValue.{EnvValue}
 use Rattle.interleaved_runs.specs.Fates.{fate_of, fate_value}
-use Rattle.interleaved_runs.specs.StepLists.{HasSeenAll, HasSeenSome, step_lists_of}
 use Rattle.interleaved_runs.proofs.rounds.round.Goals as goal
 
 -- an `Env` as a scope has the same value
@@ -17,15 +17,7 @@ returns-clause-fates g c =
     (each_itself c.args.envs.now) c.round_over.ensures.fates
 
 pub returns-clause-observed : goal.returns-clause-observed
-returns-clause-observed g c =
-    let told = g.W.Watch.lists c.args.watch.now in
-    let observed = g.W.Watch.lists c.round_over.new.watch in
-    subst (λ envs. OnOk c.round_over.result (HasSeenAll (step_lists_of (zip (map (λ code. code.now) c.args.codes.now) envs)) told observed))
-    (each_itself c.args.envs.now) c.round_over.ensures.observed
+returns-clause-observed g c = grind (arith, common_steps)
 
 pub returns-clause-err : goal.returns-clause-err
-returns-clause-err g c =
-    let told = g.W.Watch.lists c.args.watch.now in
-    let observed = g.W.Watch.lists c.round_over.new.watch in
-    subst (λ envs. OnErr c.round_over.result (HasSeenSome (step_lists_of (zip (map (λ code. code.now) c.args.codes.now) envs)) told observed))
-    (each_itself c.args.envs.now) c.round_over.ensures.err
+returns-clause-err g c = grind (arith, common_steps)

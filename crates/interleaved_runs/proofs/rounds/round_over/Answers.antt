@@ -1,11 +1,12 @@
-use Rattle.std.proofs.Common.{◌≡◌, ap, sym, ◌∙◌, subst, map, length}
+use Rattle.std.proofs.Common.{◌≡◌, ap, sym, ◌∙◌, subst, map, length, arith}
 use Rattle.std.specs.Prelude.{IfOk}
 use Rattle.std.specs.List.{zip}
+use Rattle.std.proofs.lemmas.Grind.{common_steps}
 use Rattle.interleaved_runs.specs.Fates.{fate_value}
 use Rattle.interleaved_runs.specs.Private.Rounds.{AreOfTheSame}
-use Rattle.interleaved_runs.specs.StepLists.{HasSeenAll, HasSeenSome, step_lists_of}
+use Rattle.interleaved_runs.specs.StepLists.{HasSeenSome, step_lists_of}
 use Rattle.interleaved_runs.proofs.FateLemmas.{fates_after_turns, runs_after_turns}
-use Rattle.interleaved_runs.proofs.StepListLemmas.{all_seen, nothing_seen, on_err}
+use Rattle.interleaved_runs.proofs.StepListLemmas.{nothing_seen, on_err}
 use Rattle.interleaved_runs.proofs.rounds.round_over.Goals as goal
 
 pub returns-in_err-run_set-clause-err : goal.returns-in_err-run_set-clause-err
@@ -37,9 +38,4 @@ returns-clause-fates g c =
     c.finish_all.ensures
 
 pub returns-clause-err : goal.returns-clause-err
-returns-clause-err g c =
-    let lists = step_lists_of (zip (map (λ code. code.now) c.args.codes.now) (map g.E.Scope.environment c.args.envs.now)) in
-    let told = g.W.Watch.lists c.args.watch.now in
-    let observed = g.W.Watch.lists c.turn_until_ended.new.watch in
-    let all : HasSeenAll lists told observed = cc (c.in_ok-turn_until_ended.ensures.ok, c.as_mut_slice.ensures.value, c.in_ok-run_set.ensures.runs) in
-    on_err c.finish_all.result (HasSeenSome lists told observed) (all_seen lists told observed all)
+returns-clause-err g c = grind (arith, common_steps)

@@ -1,4 +1,5 @@
 use Rattle.std.proofs.Common.{◌≡◌, ◌+◌, ◌<◌, ◌≤◌, ℕ, zero, suc, Bor, Vec, Global, List, [], ◌∷◌, ◌++◌, Option, Some, None, slice_get, length, sym, ap, ◌∙◌}
+use Rattle.std.proofs.lemmas.Grind.{common_steps}
 use Rattle.std.proofs.Common.{arith, append-nil}
 use Rattle.std.specs.List.{cons_option, filter_map, range_with_len}
 use Rattle.std.specs.Option.{option_copied}
@@ -34,15 +35,7 @@ ended (name ∷ header) zero within none = absurd (cc)
 ended (name ∷ header) (suc column) within none = ap suc (ended header column (omega (arith, within)) none)
 
 pub loop-name-init : goal.loop-name-init
-loop-name-init c =
-    let is = c.new-header.ensures in
-    record {
-      line = ap (λ (cursor : CursorValue). cells_in cursor.line) is ∙ c.header.ensures.cells;
-      short = omega (arith, ap (λ (cursor : CursorValue). length cursor.line) is, c.header.ensures.short);
-      column = ap (λ (cursor : CursorValue). cursor.column) is;
-      within = omega arith;
-      keys = c.new-keys.ensures.items;
-    }
+loop-name-init c = grind (arith, common_steps)
 
 pub hidden_key-requires : goal.hidden_key-requires
 hidden_key-requires c =

@@ -1,5 +1,6 @@
 use Rattle.std.proofs.Common.{◌≡◌, ℕ, ◌+◌, List, ◌∷◌, length, take, get_or, sym, ap, ◌∙◌, arith}
 use Rattle.std.specs.Prelude.{sum_by}
+use Rattle.std.proofs.lemmas.Grind.{common_steps}
 use Rattle.std.proofs.lemmas.List.{take_all}
 use Rattle.text_model.specs.Texts.{Text}
 use Rattle.environment_model.specs.Environment.{byte_count, member_count}
@@ -16,26 +17,10 @@ pub loop-number-init : goal.loop-number-init
 loop-number-init c = record { bytes = c.sums-bytes.ensures.bytes; members = c.sums-bytes.ensures.members }
 
 pub overflow_add-bytes : goal.overflow_add-bytes
-overflow_add-bytes c =
-    let pairs = c.args.request.now.pairs in
-    omega (
-      arith,
-      c.loop-number.invariant.bytes,
-      c.requests_are_small.ensures.bytes (names_at c.args.code.now (take c.loop-number.number-index c.args.lists.now)) pairs,
-      c.sums-bytes.ensures.known.small,
-      c.sums_of-all_bytes.ensures.small,
-    )
+overflow_add-bytes c = grind (arith, common_steps)
 
 pub overflow_add-members : goal.overflow_add-members
-overflow_add-members c =
-    let pairs = c.args.request.now.pairs in
-    omega (
-      arith,
-      c.loop-number.invariant.members,
-      c.requests_are_small.ensures.members (names_at c.args.code.now (take c.loop-number.number-index c.args.lists.now)) pairs,
-      c.sums-bytes.ensures.known.few_pairs,
-      c.sums_of-all_bytes.ensures.small,
-    )
+overflow_add-members c = grind (arith, common_steps)
 
 pub loop-number-preserved : goal.loop-number-preserved
 loop-number-preserved c =

@@ -1,7 +1,8 @@
-use Rattle.std.proofs.Common.{◌≡◌, true, false, [], ◌∷◌, get_or, sym, ◌∙◌}
+use Rattle.std.proofs.Common.{◌≡◌, true, [], ◌∷◌, get_or, sym, ◌∙◌, arith}
+use Rattle.std.proofs.lemmas.Grind.{common_steps}
 use Rattle.table_inspection.specs.Columns.{is_ignored}
 use Rattle.table_inspection.specs.Findings.{IgnoredColumn}
-use Rattle.table_inspection.proofs.AddingLemmas.{adds_one, adds_if_true, adds_if_false}
+use Rattle.table_inspection.proofs.AddingLemmas.{adds_one, adds_if_true}
 use Rattle.table_inspection.proofs.columns.add_if_ignored.Goals as goal
 
 pub returns-then-is_ignored : goal.returns-then-is_ignored
@@ -13,8 +14,4 @@ returns-then-is_ignored c =
     adds_if_true (is_ignored header c.args.column) (IgnoredColumn name ∷ []) _ _ yes (adds_one _ _ (IgnoredColumn name) added)
 
 pub returns : goal.returns
-returns c =
-    let header = c.args.table.now.header in
-    let name = get_or header c.args.column [] in
-    let no : is_ignored header c.args.column ≡ false = sym c.is_ignored.ensures ∙ c.if-is_ignored.false in
-    adds_if_false (is_ignored header c.args.column) (IgnoredColumn name ∷ []) _ no
+returns c = grind (arith, common_steps)

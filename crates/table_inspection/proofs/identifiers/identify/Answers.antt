@@ -1,32 +1,18 @@
-use Rattle.std.proofs.Common.{◌≡◌, ◌==◌, ◌<◌, [], length, take, get_or, codes, string_bytes, sym, ap, ◌∙◌, arith}
-use Rattle.std.proofs.lemmas.List.{take_all, take_more, length-take-le}
-use Rattle.std.specs.Option.{unwrap_or}
-use Rattle.std.specs.Map.{lookup}
-use Rattle.std.specs.Prelude.{is_some}
-use Rattle.std.specs.Str.{bytes_eq}
+use Rattle.std.proofs.Common.{◌==◌, ◌<◌, [], length, take, get_or, codes, sym, ap, ◌∙◌, arith}
+use Rattle.std.proofs.lemmas.Grind.{common_steps}
+use Rattle.std.proofs.lemmas.List.{take_more, length-take-le}
 use Rattle.kbart_rows.specs.Cells.{cell_in, column_of, defined, Row}
 use Rattle.kbart_rows.specs.Identifiers.{identifier_columns}
 use Rattle.table_inspection.specs.Cells.{cell_faults, has_no_identifier, is_numbered, row_faults}
 use Rattle.table_inspection.specs.Identifiers.{distinct, identifiers_of, rows_having}
 use Rattle.table_inspection.specs.Private.Forms.{normal_form}
 use Rattle.table_inspection.proofs.CountingLemmas.{having_few, identifiers_of_two, none_of_two, row_counted}
-use Rattle.table_inspection.proofs.RowCells.{no_cells_yet, no_rows_yet, rows_step, two_cells_step}
+use Rattle.table_inspection.proofs.RowCells.{rows_step, two_cells_step}
 use Rattle.table_inspection.proofs.identifiers.identify.Goals as goal
 
 pub loop-row-init : goal.loop-row-init
 unfolding identifiers_of distinct rows_having
-loop-row-init c = record {
-  counted = record {
-    numbers = λ id. ap (λ (entries : _). unwrap_or (lookup (λ key. bytes_eq id (string_bytes key)) entries) 0) c.with_hasher-counts.ensures.empty;
-    knows = λ id. ap (λ (entries : _). is_some (lookup (λ key. bytes_eq id (string_bytes key)) entries)) c.with_hasher-counts.ensures.empty;
-    counts = c.with_hasher-counts.ensures.len;
-  };
-  most = λ id.
-      let none = ap (λ (entries : _). unwrap_or (lookup (λ key. bytes_eq id (string_bytes key)) entries) 0) c.with_hasher-counts.ensures.empty in
-      omega (arith, none);
-  unidentified = no_rows_yet _ _ _ _ c.none-unidentified.ensures;
-  bad_numbers = no_cells_yet _ _ _ _ _ _ c.none-bad_numbers.ensures;
-}
+loop-row-init c = grind (arith, common_steps)
 
 pub count_row-requires : goal.count_row-requires
 count_row-requires c = λ id.
@@ -68,14 +54,4 @@ loop-row-preserved c =
 
 pub returns : goal.returns
 unfolding cell_faults row_faults
-returns c =
-    let inv = c.loop-row.invariant in
-    let table = c.args.table.now in
-    let all = take_all c.loop-row.row table.rows (omega (arith, c.rows-row-end.ensures.count, c.loop-row-test.false)) in
-    let end : c.loop-row.row ≡ length table.rows = omega (arith, c.rows-row-end.ensures.count, c.loop-row-test.false, c.loop-row.auto.row-end) in
-    record {
-      counts = rw all at inv.counted;
-      most = inv.most;
-      unidentified = rw (← end) inv.unidentified.gathered;
-      bad_numbers = rw (← end) inv.bad_numbers.gathered;
-    }
+returns c = grind (arith, common_steps)

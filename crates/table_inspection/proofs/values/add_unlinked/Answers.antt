@@ -1,8 +1,9 @@
-use Rattle.std.proofs.Common.{codes, is_some, not, refl, sym, ap, ◌∙◌}
+use Rattle.std.proofs.Common.{codes, is_some, not, sym, ap, ◌∙◌, arith}
+use Rattle.std.proofs.lemmas.Grind.{common_steps}
 use Rattle.kbart_rows.specs.Cells.{column_of}
 use Rattle.table_inspection.specs.Cells.{unlinked, has_no_link, of_rows, row_faults}
 use Rattle.table_inspection.specs.Findings.{RowsWithoutLink}
-use Rattle.table_inspection.proofs.AddingLemmas.{adds_if_true, adds_if_false}
+use Rattle.table_inspection.proofs.AddingLemmas.{adds_if_false}
 use Rattle.table_inspection.proofs.values.add_unlinked.Goals as goal
 
 pub returns-then-is_none : goal.returns-then-is_none
@@ -14,8 +15,4 @@ returns-then-is_none c =
 
 pub returns : goal.returns
 unfolding unlinked
-returns c =
-    let table = c.args.table.now in
-    let yes = ap is_some (sym c.column.ensures.first) ∙ c.is_none.ensures ∙ ap not c.if-is_none.false in
-    adds_if_true (is_some (column_of table.header (codes "title_url"))) (of_rows RowsWithoutLink (row_faults (has_no_link table.header) table)) _ _ yes
-    (c.in_ok-tell.ensures RowsWithoutLink _ c.requires (λ count first. refl) (λ count first. refl))
+returns c = grind (arith, common_steps)

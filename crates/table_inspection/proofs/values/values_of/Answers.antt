@@ -1,4 +1,5 @@
 use Rattle.std.proofs.Common.{◌≡◌, ℕ, [], codes, length, get_or, ap, ◌∙◌, arith}
+use Rattle.std.proofs.lemmas.Grind.{common_steps}
 use Rattle.std.proofs.Common.{drop, not}
 use Rattle.std.proofs.Common.{Bool, Bor, Option, None, Some, true, false, refl, sym}
 use Rattle.std.proofs.lemmas.Bool.{false≢true}
@@ -10,17 +11,11 @@ use Rattle.kbart_rows.specs.Cells.{cell_in, column_of, Row}
 use Rattle.menu.specs.WebLink.{is_web_link}
 use Rattle.table_inspection.specs.Cells.{cell_faults, has_no_link, is_date, is_long, row_faults}
 use Rattle.table_inspection.proofs.CellLemmas.{any_text}
-use Rattle.table_inspection.proofs.RowCells.{cells_step, no_cells_yet, no_rows_yet, rows_step}
+use Rattle.table_inspection.proofs.RowCells.{cells_step, rows_step}
 use Rattle.table_inspection.proofs.values.values_of.Goals as goal
 
 pub loop-row-init : goal.loop-row-init
-loop-row-init c = record {
-  first_dates = no_cells_yet _ _ _ _ _ _ c.none.ensures;
-  last_dates = no_cells_yet _ _ _ _ _ _ c.none-2.ensures;
-  links = no_cells_yet _ _ _ _ _ _ c.none-3.ensures;
-  unlinked = no_rows_yet _ _ _ _ c.none-4.ensures;
-  long_rows = no_rows_yet _ _ _ _ c.none-5.ensures;
-}
+loop-row-init c = grind (arith, common_steps)
 
 undefined : (cell : Option (Bor Text)) (is : Bool) → is_some cell ≡ not is → is ≡ is_none (option_copied cell)
 undefined None true some = refl

@@ -1,9 +1,10 @@
-use Rattle.std.proofs.Common.{◌≡◌, ℕ, List, Option, Some, sym, subst}
+use Rattle.std.proofs.Common.{◌≡◌, List, Some, subst, arith}
+use Rattle.std.proofs.lemmas.Grind.{common_steps}
 use Rattle.text_model.specs.Texts.{Text}
 use Rattle.environment_model.specs.Lists.{is_list}
 use Rattle.row_laws.specs.Shadowing.{requested}
 use Rattle.row_scope.specs.Bindings.{IsBound, laid_in}
-use Rattle.row_scope.specs.NameNumbers.{IsOwn, own_number}
+use Rattle.row_scope.specs.NameNumbers.{own_number}
 use Rattle.row_scope.specs.RowValue.{KnownValue}
 use Rattle.row_scope.specs.Private.Kept.{IsKnown}
 use Rattle.row_scope.specs.declared.binding.Binding.{Binding}
@@ -17,11 +18,7 @@ BindsAs known declared = IsBound (laid_in known.request.values (requested declar
 
 -- the number is that of no other name
 its_own : (c : Joined-get_mut) → own_number c.self.inside.numbers.now c.args.name.now ≡ Some c.in-Some.number
-its_own c =
-    let name = c.args.name.now in
-    let own : own_number c.args.self.now.numbers name ≡ Some c.in-Some.number =
-    subst (λ (number : Option ℕ). IsOwn c.args.self.now.numbers name number) c.in-Some.is c.requires in
-    subst (λ (known : KnownValue). own_number known.numbers name ≡ Some c.in-Some.number) (sym c.self.view_is) own
+its_own c = grind (arith, common_steps)
 
 pub invariant_of-self : goal.invariant_of-self
 invariant_of-self c =

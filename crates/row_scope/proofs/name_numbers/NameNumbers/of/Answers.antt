@@ -1,4 +1,5 @@
 use Rattle.std.proofs.Common.{◌≡◌, ℕ, ◌∷◌, [], List, Option, Some, slice_get, length, subst, sym, ap, ◌∙◌, arith, length-append}
+use Rattle.std.proofs.lemmas.Grind.{common_steps}
 use Rattle.std.proofs.Math.Logic.{⊎_elim}
 use Rattle.std.proofs.lemmas.Option.{slice_get-get_or}
 use Rattle.text_model.specs.Texts.{Text}
@@ -36,9 +37,4 @@ loop-name-preserved c =
     }
 
 pub returns-clause-own : goal.returns-clause-own
-returns-clause-own c =
-    let inv = c.loop-name.invariant in
-    record {
-      one_each = omega (arith, inv.one_each, c.loop-name-test.false, c.loop-name.auto.name-index-end, ap length c.names-name-items.ensures);
-      are = inv.own;
-    }
+returns-clause-own c = grind (arith, common_steps)

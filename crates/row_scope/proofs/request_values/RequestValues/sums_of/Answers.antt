@@ -1,4 +1,5 @@
 use Rattle.std.proofs.Common.{ℕ, ◌+◌, ◌≤◌, All, length, take, drop, sum_by, sym, ap, ◌∙◌, arith, if◌then◌else◌}
+use Rattle.std.proofs.lemmas.Grind.{common_steps}
 use Rattle.std.proofs.lemmas.List.Elements.{All-weaker, All-take, All-drop}
 use Rattle.target_vars.specs.EnvValue.{IsWithin}
 use Rattle.kev_read.specs.Pairs.{all_of}
@@ -21,11 +22,7 @@ returns-then-is_list-clause-bytes c =
     ∙ ap (λ list. if list then sum_by length (all_of request.pairs key) else first_bytes (all_of request.pairs key)) (sym c.if-is_list.true)
 
 pub returns-then-is_list-clause-small : goal.returns-then-is_list-clause-small
-returns-then-is_list-clause-small c =
-    let found = c.values_of-first in
-    let within = found.ensures.place.within in
-    let few = found.ensures.known.few in
-    (c.bytes_of_spans.ensures.small, omega (arith, within, few))
+returns-then-is_list-clause-small c = grind (arith, common_steps)
 
 pub returns-else-is_list-clause-bytes : goal.returns-else-is_list-clause-bytes
 returns-else-is_list-clause-bytes c =

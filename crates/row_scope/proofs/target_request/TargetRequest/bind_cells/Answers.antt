@@ -1,9 +1,10 @@
 use Rattle.std.proofs.Common.{◌≡◌, ℕ, ◌+◌, Some, slice_get, length, get_or, set, subst, sym, ap, ◌∙◌, arith}
+use Rattle.std.proofs.lemmas.Grind.{common_steps}
 use Rattle.std.proofs.Math.ListN.{length-set}
 use Rattle.std.proofs.lemmas.Option.{slice_get-get_or}
 use Rattle.std.proofs.lemmas.List.Elements.{All-get_or}
 use Rattle.kbart_rows.specs.Cells.{named_cells}
-use Rattle.kbart_rows.specs.Lines.{CursorValue, IsCellAt, cells_in}
+use Rattle.kbart_rows.specs.Lines.{IsCellAt, cells_in}
 use Rattle.text_model.specs.Texts.{Text}
 use Rattle.row_scope.specs.NameColumns.{AreColumns, IsNameColumn}
 use Rattle.row_scope.specs.RowEnvironments.{lists_of}
@@ -11,23 +12,12 @@ use Rattle.row_scope.specs.RowValue.{TargetRequestValue}
 use Rattle.row_scope.specs.Private.Kept.{IsTargetRequest}
 use Rattle.row_scope.specs.declared.binding.Binding.TheVariants as binding
 use Rattle.row_scope.specs.declared.name_columns.NameColumn.{NameColumn}
-use Rattle.row_scope.proofs.OverLemmas.{AreBoundSoFar, none_so_far, bound_without_cell, bound_with_cell, bound_at_last}
+use Rattle.row_scope.proofs.OverLemmas.{AreBoundSoFar, bound_without_cell, bound_with_cell, bound_at_last}
 use Rattle.row_scope.proofs.target_request.TargetRequest.bind_cells.Goals.{then-len-gt0, else-len-gt0}
 use Rattle.row_scope.proofs.target_request.TargetRequest.bind_cells.Goals as goal
 
 pub loop-place-init : goal.loop-place-init
-loop-place-init c =
-    let t = c.args.self.now in
-    let s = c.self.inside in
-    let kept = subst (λ (v : TargetRequestValue). IsTargetRequest v s.names.now s.bindings.items s.bytes s.members s.hidden.items) c.self.view_is
-    c.self.invariant in
-    let is = c.new-cells.ensures in
-    record {
-      line = ap (λ (cursor : CursorValue). cursor.line) is;
-      ahead = λ j from below. omega (arith, ap (λ (cursor : CursorValue). cursor.column) is);
-      one_each = c.requires.bound.one_each;
-      bound = none_so_far t c.args.line.now c.deref-place-items.result.now c.args.bindings.now c.requires.bound;
-    }
+loop-place-init c = grind (arith, common_steps)
 
 pub seek-start-requires-clause-ahead : goal.seek-start-requires-clause-ahead
 seek-start-requires-clause-ahead c = c.loop-place.invariant.ahead c.loop-place.place-index (omega arith) c.loop-place-test.true
@@ -36,15 +26,7 @@ pub seek-start-requires-clause-short : goal.seek-start-requires-clause-short
 seek-start-requires-clause-short c = omega (arith, ap length c.loop-place.invariant.line, c.requires.short)
 
 pub overflow_add-bindings : goal.overflow_add-bindings
-overflow_add-bindings c =
-    omega (
-      arith,
-      c.size-seam.ensures.value,
-      c.size-seam.ensures.known.short,
-      c.seek-start.ensures.place.within,
-      ap length c.loop-place.invariant.line,
-      c.requires.short,
-    )
+overflow_add-bindings c = grind (arith, common_steps)
 
 pub loop-place-preserved : goal.loop-place-preserved
 loop-place-preserved c =

@@ -2,13 +2,14 @@ use Rattle.std.proofs.Common.{◌≡◌, ℕ, ◌+◌, ◌<◌, ◌≤◌, refl,
 use Rattle.std.specs.Prelude.{sum_by}
 use Rattle.std.specs.List.{range_with_len}
 use Rattle.std.specs.List.Sorted.{IsNonDecreasingBy}
+use Rattle.std.proofs.lemmas.Grind.{common_steps}
 use Rattle.std.proofs.lemmas.List.{take_all}
 use Rattle.std.proofs.lemmas.List.Sums.{sum_by_more, sum_by_more_le}
 use Rattle.text_model.specs.Texts.{Text}
 use Rattle.environment_model.specs.Environment.{byte_count, member_count}
 use Rattle.kev_read.specs.Pairs.{KeyValue}
 use Rattle.kbart_rows.specs.Cells.{Row, named_cells}
-use Rattle.kbart_rows.specs.Lines.{CursorValue, cells_in}
+use Rattle.kbart_rows.specs.Lines.{cells_in}
 use Rattle.row_laws.specs.Shadowing.{requested, hidden, row_of}
 use Rattle.row_scope.specs.RowEnvironments.{lists_of}
 use Rattle.row_scope.specs.RowValue.{TargetRequestValue}
@@ -35,14 +36,7 @@ module _ (part : ℕ × ℕ → ℕ) (nothing : part (0, 0) ≡ 0) (header : Row
   of_first keys are k within = omega (arith, sum_by_more_le of_key keys k no_key within, of_all keys are)
 
 pub loop-key-init : goal.loop-key-init
-loop-key-init c =
-    let is = c.new-cells.ensures in
-    record {
-      line = ap (λ (cursor : CursorValue). cursor.line) is;
-      ahead = λ j from below. omega (arith, ap (λ (cursor : CursorValue). cursor.column) is);
-      bytes = refl;
-      members = refl;
-    }
+loop-key-init c = grind (arith, common_steps)
 
 pub hidden_in-bytes-requires-clause-short : goal.hidden_in-bytes-requires-clause-short
 hidden_in-bytes-requires-clause-short c = omega (arith, ap length c.loop-key.invariant.line, c.requires)
