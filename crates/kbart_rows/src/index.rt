@@ -157,8 +157,7 @@ fn entries_of(
     Ok(entries)
 }
 
-/// Adds the entry of the identifier in a column of a row's line, if there is one. `id` is overwritten; calls share its
-/// memory.
+/// Adds the entry of the identifier in a column of a row's line, if there is one. `id` has room for the identifier.
 fn add_entry(
     line: &str,
     column: Option<usize>,
