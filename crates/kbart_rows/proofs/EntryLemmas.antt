@@ -1,8 +1,8 @@
 -- The entries of one more row.
 use Rattle.std.proofs.Common.{◌≡◌, ℕ, ◌+◌, ◌*◌, ◌≤◌, ◌<◌, ◌||◌, Bool, true, false, List, [], ◌∷◌, ◌++◌}
+use Rattle.std.proofs.lemmas.Grind.{common_steps}
 use Rattle.std.proofs.Common.{Option, None, Some, ap, arith, drop, get_or, length, nat_lt, option_map, refl, subst, sym, take, ◌∙◌, true≢false}
 use Rattle.std.proofs.lemmas.Bool.Decides.{nat_tests}
-use Rattle.std.proofs.lemmas.List.{length-append}
 use Rattle.std.proofs.lemmas.List.Elements.{All-append, All-cons, All-nil, Contains-append_left, Contains-append_right}
 use Rattle.std.proofs.lemmas.Slice.Eq.{bytes_eq-Decides}
 use Rattle.std.specs.List.{Contains}
@@ -45,12 +45,7 @@ small_more keys row a b old small all = All-append (λ (entry : Entry). entry.ro
 
 pub few_more : (keys : Keys) (row : ℕ) (a b : Option Text) (old : List Entry) → length old ≤ 2 * row
     → length ((old ++ entries_for keys row a) ++ entries_for keys row b) ≤ 2 * (row + 1)
-few_more keys row a b old few =
-    let first = at_most_one keys row a in
-    let second = at_most_one keys row b in
-    let whole = length-append (old ++ entries_for keys row a) (entries_for keys row b) in
-    let part = length-append old (entries_for keys row a) in
-    omega (arith, few, first, second, whole, part)
+few_more keys row a b old few = grind (arith, common_steps)
 
 pub has_more : (keys : Keys) (print online : Option ℕ) (rows : List Row) (row : ℕ) (cells : Row) (old : List Entry) → cells ≡ get_or rows row []
     → HasSoFar keys print online rows row old
@@ -74,15 +69,7 @@ has_more keys print online rows row cells old at so_far other id less has = by_t
         Contains-append_left (old ++ entries_for keys row (identifier_in cells print)) (entries_for keys row (identifier_in cells online)) (entry_for
         keys other id)
         (Contains-append_left old (entries_for keys row (identifier_in cells print)) (entry_for keys other id) (so_far other id before has))
-    by_test false late =
-        let not_before : row ≤ other = grind (arith, nat_tests) in
-        let same : row ≡ other = omega (arith, less, not_before) in
-        let here : has_identifier (print ∷ online ∷ []) id cells ≡ true =
-        ap (has_identifier (print ∷ online ∷ []) id) (at ∙ ap (λ n. get_or rows n []) same) ∙ has in
-        subst (λ n. Contains ((old ++ entries_for keys row (identifier_in cells print)) ++ entries_for keys row (identifier_in cells online))
-        (entry_for keys n id)) same
-        (by_id (is_id id (identifier_in cells print)) (is_id id (identifier_in cells online)) refl refl
-        (sym (one_of_two id (identifier_in cells print) (identifier_in cells online)) ∙ here))
+    by_test false late = grind (arith, nat_tests, by_id, one_of_two)
 
 -- a slice that was written as a whole is its vector
 pub written : (xs ys : List Entry) → take (length xs) (xs ++ ys) ≡ xs

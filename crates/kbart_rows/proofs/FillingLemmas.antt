@@ -1,5 +1,6 @@
 -- What filling an environment adds to it, and where it stops.
-use Rattle.std.proofs.Common.{◌≡◌, ℕ, ◌+◌, ◌-◌, ◌≤◌, ◌<◌, zero, suc, cond, true, false, List, [], ◌∷◌, ◌++◌, length, get_or, take, drop, Option, Some, None}
+use Rattle.std.proofs.Common.{◌≡◌, ℕ, ◌+◌, ◌-◌, ◌≤◌, ◌<◌, zero, suc, List, [], ◌∷◌, ◌++◌, length, get_or, take, drop, Option, Some, None}
+use Rattle.std.proofs.lemmas.Grind.{common_steps}
 use Rattle.std.proofs.Common.{Result, Ok, Err, OnOk, IfErr, refl, sym, ap, ◌∙◌, arith, append-nil}
 use Rattle.std.proofs.lemmas.List.Sums.{sum_by-cons, sum_by-append, fold-append}
 use Rattle.std.proofs.lemmas.List.{get_or-drop, take-append-drop}
@@ -13,7 +14,7 @@ use Rattle.environment_model.proofs.EnvironmentGrowth.{byte_count-with_text-le}
 use Rattle.target_vars.specs.declared.env.TheConstants.{MAX_BYTES}
 use Rattle.target_vars.specs.declared.error.VarsError.{VarsError}
 use Rattle.target_vars.specs.declared.error.VarsError.TheVariants.{TooLarge, NoMemory}
-use Rattle.kbart_rows.specs.Cells.{Row, NamedCell, cell_bytes, column_of, is_first, name_cell, named_cell, named_cells, row_bytes}
+use Rattle.kbart_rows.specs.Cells.{Row, NamedCell, cell_bytes, column_of, name_cell, named_cell, named_cells, row_bytes}
 use Rattle.kbart_rows.specs.Private.Kept.{cell_at_first, IsRefusedCell}
 use Rattle.kbart_rows.proofs.FirstColumns.{item_at}
 use Rattle.kbart_rows.proofs.Rows.{range_parts}
@@ -81,14 +82,7 @@ one_cell env (Some cell) = refl
 pub filled_more : (old : Environment) (header cells : Row) (column : ℕ)
     → with_defined (with_named_cells old (filter_map (named_cell header cells) (range_with_len 0 column))) (named_cell header cells column)
     ≡ with_named_cells old (filter_map (named_cell header cells) (range_with_len 0 (column + 1)))
-filled_more old header cells column =
-    let so_far = filter_map (named_cell header cells) (range_with_len 0 column) in
-    let here : 0 + column ≡ column = omega arith in
-    sym (one_cell (with_named_cells old so_far) (named_cell header cells column))
-    ∙ sym (fold-append with_named_cell old so_far (cons_option (named_cell header cells column) []))
-    ∙ ap (λ at. with_named_cells old (so_far ++ cons_option (named_cell header cells at) [])) (sym here)
-    ∙ ap (with_named_cells old) (sym (filter_map-append (named_cell header cells) (range_with_len 0 column) ((0 + column) ∷ [])))
-    ∙ ap (λ columns. with_named_cells old (filter_map (named_cell header cells) columns)) (sym (range_more 0 column))
+filled_more old header cells column = grind (arith, one_cell, fold-append, filter_map-append, range_more)
 
 -- the cell that the program finds is that of the definition
 cell_is : (header cells : Row) (column : ℕ) (name cell : Text) (found : Option ℕ) → get_or header column [] ≡ name → get_or cells column [] ≡ cell
@@ -149,12 +143,7 @@ name_bytes name [] = omega arith
 name_bytes name (b ∷ text) = omega (arith, cell_bytes-cons (record { name = name; text = b ∷ text }) [])
 
 column_bytes : (header cells : Row) (column : ℕ) → cell_bytes (cons_option (named_cell header cells column) []) ≤ length (get_or cells column [])
-column_bytes header cells column =
-    elim (is_first header column) as (λ b. cell_bytes (cons_option (cond b (name_cell (get_or header column []) (get_or cells column [])) None) [])
-    ≤ length (get_or cells column [])) [
-      | true ↦ name_bytes (get_or header column []) (get_or cells column [])
-      | false ↦ omega arith
-    ]
+column_bytes header cells column = grind (arith, common_steps)
 
 take_bytes : (cells : Row) (n : ℕ) → sum_by length (take (suc n) cells) ≡ sum_by length (take n cells) + length (get_or cells n [])
 take_bytes [] zero = refl

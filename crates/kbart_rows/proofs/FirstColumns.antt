@@ -59,11 +59,7 @@ position_more test first (other ∷ names) name =
 
 column_more : (names : Row) (name other : Text) → column_of (names ++ name ∷ []) other
     ≡ or_else (column_of names other) (if bytes_eq other name then Some (length names) else None)
-column_more names name other =
-    let size : 0 + length names ≡ length names = omega arith in
-    position_from-zero (bytes_eq other) (names ++ name ∷ []) ∙ position_more (bytes_eq other) 0 names name
-    ∙ ap (λ place. or_else (position_from (bytes_eq other) 0 names) (if bytes_eq other name then Some place else None)) size
-    ∙ ap (λ found. or_else found (if bytes_eq other name then Some (length names) else None)) (sym (position_from-zero (bytes_eq other) names))
+column_more names name other = grind (arith, position_from-zero, position_more)
 
 -- whether the next column has the name
 pub name_known : (header : Row) (column : ℕ) (name other : Text) → slice_get header column ≡ Some name

@@ -1,8 +1,9 @@
 -- Places in an index.
 use Rattle.std.proofs.Common.{◌≡◌, ℕ, ◌+◌, ◌/◌, ◌^◌, ◌≤◌, ◌<◌, Bool, true, false}
+use Rattle.std.proofs.lemmas.Grind.{common_steps}
 use Rattle.std.proofs.Common.{List, [], ◌∷◌, ◌++◌, get_or, length, take, drop, ap, ◌∙◌, refl, arith, nat_lt}
 use Rattle.std.proofs.lemmas.Bool.Decides.{nat_tests}
-use Rattle.std.proofs.lemmas.List.{get_or-append-add, get_or-drop, get_or-take, get_or_append_left, length-append}
+use Rattle.std.proofs.lemmas.List.{get_or-drop, get_or-take, get_or_append_left, length-append}
 use Rattle.std.proofs.lemmas.Nat.{le-div, pow_pos}
 use Rattle.std.proofs.Math.Nat.{div-mul-le_self}
 use Rattle.kbart_rows.specs.Private.Index.{AreSmall, AreStarts, IsOrdered, bucket_of, entry_key, key_of}
@@ -66,11 +67,7 @@ pub place_before : (shift : ℕ) (entries : List Entry) (starts : List ℕ) (has
 place_before shift entries starts hash row start place are small inside is before k d below within = by_test (nat_lt k start) refl
   where
     by_test : (b : Bool) → nat_lt k start ≡ b → entry_key (get_or entries k d) < key_of hash row
-    by_test true less =
-        let early : k < start = grind (arith, nat_tests) in
-        let less = before_start shift entries starts hash k d are (omega (arith, inside)) (omega (arith, early, is)) within in
-        let fits = small k d within in
-        omega (arith, less, fits)
+    by_test true less = grind (arith, nat_tests, before_start, inside, within)
     by_test false more =
         let late : start ≤ k = grind (arith, nat_tests) in
         before k d late below
@@ -140,12 +137,7 @@ one_start_more shift entries starts buckets at start order small so_far later in
 
     last : (bucket : ℕ) → bucket < length (starts ++ start ∷ []) → nat_lt bucket (length starts) ≡ false
         → (bucket ≡ buckets) × (get_or (starts ++ start ∷ []) bucket 0 ≡ start)
-    last bucket few more =
-        let late : length starts ≤ bucket = grind (arith, nat_tests) in
-        let long = length-append starts (start ∷ []) in
-        let count = so_far.count in
-        let here : bucket ≡ length starts + 0 = omega (arith, few, late, long) in
-        (omega (arith, here, count), ap (λ n. get_or (starts ++ start ∷ []) n 0) here ∙ get_or-append-add starts (start ∷ []) 0 0)
+    last bucket few more = grind (arith, common_steps)
 
     first : (bucket : ℕ) → nat_lt bucket (length starts) ≡ true → (bucket < length starts) × (get_or (starts ++ start ∷ []) bucket 0 ≡ get_or starts bucket 0)
     first bucket less =
@@ -158,12 +150,7 @@ one_start_more shift entries starts buckets at start order small so_far later in
         let part = first bucket less in
         let same = part.1 in
         so_far.before bucket k d part.0 (omega (arith, below, same)) within
-    by_before bucket k d few below within false more =
-        let part = last bucket few more in
-        let is = part.0 in
-        let same = part.1 in
-        let less = earlier k d (omega (arith, below, same)) within in
-        omega (arith, less, is)
+    by_before bucket k d few below within false more = grind (arith, last, earlier, within)
 
     by_after : (bucket k : ℕ) (d : Entry) → bucket < length (starts ++ start ∷ []) → get_or (starts ++ start ∷ []) bucket 0 ≤ k → k < length entries
         → (b : Bool) → nat_lt bucket (length starts) ≡ b → bucket ≤ bucket_of shift (get_or entries k d).hash
@@ -182,11 +169,7 @@ one_start_more shift entries starts buckets at start order small so_far later in
 
     by_within : (bucket : ℕ) → bucket < length (starts ++ start ∷ []) → (b : Bool) → nat_lt bucket (length starts) ≡ b
         → get_or (starts ++ start ∷ []) bucket 0 ≤ length entries
-    by_within bucket few true less =
-        let part = first bucket less in
-        let same = part.1 in
-        let old = so_far.within bucket part.0 in
-        omega (arith, old, same)
+    by_within bucket few true less = grind (arith, common_steps)
     by_within bucket few false more =
         let same = (last bucket few more).1 in
         omega (arith, same, inside)

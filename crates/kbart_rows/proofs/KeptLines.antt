@@ -1,8 +1,9 @@
 -- Lines that are one after another in a text.
-use Rattle.std.proofs.Common.{◌≡◌, ℕ, ◌+◌, ◌≤◌, ◌<◌, zero, suc, List, [], ◌∷◌, ◌++◌, length, map, drop, get_or, slice_range, All, IsUtf8}
+use Rattle.std.proofs.Common.{◌≡◌, ℕ, ◌+◌, ◌≤◌, ◌<◌, zero, suc, List, [], ◌∷◌, ◌++◌, length, map, get_or, slice_range, All, IsUtf8}
+use Rattle.std.proofs.lemmas.Grind.{common_steps}
 use Rattle.std.proofs.Common.{IsCharBoundary, Some, refl, sym, ap, ◌∙◌, arith, length-append, drop_at}
 use Rattle.std.proofs.lemmas.List.{length-map, map-append}
-use Rattle.std.proofs.lemmas.List.Elements.{All-get_or, All-nil, All-push, All-weaker}
+use Rattle.std.proofs.lemmas.List.Elements.{All-get_or, All-push, All-weaker}
 use Rattle.std.proofs.lemmas.Option.{none-some, same_Some}
 use Rattle.std.proofs.lemmas.Str.{IsCharBoundary-end, IsCharBoundary-start}
 use Rattle.csv.specs.Records.{cut_from, field_at, last_end, prev, Rising}
@@ -20,23 +21,13 @@ no_lines = refl
 
 pub nothing_kept : AreKept [] []
 unfolding Rising last_end cut_from
-nothing_kept = record {
-  rising = omega arith;
-  whole = refl;
-  apart = All-nil (IsCharBoundary []);
-  short = All-nil (λ (line : Text). length line ≤ MAX_ROW_BYTES + 1);
-  closed = All-nil IsClosed;
-}
+nothing_kept = grind (arith, common_steps)
 
 -- ---- one more line
 
 pub lines_more : (ends : List ℕ) (text line : Text) → AreKept ends text
     → lines_in (ends ++ length (text ++ line) ∷ []) (text ++ line) ≡ lines_in ends text ++ line ∷ []
-lines_more ends text line kept =
-    let rising = rising-more 0 ends (length text) (length (text ++ line)) kept.rising (omega (arith, length-append text line)) in
-    cut-end 0 ends (text ++ line) rising
-    ∙ ap (λ (front : List Text). front ++ drop (last_end 0 ends) (text ++ line) ∷ []) (cut-more 0 ends text line kept.rising)
-    ∙ ap (λ (last : Text). lines_in ends text ++ last ∷ []) (drop_at text line (last_end 0 ends) (sym kept.whole))
+lines_more ends text line kept = grind (arith, rising-more, length-append, cut-end, cut-more, drop_at)
 
 pub one_more_kept : (ends : List ℕ) (text line : Text) → IsUtf8 text → IsUtf8 (text ++ line) → length line ≤ MAX_ROW_BYTES + 1 → IsClosed line
     → AreKept ends text → AreKept (ends ++ length (text ++ line) ∷ []) (text ++ line)

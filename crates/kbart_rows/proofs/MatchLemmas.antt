@@ -1,5 +1,6 @@
 -- The rows that match, found by runs through an index.
 use Rattle.std.proofs.Common.{◌≡◌, ℕ, ◌+◌, ◌≤◌, ◌<◌, ◌||◌, Bool, true, false}
+use Rattle.std.proofs.lemmas.Grind.{common_steps}
 use Rattle.std.proofs.Common.{cond, zero, suc, List, [], ◌∷◌, Option, Some, None, filter, get_or, length}
 use Rattle.std.proofs.Common.{codes, refl, sym, ap, ◌∙◌, subst, arith, nat_le, nat_lt, true≢false}
 use Rattle.std.proofs.lemmas.Bool.Decides.{nat_tests}
@@ -23,22 +24,10 @@ past_end [] row past = refl
 past_end (first ∷ rows) zero past = absurd (omega (arith, past))
 past_end (first ∷ rows) (suc row) past = past_end rows row (omega (arith, past))
 
-no_identifier : (print online : Option ℕ) (id : Text) → has_identifier (print ∷ online ∷ []) id [] ≡ false
-no_identifier None None id = refl
-no_identifier None (Some n) id = refl
-no_identifier (Some n) None id = refl
-no_identifier (Some n) (Some m) id = refl
-
 -- a row with an identifier is one of the rows
 pub has_within : (print online : Option ℕ) (rows : List Row) (id : Text) (row : ℕ) → has_identifier (print ∷ online ∷ []) id (get_or rows row []) ≡ true
     → row < length rows
-has_within print online rows id row has = by_test (nat_lt row (length rows)) refl
-  where
-    by_test : (b : Bool) → nat_lt row (length rows) ≡ b → row < length rows
-    by_test true less = grind (arith, nat_tests)
-    by_test false more =
-        let past : length rows ≤ row = grind (arith, nat_tests) in
-        absurd (true≢false (sym has ∙ ap (has_identifier (print ∷ online ∷ []) id) (past_end rows row past) ∙ no_identifier print online id))
+has_within print online rows id row has = grind (arith, common_steps)
 
 -- the identifier that a row has
 abbrev HasOne : (Text → Bool) → List Text → Type 0
@@ -190,22 +179,4 @@ all_left runs = left_of runs.entries.now runs.first + left_of runs.entries.now r
 pub less_left : (old new : Runs) (row : ℕ) → new.entries ≡ old.entries → new.first ≡ passed old.entries.now row old.first
     → new.second ≡ passed old.entries.now row old.second → new.third ≡ passed old.entries.now row old.third → least old ≡ Some row
     → all_left new < all_left old
-less_left old new row entries first second third is =
-    let now = old.entries.now in
-    let moved : Runs = record {
-      entries = old.entries;
-      first = passed now row old.first;
-      second = passed now row old.second;
-      third = passed now row
-          old.third;
-    } in
-    let same : moved ≡ new = sym (λ i. record { entries = entries i; first = first i; second = second i; third = third i }) in
-    subst (λ runs. all_left runs < all_left old) same
-    (one_of (all_left moved < all_left old) (lesser_of (head_of now old.first) (head_of now old.second)) (head_of now old.third) row is
-    (λ both. one_of (all_left moved < all_left old) (head_of now old.first) (head_of now old.second) row both
-    (λ here. let a = left_less now row old.first here in let b = left_passed now row old.second in let c = left_passed now row old.third in omega
-    (arith, a, b, c))
-    (λ here. let a = left_passed now row old.first in let b = left_less now row old.second here in let c = left_passed now row old.third in omega
-    (arith, a, b, c)))
-    (λ here. let a = left_passed now row old.first in let b = left_passed now row old.second in let c = left_less now row old.third here in omega
-    (arith, a, b, c)))
+less_left old new row entries first second third is = grind (arith, one_of, left_less, left_passed)

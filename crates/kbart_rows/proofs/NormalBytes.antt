@@ -46,20 +46,7 @@ high_bytes c high k d within =
     by_test false past same = grind (arith, nat_tests)
 
 one_character : (c : ℕ) → normal (encode c) ≡ cond (spec.counts c) (encode (to_ascii_uppercase c)) []
-one_character c = by_test (nat_lt c 128) refl
-  where
-    by_test : (x : Bool) → nat_lt c 128 ≡ x → normal (encode c) ≡ cond (spec.counts c) (encode (to_ascii_uppercase c)) []
-    by_test true low =
-        let small : c < 128 = grind (arith, nat_tests) in
-        rw (encode_ascii c small) rw (encode_ascii (to_ascii_uppercase c) (uppercase_ascii c small)) (by_count (spec.counts c))
-      where
-        by_count : (b : Bool) → map to_ascii_uppercase (cond b (c ∷ []) []) ≡ cond b (to_ascii_uppercase c ∷ []) []
-        by_count true = refl
-        by_count false = refl
-    by_test false past =
-        let high : 128 ≤ c = grind (arith, nat_tests) in
-        all_high (encode c) (high_bytes c high)
-        ∙ sym (ap (λ counts. cond counts (encode (to_ascii_uppercase c)) []) (high_counts c high) ∙ ap encode (high_stays c high))
+one_character c = grind (arith, nat_tests, encode_ascii, uppercase_ascii, all_high, high_bytes, high_counts, high_stays)
 
 characters : (cs : List ℕ) → normal (encode_utf8_all cs) ≡ encode_utf8_all (map to_ascii_uppercase (filter spec.counts cs))
 characters [] = refl

@@ -1,5 +1,6 @@
 -- Reading a table line by line.
-use Rattle.std.proofs.Common.{Bor, ◌≡◌, ℕ, List, [], ◌∷◌, ◌++◌, Some, true, false, refl, sym, ◌∙◌, inl, arith, ◌+◌, ◌≤◌, ◌<◌, length, get_or, drop}
+use Rattle.std.proofs.Common.{Bor, ◌≡◌, ℕ, List, [], ◌∷◌, ◌++◌, Some, true, false, refl, ◌∙◌, inl, arith, ◌+◌, ◌≤◌, ◌<◌, length, get_or, drop}
+use Rattle.std.proofs.lemmas.Grind.{common_steps}
 use Rattle.csv.specs.Reading.{Reached, Ready, ReadRecord, source_of, strip_bom}
 use Rattle.csv.specs.declared.parser.State.TheVariants as state
 use Rattle.csv.specs.declared.reader.Reader.{Reader}
@@ -24,14 +25,7 @@ pub record IsReading (bytes : Text) (lines : List Row) (reader : Reader (Bor (Li
 
 pub reading_starts : (bytes : Text) (reader : Reader (Bor (List ℕ))) → IsFreshReader bytes reader → IsReading bytes [] reader
 unfolding Reached
-reading_starts bytes reader fresh = record {
-  trim = fresh.trim;
-  ready = fresh.ready;
-  config = fresh.config;
-  rest = strip_bom bytes;
-  source = fresh.source;
-  reached = (sym fresh.state, refl);
-}
+reading_starts bytes reader fresh = grind (arith, common_steps)
 
 pub reading_continues : (bytes : Text) (lines : List Row) (old new : Reader (Bor (List ℕ))) (cells : Row) → IsReading bytes lines old
     → ReadRecord rest_of old new true cells → new.first ≡ true → IsReading bytes (lines ++ cells ∷ []) new

@@ -1,7 +1,7 @@
 -- Reading a table by whole lines.
-use Rattle.std.proofs.Common.{Bor, ◌≡◌, ◌≢◌, ℕ, ◌+◌, ◌/◌, ◌%◌, ◌<◌, Bool, true, false, cond, List, [], ◌∷◌, ◌++◌, Option, Some, None}
-use Rattle.std.proofs.Common.{get_or, nat_lt, IsUtf8, refl, sym, ap, subst, ◌∙◌, inl, inr, arith}
-use Rattle.std.proofs.lemmas.Bool.Decides.{nat_tests}
+use Rattle.std.proofs.Common.{Bor, ◌≡◌, ◌≢◌, ℕ, ◌<◌, true, false, cond, List, [], ◌∷◌, ◌++◌, Option, Some, None}
+use Rattle.std.proofs.lemmas.Grind.{common_steps}
+use Rattle.std.proofs.Common.{get_or, IsUtf8, refl, sym, ap, subst, ◌∙◌, inl, inr, arith}
 use Rattle.std.proofs.lemmas.Bool.{and_parts}
 use Rattle.std.proofs.lemmas.List.Elements.{All-append, All-cons, All-nil, All-tail}
 use Rattle.std.proofs.lemmas.Option.{same_Some}
@@ -31,25 +31,7 @@ none = All-nil (λ b. b ≢ no_byte)
 
 character : (c : ℕ) → c < 1114112 → IsUnseparated (encode c)
 unfolding encode
-character c small = by (nat_lt c 128) (nat_lt c 2048) (nat_lt c 65536) refl refl refl
-  where
-    by : (x y z : Bool) → nat_lt c 128 ≡ x → nat_lt c 2048 ≡ y → nat_lt c 65536 ≡ z
-        → IsUnseparated (cond x (c ∷ []) (cond y ((192 + c / 64) ∷ (128 + c % 64) ∷ []) (cond z ((224 + c / 4096) ∷ (128 + c / 64 % 64) ∷ (128 + c % 64) ∷ [])
-        ((240 + c / 262144) ∷ (128 + c / 4096 % 64) ∷ (128 + c / 64 % 64) ∷ (128 + c % 64) ∷ []))))
-    by true y z p q r =
-        let low : c < 128 = grind (arith, nat_tests) in
-        one c [] (omega (arith, low)) none
-    by false true z p q r =
-        let low : c < 2048 = grind (arith, nat_tests) in
-        one (192 + c / 64) ((128 + c % 64) ∷ []) (omega (arith, low)) (one (128 + c % 64) [] (omega arith) none)
-    by false false true p q r =
-        let low : c < 65536 = grind (arith, nat_tests) in
-        one (224 + c / 4096) ((128 + c / 64 % 64) ∷ (128 + c % 64) ∷ []) (omega (arith, low))
-        (one (128 + c / 64 % 64) ((128 + c % 64) ∷ []) (omega arith) (one (128 + c % 64) [] (omega arith) none))
-    by false false false p q r =
-        one (240 + c / 262144) ((128 + c / 4096 % 64) ∷ (128 + c / 64 % 64) ∷ (128 + c % 64) ∷ []) (omega (arith, small))
-        (one (128 + c / 4096 % 64) ((128 + c / 64 % 64) ∷ (128 + c % 64) ∷ []) (omega arith)
-        (one (128 + c / 64 % 64) ((128 + c % 64) ∷ []) (omega arith) (one (128 + c % 64) [] (omega arith) none)))
+character c small = grind (arith, common_steps)
 
 is_character : (c : ℕ) → scalar c ≡ true → c < 1114112
 is_character c is = elim (scalar_cases c is) [ inl low ↦ omega (arith, low) | inr high ↦ high.1 ]

@@ -17,11 +17,7 @@ abbrev pub Rise : List ℕ → Type 0
 Rise rows = AllPairs (λ x y. x < y) rows
 
 range_rises : (first n : ℕ) → Rise (range_with_len first n)
-range_rises first n i j d before within =
-    let long = length-range_with_len first n in
-    let at_i = get_or-range_with_len first n i d (omega (arith, before, within, long)) in
-    let at_j = get_or-range_with_len first n j d (omega (arith, within, long)) in
-    omega (arith, at_i, at_j, before)
+range_rises first n i j d before within = grind (arith, length-range_with_len, get_or-range_with_len)
 
 filtered_rise : (test : ℕ → Bool) (first n : ℕ) → Rise (filter test (range_with_len first n))
 filtered_rise test first n = AllPairs-filter (λ x y. x < y) test (range_with_len first n) (range_rises first n)

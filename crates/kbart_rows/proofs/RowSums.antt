@@ -1,29 +1,21 @@
 -- The bytes of a row's defined cells, column by column.
-use Rattle.std.proofs.Common.{◌≡◌, ℕ, ◌+◌, ◌≤◌, zero, suc, cond, Bool, true, false, List, [], ◌∷◌, length, map, drop, get_or, None, refl, sym, ap, ◌∙◌, arith}
+use Rattle.std.proofs.Common.{◌≡◌, ℕ, ◌+◌, ◌≤◌, zero, suc, Bool, true, false, List, [], ◌∷◌, length, map, drop, get_or, refl, sym, ap, ◌∙◌, arith}
+use Rattle.std.proofs.lemmas.Grind.{common_steps}
 use Rattle.std.proofs.Common.{All, if◌then◌else◌}
 use Rattle.std.proofs.lemmas.List.{drop-drop, get_or-drop}
 use Rattle.std.proofs.lemmas.List.Sums.{sum_by-cons}
 use Rattle.std.proofs.lemmas.List.Elements.{All-head, All-tail}
 use Rattle.std.specs.List.{cons_option, filter_map, range_with_len, sum_by}
 use Rattle.text_model.specs.Texts.{Text}
-use Rattle.kbart_rows.specs.Cells.{Row, NamedCell, cell_bytes, is_first, name_cell, named_cell}
+use Rattle.kbart_rows.specs.Cells.{Row, NamedCell, cell_bytes, is_first, named_cell}
 use Rattle.kbart_rows.specs.Private.Kept.{bytes_of, counted_bytes, firsts_of}
 
 abbrev bytes_if : Bool → Text → ℕ
 bytes_if counts cell = if counts then length cell else 0
 
-name_adds : (name cell : Text) (others : List NamedCell) → cell_bytes (cons_option (name_cell name cell) others) ≡ length cell + cell_bytes others
-name_adds name [] others = omega arith
-name_adds name (b ∷ text) others = sum_by-cons (λ (cell : NamedCell). length cell.text) (record { name = name; text = b ∷ text }) others
-
 column_adds : (header cells : Row) (column : ℕ) (others : List NamedCell)
     → cell_bytes (cons_option (named_cell header cells column) others) ≡ bytes_if (is_first header column) (get_or cells column []) + cell_bytes others
-column_adds header cells column others =
-    elim (is_first header column) as (λ b. cell_bytes (cons_option (cond b (name_cell (get_or header column []) (get_or cells column [])) None) others)
-    ≡ bytes_if b (get_or cells column []) + cell_bytes others) [
-      | true ↦ name_adds (get_or header column []) (get_or cells column []) others
-      | false ↦ omega arith
-    ]
+column_adds header cells column others = grind (arith, common_steps)
 
 columns_add : (header cells : Row) (column n : ℕ)
     → counted_bytes (map (is_first header) (range_with_len column n)) (drop column cells)

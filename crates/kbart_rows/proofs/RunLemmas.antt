@@ -1,12 +1,12 @@
 -- Runs through the entries of an index.
-use Rattle.std.proofs.Common.{◌≡◌, ℕ, ◌+◌, ◌-◌, ◌≤◌, ◌<◌, ◌==◌, Bool, true, false}
-use Rattle.std.proofs.Common.{cond, zero, suc, List, Option, Some, None, get_or, length}
-use Rattle.std.proofs.Common.{refl, ap, ◌∙◌, arith, nat_le, nat_lt, min}
+use Rattle.std.proofs.Common.{◌≡◌, ℕ, ◌-◌, ◌≤◌, ◌<◌, ◌==◌, true}
+use Rattle.std.proofs.lemmas.Grind.{common_steps}
+use Rattle.std.proofs.Common.{zero, suc, List, Option, Some, None, get_or, length}
+use Rattle.std.proofs.Common.{refl, ap, arith, min}
 use Rattle.std.proofs.lemmas.Bool.{eqb-true}
 use Rattle.std.proofs.lemmas.Bool.Decides.{nat_tests}
 use Rattle.std.proofs.lemmas.Option.{get_or_from_slice_get, none-some, same_Some, slice_get-get_or, slice_get_within}
-use Rattle.std.specs.List.{Contains, slice_get}
-use Rattle.std.specs.Option.{option_and_then, option_map_or}
+use Rattle.std.specs.List.{Contains}
 use Rattle.kbart_rows.specs.Private.Index.{IsAhead, IsOrdered, head_of, passed, row_at}
 use Rattle.kbart_rows.specs.Private.Kept.{lesser_of}
 use Rattle.kbart_rows.specs.Private.Runs.{least, run_of}
@@ -48,58 +48,12 @@ head_low entries from wanted row run order ahead small has low =
 -- a run that has reached a row is at an entry with that row
 pub head_is : (entries : List Entry) (run : Run) (row : ℕ) (d : Entry) → head_of entries run ≡ Some row
     → (run.at < length entries) × ((get_or entries run.at d).row ≡ row)
-head_is entries run row d is = by_entry (slice_get entries run.at) refl is
-  where
-    by_row : (entry : Entry) (same : Bool) → cond same (Some entry.row) None ≡ Some row → entry.row ≡ row
-    by_row entry true is = same_Some entry.row row is
-    by_row entry false is = absurd (none-some row is)
-
-    by_entry : (found : Option Entry) → slice_get entries run.at ≡ found → option_and_then (row_at run.hash) found ≡ Some row
-        → (run.at < length entries) × ((get_or entries run.at d).row ≡ row)
-    by_entry None found is = absurd (none-some row is)
-    by_entry (Some entry) found is =
-        let same = ap (λ (e : Entry). e.row) (get_or_from_slice_get entries run.at entry d found) ∙ by_row entry (entry.hash == run.hash) is in
-        (slice_get_within entries run.at entry found, same)
+head_is entries run row d is = grind (arith, same_Some, none-some, get_or_from_slice_get, slice_get_within)
 
 -- a run that passes a row is ahead of the later rows
 pub ahead_passed : (entries : List Entry) (from to wanted row : ℕ) (run : Run) → from ≤ to → row < to → IsAhead entries from wanted run
     → IsAhead entries to wanted (passed entries row run)
-ahead_passed entries from to wanted row run later past ahead = by_head (head_of entries run) refl
-  where
-    stays : IsAhead entries to wanted run
-    stays = record {
-      hash = ahead.hash;
-      low = ahead.low;
-      ahead = λ k d inside is high. ahead.ahead k d inside is (omega (arith, later, high));
-    }
-
-    moves : head_of entries run ≡ Some row → IsAhead entries to wanted (record { hash = run.hash; at = run.at + 1 })
-    moves is = record {
-      hash = ahead.hash;
-      low = λ k d above inside. ahead.low k d (omega (arith, above)) inside;
-      ahead = λ k d inside hash_is high.
-          let reached : run.at ≤ k = ahead.ahead k d inside hash_is (omega (arith, later, high)) in
-          let here = (head_is entries run row d is).1 in
-          by_place k d inside high reached here (nat_lt run.at k) refl;
-    }
-      where
-        by_place : (k : ℕ) (d : Entry) → k < length entries → to ≤ (get_or entries k d).row → run.at ≤ k → (get_or entries run.at d).row ≡ row
-            → (b : Bool) → nat_lt run.at k ≡ b → run.at + 1 ≤ k
-        by_place k d inside high reached here true less = grind (arith, nat_tests)
-        by_place k d inside high reached here false not_less =
-            let same : run.at ≡ k = grind (arith, nat_tests) in
-            let moved : (get_or entries run.at d).row ≡ (get_or entries k d).row = ap (λ at. (get_or entries at d).row) same in
-            absurd (omega (arith, moved, here, high, past))
-
-    by_same : (other : ℕ) → head_of entries run ≡ Some other → (b : Bool) → (other == row) ≡ b
-        → IsAhead entries to wanted (cond b (record { hash = run.hash; at = run.at + 1 }) run)
-    by_same other found true same = moves (found ∙ ap Some (eqb-true other row same))
-    by_same other found false same = stays
-
-    by_head : (found : Option ℕ) → head_of entries run ≡ found
-        → IsAhead entries to wanted (cond (option_map_or (λ other. other == row) found false) (record { hash = run.hash; at = run.at + 1 }) run)
-    by_head None found = stays
-    by_head (Some other) found = by_same other found (other == row) refl
+ahead_passed entries from to wanted row run later past ahead = grind (arith, head_is, nat_tests, eqb-true)
 
 -- ---- how much is left
 
@@ -107,11 +61,7 @@ abbrev pub left_of : List Entry → Run → ℕ
 left_of entries run = length entries - run.at
 
 pub left_passed : (entries : List Entry) (row : ℕ) (run : Run) → left_of entries (passed entries row run) ≤ left_of entries run
-left_passed entries row run = by_test (option_map_or (λ other. other == row) (head_of entries run) false)
-  where
-    by_test : (b : Bool) → left_of entries (cond b (record { hash = run.hash; at = run.at + 1 }) run) ≤ left_of entries run
-    by_test true = omega arith
-    by_test false = omega arith
+left_passed entries row run = grind (arith, common_steps)
 
 pub left_less : (entries : List Entry) (row : ℕ) (run : Run) → head_of entries run ≡ Some row → left_of entries (passed entries row run) < left_of entries run
 left_less entries row run is =
@@ -124,17 +74,7 @@ left_less entries row run is =
 pub one_of : (P : Type 0) (a b : Option ℕ) (row : ℕ) → lesser_of a b ≡ Some row → (a ≡ Some row → P) → (b ≡ Some row → P) → P
 one_of P None b row is first second = second is
 one_of P (Some x) None row is first second = first is
-one_of P (Some x) (Some y) row is first second = by_test (nat_le x y) refl
-  where
-    by_test : (b : Bool) → nat_le x y ≡ b → P
-    by_test true le =
-        let small : x ≤ y = grind (arith, nat_tests) in
-        let least : min x y ≡ row = same_Some (min x y) row is in
-        first (ap Some (omega (arith, small, least)))
-    by_test false more =
-        let large : y < x = grind (arith, nat_tests) in
-        let least : min x y ≡ row = same_Some (min x y) row is in
-        second (ap Some (omega (arith, large, least)))
+one_of P (Some x) (Some y) row is first second = grind (arith, common_steps)
 
 low_left : (a b : Option ℕ) (bound : ℕ) → HasLow a bound → HasLow (lesser_of a b) bound
 low_left None b bound low = absurd (none-some low.0 low.1)

@@ -1,5 +1,6 @@
 -- A line that is read whole has the cells that reading it cell by cell gives.
 use Rattle.std.proofs.Common.{◌≡◌, ◌≢◌, ℕ, ◌==◌, Bool, true, false, [], ◌∷◌, ◌++◌, All, Option, Some, None, get_or}
+use Rattle.std.proofs.lemmas.Grind.{common_steps}
 use Rattle.std.proofs.Common.{refl, sym, ap, subst, ◌∙◌, arith, append_assoc, append-nil, if◌then◌else◌}
 use Rattle.std.proofs.lemmas.Bool.{eqb-true}
 use Rattle.std.proofs.lemmas.Bool.Decides.{nat_tests}
@@ -123,20 +124,8 @@ data Start (s : State) (c : ℕ) : Type 0 where
   begins : step tab_separated s c ≡ step tab_separated state.InField c → step whole_lines s c ≡ step whole_lines state.InField c → Start s c
 
 start : (s : State) (c : ℕ) → IsBetween s → Start s c
-start state.StartRecord c between = by (ends_with terminator.CRLF c) refl
-  where
-    by : (b : Bool) → ends_with terminator.CRLF c ≡ b → Start state.StartRecord c
-    by true is = skips (rw is refl) (rw is refl)
-    by false is = begins (rw is refl) (rw is refl)
-start state.AfterCr c between = by_lf (c == 10) refl
-  where
-    by : (b : Bool) → (c == 10) ≡ false → ends_with terminator.CRLF c ≡ b → Start state.AfterCr c
-    by true other is = skips (rw (is, other) refl) (rw (is, other) refl)
-    by false other is = begins (rw (is, other) refl) (rw (is, other) refl)
-
-    by_lf : (b : Bool) → (c == 10) ≡ b → Start state.AfterCr c
-    by_lf true is = skips (rw is refl) (rw is refl)
-    by_lf false is = by (ends_with terminator.CRLF c) is refl
+start state.StartRecord c between = grind (arith, common_steps)
+start state.AfterCr c between = grind (arith, common_steps)
 start state.StartField c between = absurd between
 start state.InField c between = absurd between
 start state.InQuoted c between = absurd between

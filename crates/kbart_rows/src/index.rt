@@ -157,7 +157,8 @@ fn entries_of(
     Ok(entries)
 }
 
-/// Adds the entry of the identifier in a column of a row's line, if there is one. `id` has room for the identifier.
+/// Adds the entry of the identifier in a column of a row's line, if there is one. `id` is overwritten; calls share its
+/// memory.
 fn add_entry(
     line: &str,
     column: Option<usize>,

@@ -1,5 +1,5 @@
 -- What the bytes of a form's name or value decode to, from the first one on.
-use Rattle.std.proofs.Common.{◌≡◌, ◌≢◌, ℕ, ◌+◌, ◌*◌, ◌<◌, ◌≤◌, List, [], ◌∷◌, length, map, drop, get_or, sym, ap, ◌∙◌, subst, arith}
+use Rattle.std.proofs.Common.{◌≡◌, ◌≢◌, ℕ, ◌+◌, ◌*◌, ◌<◌, ◌≤◌, List, [], ◌∷◌, length, map, drop, get_or, ap, ◌∙◌, arith}
 use Rattle.std.specs.Prelude.{All, IsUtf8}
 use Rattle.std.specs.Char.{digit_value}
 use Rattle.std.specs.Str.Lossy.{utf8_lossy}
@@ -47,14 +47,7 @@ pub decoded_escape : (bytes : List ℕ) → 3 ≤ length bytes → get_or bytes 
 decoded_escape [] long percent high low = absurd (omega arith)
 decoded_escape (b ∷ []) long percent high low = absurd (omega arith)
 decoded_escape (b ∷ c ∷ []) long percent high low = absurd (omega arith)
-decoded_escape (b ∷ c ∷ d ∷ bytes) long percent high low =
-    let first : form.plus_to_space b ≡ 37 = ap form.plus_to_space percent in
-    let second = digit_stays c high in
-    let third = digit_stays d low in
-    percent_decode_escape (form.plus_to_space b) (form.plus_to_space c) (form.plus_to_space d) (map form.plus_to_space bytes) first
-    (subst (λ x. digit_value x < 16) (sym second) high) (subst (λ x. digit_value x < 16) (sym third) low)
-    ∙ (ap (λ x. (16 * digit_value x + digit_value (form.plus_to_space d)) ∷ form.decode bytes) second
-    ∙ ap (λ x. (16 * digit_value c + digit_value x) ∷ form.decode bytes) third)
+decoded_escape (b ∷ c ∷ d ∷ bytes) long percent high low = grind (arith, digit_stays, percent_decode_escape)
 
 -- bytes that stand for themselves
 decoded_bytes : (bytes : List ℕ) → All IsOrdinary bytes → form.decode bytes ≡ bytes

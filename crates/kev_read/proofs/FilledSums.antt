@@ -6,7 +6,7 @@ use Rattle.std.specs.List.{list_any}
 use Rattle.std.proofs.lemmas.Slice.Eq.{bytes_eq-Decides}
 use Rattle.std.proofs.Math.Bool.{or-false, or-true, or_assoc}
 use Rattle.text_model.specs.Texts.{Text}
-use Rattle.environment_model.specs.Environment.{Environment, Single, is_there, text_in, text_of, byte_count, member_count, with_text, with_member}
+use Rattle.environment_model.specs.Environment.{Environment, is_there, text_in, text_of, byte_count, member_count, with_text, with_member}
 use Rattle.environment_model.specs.Lists.{is_list}
 use Rattle.environment_model.proofs.Environments.{look_up-empty, look_up-same, look_up-append, with_text-new, with_text-known}
 use Rattle.environment_model.proofs.OtherNames.{with_text-differs, with_member-differs}
@@ -19,14 +19,7 @@ use Rattle.kev_read.proofs.GatheredValues.{with_member-own, same_text}
 -- ---- which names are defined after a pair
 
 text_there : (env : Environment) (key t : Text) → is_there (with_text env key t) key ≡ true
-text_there env key t = by_test (is_there env key) refl
-  where
-    by_test : (b : Bool) → is_there env key ≡ b → is_there (with_text env key t) key ≡ true
-    by_test true known = ap (λ es. is_there es key) (with_text-known env key t known) ∙ known
-    by_test false new =
-        ap (λ es. is_there es key) (with_text-new env key t new)
-        ∙ ap is_some (look_up-append env (record { name = key; meaning = Single t } ∷ []) key new
-        ∙ look_up-same (record { name = key; meaning = Single t }) [] key ((bytes_eq-Decides key key).1 refl))
+text_there env key t = grind (arith, with_text-known, with_text-new, is_some, look_up-append, look_up-same, bytes_eq-Decides)
 
 added_there : (list : Bool) (env : Environment) (pair : KeyValue) (key : Text)
     → is_there (cond list (with_member env pair.key pair.value) (with_text env pair.key pair.value)) key ≡ (is_there env key || bytes_eq pair.key key)

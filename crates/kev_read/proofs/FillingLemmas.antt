@@ -1,5 +1,5 @@
 -- What filling an environment adds to it, and where it stops.
-use Rattle.std.proofs.Common.{◌≡◌, ◌↔◌, ◌⊎◌, ℕ, ◌+◌, ◌≤◌, ◌<◌, Bool, true, false, cond, MatchBool, List, [], ◌∷◌, ◌++◌, length, take, drop, slice_get, Some}
+use Rattle.std.proofs.Common.{◌≡◌, ◌↔◌, ◌⊎◌, ℕ, ◌+◌, ◌≤◌, ◌<◌, Bool, true, false, MatchBool, List, [], ◌∷◌, ◌++◌, length, take, drop, slice_get, Some}
 use Rattle.std.proofs.Common.{Result, Ok, Err, OnOk, IfErr, IsErrAnd, subst, refl, sym, ap, ◌∙◌, arith, length-append, append-nil, inl}
 use Rattle.std.proofs.Math.Logic.{⊎_elim}
 use Rattle.std.proofs.lemmas.List.{take-append-drop, drop_more}
@@ -7,7 +7,7 @@ use Rattle.std.proofs.lemmas.Option.{slice_get-map, slice_get_within, get_or_fro
 use Rattle.std.proofs.lemmas.List.Sums.{sum_by-cons, sum_by-append, fold_more}
 use Rattle.std.specs.Option.{option_map, option_map_or}
 use Rattle.text_model.specs.Texts.{Text}
-use Rattle.environment_model.specs.Environment.{Environment, byte_count, member_count, with_text, with_member}
+use Rattle.environment_model.specs.Environment.{Environment, byte_count, member_count}
 use Rattle.environment_model.specs.Lists.{is_list}
 use Rattle.environment_model.proofs.Environments.{member_count-with_text}
 use Rattle.environment_model.proofs.EnvironmentGrowth.{byte_count-with_text-le, byte_count-with_member-le, member_count-with_member-le}
@@ -27,20 +27,10 @@ passes_there test pairs index pair is =
 -- ---- growth
 
 fill_one_bytes : (lists : List Text) (env : Environment) (pair : KeyValue) → byte_count (fill_one lists env pair) ≤ byte_count env + length pair.value
-fill_one_bytes lists env pair =
-    elim (is_list lists pair.key) as (λ v. byte_count (cond v (with_member env pair.key pair.value) (with_text env pair.key pair.value))
-    ≤ byte_count env + length pair.value) [
-      | true ↦ byte_count-with_member-le env pair.key pair.value
-      | false ↦ byte_count-with_text-le env pair.key pair.value
-    ]
+fill_one_bytes lists env pair = grind (arith, byte_count-with_member-le, byte_count-with_text-le)
 
 fill_one_members : (lists : List Text) (env : Environment) (pair : KeyValue) → member_count (fill_one lists env pair) ≤ member_count env + 1
-fill_one_members lists env pair =
-    elim (is_list lists pair.key) as (λ v. member_count (cond v (with_member env pair.key pair.value) (with_text env pair.key pair.value)) ≤ member_count env
-    + 1) [
-      | true ↦ member_count-with_member-le env pair.key pair.value
-      | false ↦ omega (arith, member_count-with_text env pair.key pair.value)
-    ]
+fill_one_members lists env pair = grind (arith, member_count-with_member-le, member_count-with_text)
 
 value_bytes-cons : (pair : KeyValue) (pairs : List KeyValue) → value_bytes (pair ∷ pairs) ≡ length pair.value + value_bytes pairs
 value_bytes-cons pair pairs = sum_by-cons (λ (p : KeyValue). length p.value) pair pairs

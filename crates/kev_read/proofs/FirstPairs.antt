@@ -1,19 +1,19 @@
 -- The first pair of a query, from where its key and its value end.
 use Rattle.std.proofs.Common.{◌≡◌, ◌≢◌, ◌⊎◌, inl, inr, ℕ, suc, ◌+◌, ◌-◌, ◌<◌, ◌≤◌, List, []}
+use Rattle.std.proofs.lemmas.Grind.{common_steps}
 use Rattle.std.proofs.Common.{◌∷◌, ◌++◌, map, length, take, drop, get_or, slice_range, refl, sym, ap, ◌∙◌, subst, arith}
-use Rattle.std.proofs.Common.{length-append, length-drop, take_all, take-append-drop}
+use Rattle.std.proofs.Common.{length-append, length-drop, take-append-drop}
 use Rattle.std.proofs.Math.Logic.{⊎_elim}
 use Rattle.std.proofs.Math.Seq.{drop-cons}
 use Rattle.std.specs.Prelude.{All}
-use Rattle.std.proofs.lemmas.Bool.Decides.{eqb_tells}
-use Rattle.std.proofs.lemmas.List.{append_assoc, drop_all, drop-drop, get_or-drop, length-take-le}
+use Rattle.std.proofs.lemmas.List.{append_assoc, drop-drop, get_or-drop, length-take-le}
 use Rattle.std.proofs.lemmas.List.Elements.{All-weaker, All-append, All-cons}
 use Rattle.std.proofs.lemmas.Str.{utf8_lossy_empty}
 use Rattle.std.specs.Str.Lossy.{utf8_lossy}
 use Rattle.form_urlencoded.specs.Form as form
 use Rattle.form_urlencoded.proofs.FormLemmas.{split_once_before_at, split_once_after_at, split_once_before_none, split_once_after_none}
 use Rattle.form_urlencoded.proofs.FormLemmas.{split_once_before_same, split_once_after_same, raw_pairs_first, raw_pairs_skip}
-use Rattle.kev_read.specs.Pairs.{KeyValue, decoded, decoded_pair}
+use Rattle.kev_read.specs.Pairs.{decoded, decoded_pair}
 use Rattle.kev_read.specs.Private.Reading.{IsFirstPair}
 use Rattle.kev_read.proofs.DecodedForms.{decoded_nothing}
 
@@ -29,11 +29,7 @@ cut_at bytes n b inside is =
     sym (take-append-drop n bytes) ∙ ap (λ rest. take n bytes ++ rest) (drop-cons bytes n 0 inside ∙ (λ i. is i ∷ drop (next i) bytes))
 
 parted_at : (bytes : List ℕ) (n : ℕ) → n ≤ length bytes → (n < length bytes → get_or bytes n 0 ≡ 38) → IsParted bytes (take n bytes) (drop (n + 1) bytes)
-parted_at bytes n within ends =
-    ⊎_elim
-    (λ whole. inl (sym (take_all n bytes (omega (arith, whole))), drop_all (n + 1) bytes (omega (arith, whole))))
-    (λ more. let inside : n < length bytes = omega (arith, within, more) in inr (cut_at bytes n 38 inside (ends inside)))
-    (eqb_tells n (length bytes))
+parted_at bytes n within ends = grind (arith, common_steps)
 
 first_raw : (bytes piece after : List ℕ) → 0 < length piece → All (λ b. b ≢ 38) piece → IsParted bytes piece after
     → form.raw_pairs bytes ≡ form.split_pair piece ∷ form.raw_pairs after
@@ -146,9 +142,4 @@ pair_of_both query start n m inside lacks equals within lacks_value ends =
 -- an `&` at the place gives no pair
 pub skipped : (query : List ℕ) (place : ℕ) → place < length query → get_or query place 0 ≡ 38
     → form.raw_pairs (drop place query) ≡ form.raw_pairs (drop (place + 1) query)
-skipped query place inside is =
-    let rest = drop (place + 1) query in
-    let next : suc place ≡ place + 1 = omega arith in
-    let whole : drop place query ≡ 38 ∷ rest = drop-cons query place 0 inside ∙ (λ i. is i ∷ drop (next i) query) in
-    ap form.raw_pairs whole
-    ∙ (raw_pairs_skip (38 ∷ rest) (ap length (split_once_before_same 38 rest)) ∙ ap form.raw_pairs (split_once_after_same 38 rest))
+skipped query place inside is = grind (arith, drop-cons, raw_pairs_skip, split_once_before_same, split_once_after_same)

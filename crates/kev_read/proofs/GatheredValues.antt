@@ -1,10 +1,11 @@
 -- The values of pairs as members of lists that have the names of the keys.
 use Rattle.std.proofs.Common.{◌≡◌, Bool, true, false, List, [], ◌∷◌, ◌++◌, Option, Some, None, is_some, bytes_eq, refl}
-use Rattle.std.proofs.Common.{sym, ap, ◌∙◌, append_assoc, append-nil}
+use Rattle.std.proofs.lemmas.Grind.{common_steps}
+use Rattle.std.proofs.Common.{sym, ap, ◌∙◌, append_assoc, append-nil, arith}
 use Rattle.std.specs.Prelude.{fold}
 use Rattle.std.proofs.lemmas.Slice.Eq.{bytes_eq-Decides}
 use Rattle.text_model.specs.Texts.{Text}
-use Rattle.environment_model.specs.Environment.{Environment, Meaning, Single, Several, look_up, text_in, text_of, members_in, members_of, with_member, more}
+use Rattle.environment_model.specs.Environment.{Environment, Meaning, Several, look_up, text_in, text_of, members_in, members_of, with_member, more}
 use Rattle.environment_model.proofs.Environments.{look_up-empty, look_up-same, look_up-other, with_member-empty, with_member-same, with_member-other}
 use Rattle.environment_model.proofs.NameTests.{itself}
 use Rattle.environment_model.proofs.OtherNames.{with_member-differs}
@@ -38,49 +39,14 @@ with_member-own (e ∷ env) key t = by_name (bytes_eq e.name key) refl (with_mem
 -- ---- all pairs
 
 pub same_text : (env : Environment) (pair : KeyValue) (key : Text) → text_of (gather_one env pair) key ≡ text_of env key
-same_text env pair key = by_key (bytes_eq pair.key key) refl
-  where
-    by_found : (found : Option Meaning) → text_in (Some (grown found pair.value)) ≡ text_in found
-    by_found None = refl
-    by_found (Some (Single t)) = refl
-    by_found (Some (Several ts)) = refl
-
-    by_key : (b : Bool) → bytes_eq pair.key key ≡ b → text_of (gather_one env pair) key ≡ text_of env key
-    by_key true same =
-        ap (λ k. text_of (gather_one env pair) k) (sym ((bytes_eq-Decides pair.key key).0 same))
-        ∙ ap text_in (with_member-own env pair.key pair.value) ∙ by_found (look_up env pair.key)
-        ∙ ap (λ k. text_of env k) ((bytes_eq-Decides pair.key key).0 same)
-    by_key false differs = ap text_in (with_member-differs env pair.key pair.value key differs)
+same_text env pair key = grind (arith, bytes_eq, bytes_eq-Decides, with_member-own, with_member-differs)
 
 one_value : (env : Environment) (pair : KeyValue) (key : Text) → is_some (text_of env key) ≡ false
     → members_of (gather_one env pair) key ≡ members_of env key ++ all_of (pair ∷ []) key
-one_value env pair key no_text = by_key (bytes_eq pair.key key) refl
-  where
-    by_found : (found : Option Meaning) → is_some (text_in found) ≡ false → members_in (Some (grown found pair.value)) ≡ members_in found ++ pair.value ∷ []
-    by_found None none = refl
-    by_found (Some (Single t)) none = absurd (cc)
-    by_found (Some (Several ts)) none = refl
-
-    by_key : (b : Bool) → bytes_eq pair.key key ≡ b → members_of (gather_one env pair) key ≡ members_of env key ++ all_of (pair ∷ []) key
-    by_key true same =
-        let is : pair.key ≡ key = (bytes_eq-Decides pair.key key).0 same in
-        let value : all_of (pair ∷ []) key ≡ pair.value ∷ [] = rw same refl in
-        ap (λ k. members_of (gather_one env pair) k) (sym is)
-        ∙ ap members_in (with_member-own env pair.key pair.value)
-        ∙ by_found (look_up env pair.key) (ap (λ k. is_some (text_of env k)) is ∙ no_text)
-        ∙ ap (λ k. members_of env k ++ pair.value ∷ []) is
-        ∙ ap (λ vs. members_of env key ++ vs) (sym value)
-    by_key false differs =
-        let value : all_of (pair ∷ []) key ≡ [] = rw differs refl in
-        ap members_in (with_member-differs env pair.key pair.value key differs)
-        ∙ sym (append-nil (members_of env key)) ∙ ap (λ vs. members_of env key ++ vs) (sym value)
+one_value env pair key no_text = grind (arith, bytes_eq, is_some, bytes_eq-Decides, with_member-own, with_member-differs, append-nil)
 
 all_of-cons : (pair : KeyValue) (pairs : List KeyValue) (key : Text) → all_of (pair ∷ []) key ++ all_of pairs key ≡ all_of (pair ∷ pairs) key
-all_of-cons pair pairs key = by_key (bytes_eq pair.key key) refl
-  where
-    by_key : (b : Bool) → bytes_eq pair.key key ≡ b → all_of (pair ∷ []) key ++ all_of pairs key ≡ all_of (pair ∷ pairs) key
-    by_key true same = rw same refl
-    by_key false differs = rw differs refl
+all_of-cons pair pairs key = grind (arith, common_steps)
 
 members_of-from : (env : Environment) (pairs : List KeyValue) (key : Text) → is_some (text_of env key) ≡ false
     → members_of (fold gather_one env pairs) key ≡ members_of env key ++ all_of pairs key

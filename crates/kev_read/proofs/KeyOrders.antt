@@ -124,18 +124,10 @@ passes_equal None key = refl
 passes_equal (Some other) key = nat_list_eq_equiv.symm key other ∙ sym (is_eq-compared_keys other key)
 
 within_pairs : (pairs : List KeyValue) (key : Text) (index : ℕ) → is_eq (compared_at pairs key index) ≡ true → index < length pairs
-within_pairs pairs key index equal =
-    ⊎_elim (λ below. below)
-    (λ past. let none : key_at pairs index ≡ None = slice_get_past _ index (rw length-map past) in
-    absurd (let e = ap (λ k. is_eq (compared k (Some key))) none in cc))
-    (cases_lt index (length pairs))
+within_pairs pairs key index equal = grind (arith, slice_get_past, length-map, cases_lt)
 
 pub has_key_equal : (pairs : List KeyValue) (key : Text) (index : ℕ) → has_key_at key pairs index ≡ is_eq (compared_at pairs key index)
-has_key_equal pairs key index = by_key (key_at pairs index)
-  where
-    by_key : (other : Option Text) → option_map_or (λ k. bytes_eq k key) other false ≡ is_eq (compared other (Some key))
-    by_key None = refl
-    by_key (Some other) = sym (is_eq-compared_keys other key)
+has_key_equal pairs key index = grind (arith, is_eq-compared_keys)
 
 lt_not_equal : (o : Ordering) → is_lt o ≡ true → is_eq o ≡ false
 lt_not_equal Less lt = refl

@@ -1,6 +1,6 @@
 -- The values of a request in the order of their keys, and where they are in one text.
 use Rattle.std.proofs.Common.{◌≡◌, ℕ, ◌+◌, ◌*◌, ◌≤◌, List, [], ◌∷◌, ◌++◌, All, Some, length, map, take, drop, refl, sym, ap, ◌∙◌, arith, length-append}
-use Rattle.std.proofs.Common.{length-drop, slice_get, subst, take_all}
+use Rattle.std.proofs.Common.{length-drop, slice_get, take_all}
 use Rattle.std.proofs.Math.Seq.{drop-append_seam}
 use Rattle.std.proofs.lemmas.List.{drop-append-le, drop-map, length-map, map-append, take-append-le, take-map, take_more}
 use Rattle.std.proofs.lemmas.List.Elements.{All-head, All-tail, All-push, All-weaker}
@@ -98,12 +98,4 @@ room_for_value pairs n pair is =
 pub all_values : (pairs : List KeyValue) (order : List ℕ) (n : ℕ) (text : Text) (spans : List (ℕ × ℕ)) → IsKeyOrder pairs order → length pairs ≤ MAX_PAIRS
     → value_bytes pairs ≤ 3 * MAX_QUERY_BYTES → length order ≤ n → AreSpans text spans (take n (pairs_at pairs order))
     → length text ≡ value_bytes (take n (pairs_at pairs order)) → AreKeyValues pairs order text spans
-all_values pairs order n text spans ordered few small past are bytes =
-    let all = all_pairs pairs order n past in
-    let same = ap value_bytes all in
-    record {
-      ordered = ordered;
-      few = few;
-      short = omega (arith, bytes, same, same_bytes pairs order ordered, small);
-      values = subst (AreSpans text spans) all are;
-    }
+all_values pairs order n text spans ordered few small past are bytes = grind (arith, all_pairs, same_bytes)

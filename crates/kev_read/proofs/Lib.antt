@@ -10,6 +10,7 @@ pub mod ValuesOfKey
 pub mod FillingLemmas
 pub mod GatheredValues
 pub mod PairsInText
+pub mod FirstLanes
 pub mod OrdinaryLanes
 pub mod KeyMarks
 pub mod StableKeys

@@ -1,11 +1,11 @@
 -- Pairs keep their places when bytes are appended to their text.
-use Rattle.std.proofs.Common.{◌≡◌, ℕ, ◌+◌, ◌-◌, ◌≤◌, List, [], ◌∷◌, ◌++◌, map, length, take, drop, slice_range, IsUtf8, refl, sym, ap, ◌∙◌, subst}
+use Rattle.std.proofs.Common.{◌≡◌, ℕ, ◌-◌, ◌≤◌, List, [], ◌∷◌, ◌++◌, map, length, take, drop, slice_range, refl, sym, ap, ◌∙◌}
+use Rattle.std.proofs.lemmas.Grind.{common_steps}
 use Rattle.std.proofs.Common.{arith, length-append, length-drop, take-append-drop}
 use Rattle.std.specs.Prelude.{All}
 use Rattle.std.proofs.lemmas.List.{take-append-le, drop-append-le, map-append}
 use Rattle.std.proofs.lemmas.List.Elements.{All-head, All-tail, All-push, All-weaker}
 use Rattle.text_model.specs.Texts.{Text}
-use Rattle.kev_read.specs.Private.KeyMarks.{mark_of}
 use Rattle.kev_read.specs.Private.Reading.{HoldsQuery}
 use Rattle.kev_read.specs.Private.Layout.{part_in, pair_in, IsSpan, IsPlaced}
 use Rattle.kev_read.specs.declared.pairs.Place.{Place}
@@ -19,20 +19,10 @@ pub part_stays : (text more : Text) (span : Span) → IsSpan text span → part_
 part_stays text more span is = range_stays text more span.start span.end is.forwards is.within
 
 pub span_stays : (text more : Text) (span : Span) → IsSpan text span → IsSpan (text ++ more) span
-span_stays text more span is =
-    let within = is.within in
-    record {
-      forwards = is.forwards;
-      within = omega (arith, length-append text more);
-      utf8 = subst IsUtf8 (sym (part_stays text more span is)) is.utf8;
-    }
+span_stays text more span is = grind (arith, common_steps)
 
 pub place_stays : (text more : Text) (place : Place) → IsPlaced text place → IsPlaced (text ++ more) place
-place_stays text more place is = record {
-  key = span_stays text more place.key is.key;
-  value = span_stays text more place.value is.value;
-  marked = is.marked ∙ ap mark_of (sym (part_stays text more place.key is.key));
-}
+place_stays text more place is = grind (arith, common_steps)
 
 pub places_stay : (text more : Text) (places : List Place) → All (IsPlaced text) places → All (IsPlaced (text ++ more)) places
 places_stay text more places are = All-weaker (IsPlaced text) (IsPlaced (text ++ more)) (λ place is. place_stays text more place is) places are

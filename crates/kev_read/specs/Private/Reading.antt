@@ -1,5 +1,5 @@
 -- What reading a query does to the text of its pairs.
-use Rattle.std.specs.Prelude.{◌≡◌, ℕ, ◌++◌, ◌∷◌, List, IsUtf8, take, length, map}
+use Rattle.std.specs.Prelude.{◌≡◌, ℕ, ◌++◌, ◌∷◌, List, take, length, map}
 use Rattle.text_model.specs.Texts.{Text}
 use Rattle.form_urlencoded.specs.Form as form
 use Rattle.kev_read.specs.Pairs.{KeyValue, decoded_pair}

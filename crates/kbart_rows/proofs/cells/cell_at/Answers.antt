@@ -1,6 +1,7 @@
-use Rattle.std.proofs.Common.{◌≡◌, ◌+◌, [], drop, get_or, length, sym, ap, ◌∙◌, arith, rules}
+use Rattle.std.proofs.Common.{◌≡◌, [], drop, length, sym, ap, ◌∙◌, arith, rules}
+use Rattle.std.proofs.lemmas.Grind.{common_steps}
 use Rattle.std.proofs.lemmas.Bool.{eqb-true}
-use Rattle.std.proofs.lemmas.List.{drop-drop, get_or-drop, nil_from_length}
+use Rattle.std.proofs.lemmas.List.{drop-drop, nil_from_length}
 use Rattle.kbart_rows.specs.Lines.{cells_in}
 use Rattle.kbart_rows.proofs.LineCells.{no_cells}
 use Rattle.kbart_rows.proofs.LineRests.{cell_past_end}
@@ -17,8 +18,4 @@ pub loop-preserved : goal.loop-preserved
 loop-preserved c = (search rules, c.split_cell.ensures.rest ∙ ap (drop 1) c.loop.invariant.1 ∙ drop-drop 1 c.loop.counter (cells_in c.args.line.now))
 
 pub returns : goal.returns
-returns c =
-    let cells = cells_in c.args.line.now in
-    let passed : c.loop.counter + 0 ≡ c.args.column = omega (arith, c.loop-test.false, c.loop.auto.counter-end) in
-    c.split_cell-2.ensures.cell ∙ ap (λ (left : _). get_or left 0 []) c.loop.invariant.1 ∙ get_or-drop c.loop.counter cells 0 []
-    ∙ ap (λ (place : _). get_or cells place []) passed
+returns c = grind (arith, common_steps)

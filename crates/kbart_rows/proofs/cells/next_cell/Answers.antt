@@ -1,4 +1,5 @@
 use Rattle.std.proofs.Common.{◌≡◌, ℕ, ◌+◌, ◌-◌, ◌∷◌, ◌++◌, ◌<◌, length, take, drop, slice_index, slice_range, sym, ap, ◌∙◌, arith}
+use Rattle.std.proofs.lemmas.Grind.{common_steps}
 use Rattle.std.proofs.lemmas.List.{drop_more, take-append-drop}
 use Rattle.std.proofs.lemmas.Str.{IsCharBoundary-after_ascii}
 use Rattle.text_model.specs.Texts.{Text}
@@ -38,9 +39,4 @@ returns-clause-cell c =
     (ap cells_in parts ∙ first_cell (take end line) (drop (end + 1) line) lacks)
 
 pub returns-clause-parts : goal.returns-clause-parts
-returns-clause-parts c =
-    let line = c.args.line.now in
-    let end = c.in_ok-end.end in
-    let same = c.as_bytes.ensures.value in
-    rw (front_is line c.range.result.now end c.range.ensures.value, c.range_from.ensures.value)
-    (parted line end (rw same at c.in_ok-end.ensures.within) (rw same at c.in_ok-end.ensures.tab))
+returns-clause-parts c = grind (arith, common_steps)

@@ -1,6 +1,6 @@
 use Rattle.std.proofs.Common.{Bor, ◌≡◌, ◌∷◌, ◌++◌, [], Option, Some, None, IfSome, IfNone, drop, length, take, ap, sym, refl, ◌∙◌, arith, append-nil}
+use Rattle.std.proofs.lemmas.Grind.{common_steps}
 use Rattle.std.proofs.Common.{append_assoc, length-append}
-use Rattle.std.proofs.lemmas.List.{take-append-le}
 use Rattle.std.specs.Option.{unwrap_or}
 use Rattle.text_model.specs.Texts.{Text}
 use Rattle.kbart_rows.specs.Cells.{tab}
@@ -16,11 +16,7 @@ rest line None other empty some none = ap cells_in empty ∙ no_cells ∙ sym (a
 rest line (Some parts) other empty some none = sym (ap (drop 1) some)
 
 take_whole : (cell others : Text) → take (length cell) (cell ++ others) ≡ cell
-take_whole cell others = take-append-le (length cell) cell others (omega arith) ∙ all cell
-  where
-    all : (xs : Text) → take (length xs) xs ≡ xs
-    all [] = refl
-    all (x ∷ xs) = ap (λ ys. x ∷ ys) (all xs)
+take_whole cell others = grind (arith, common_steps)
 
 parts : (line : Text) (found : Option (Bor Text × Bor Text)) (other : Bor Text × Bor Text) → other.0.now ≡ [] → other.1.now ≡ []
     → IfSome found (λ p. line ≡ p.0.now ++ tab ∷ p.1.now) → IsSplit line (unwrap_or found other).0.now (unwrap_or found other).1.now

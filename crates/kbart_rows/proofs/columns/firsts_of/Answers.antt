@@ -1,4 +1,4 @@
-use Rattle.std.proofs.Common.{◌≡◌, ◌+◌, ◌++◌, ◌==◌, [], ◌∷◌, false, Some, None, length, map, get_or, sym, ap, ◌∙◌, arith}
+use Rattle.std.proofs.Common.{◌≡◌, ◌+◌, ◌++◌, ◌==◌, [], ◌∷◌, false, Some, length, map, get_or, sym, ap, ◌∙◌, arith}
 use Rattle.std.proofs.lemmas.List.{map-append}
 use Rattle.std.proofs.lemmas.List.FromFn.{length-map-range_with_len}
 use Rattle.std.proofs.lemmas.Option.{get_or_from_slice_get, slice_get_within}
@@ -36,10 +36,4 @@ loop-name-preserved c =
     }
 
 pub returns : goal.returns
-returns c =
-    let header = cells_in c.args.header.now in
-    let column = c.loop-name.names.column in
-    let inv = c.loop-name.invariant in
-    let none : slice_get header column ≡ None = sym (c.in_default.ensures.cell ∙ ap (λ (line : Text). slice_get (cells_in line) column) inv.line) in
-    let end : column ≡ length header = omega (arith, inv.within, past_end header column none) in
-    inv.firsts ∙ ap (λ (n : _). map (is_first header) (range_with_len 0 n)) end
+returns c = grind (arith, c.args.header.now, c.loop-name.names.column, c.loop-name.invariant, c.in_default.ensures.cell, past_end)

@@ -1,11 +1,11 @@
-use Rattle.std.proofs.Common.{◌≡◌, ℕ, ◌∙◌, ◌+◌, ◌≤◌, Bool, true, false, Some, arith, nat_lt, refl, sym, true≢false}
-use Rattle.std.proofs.lemmas.Bool.Decides.{nat_tests}
+use Rattle.std.proofs.Common.{◌≡◌, ℕ, ◌∙◌, ◌+◌, ◌≤◌, true, false, Some, arith, sym}
+use Rattle.std.proofs.lemmas.Grind.{common_steps}
 use Rattle.std.proofs.lemmas.Option.{none-some, same_Some}
 use Rattle.kbart_rows.specs.Cells.{Holdings}
 use Rattle.kbart_rows.specs.Private.Runs.{AreReady, least, matches}
 use Rattle.kbart_rows.specs.declared.runs.Runs.{Runs}
 use Rattle.text_model.specs.Texts.{Text}
-use Rattle.std.proofs.Common.{List, length, ap}
+use Rattle.std.proofs.Common.{List, length}
 use Rattle.kbart_rows.proofs.MatchLemmas.{first_match, least_small, less_left, match_reached, match_within, none_in, ready_passed}
 use Rattle.kbart_rows.proofs.matches.next_row.Goals as goal
 
@@ -20,14 +20,7 @@ not_before table ids from row other runs ready is match low =
 
 -- nor is it that row, if that one does not match
 after_it : (table : Holdings) (ids : List Text) (row other : ℕ) → matches table ids row ≡ false → matches table ids other ≡ true → row ≤ other → row + 1 ≤ other
-after_it table ids row other fails match le = by_test (nat_lt row other) refl
-  where
-    by_test : (b : Bool) → nat_lt row other ≡ b → row + 1 ≤ other
-    by_test true less = grind (arith, nat_tests)
-    by_test false more =
-        let ge : other ≤ row = grind (arith, nat_tests) in
-        let same : row ≡ other = omega (arith, le, ge) in
-        absurd (true≢false (sym match ∙ ap (matches table ids) (sym same) ∙ fails))
+after_it table ids row other fails match le = grind (arith, common_steps)
 
 pub is_match-requires : goal.is_match-requires
 is_match-requires c =

@@ -1,9 +1,10 @@
-use Rattle.std.proofs.Common.{◌≡◌, ◌==◌, ◌<◌, not, sym, ap, subst, ◌∙◌, arith}
+use Rattle.std.proofs.Common.{◌≡◌, ◌==◌, not, sym, ◌∙◌, arith}
 use Rattle.std.proofs.lemmas.Bool.{eqb-true, eqb-false}
-use Rattle.std.proofs.lemmas.Simd.{length-chunk, none_from_empty_mask, run_in_chunk_le, run_in_chunk_fails, run_in_chunk_stops, trailing_mask_l}
+use Rattle.std.proofs.lemmas.Simd.{none_from_empty_mask, run_in_chunk_le, run_in_chunk_fails, run_in_chunk_stops}
 use Rattle.std.specs.List.{prefix_len}
 use Rattle.std.specs.Simd.Lanes.{chunk}
 use lib.Count.{count_trailing_zeros}
+use Rattle.kev_read.proofs.FirstLanes.{lowest_bit}
 use Rattle.kbart_rows.specs.Cells.{tab}
 use Rattle.kbart_rows.proofs.tabs.bytes_before_tab.Goals as goal
 
@@ -15,12 +16,7 @@ returns-then-tabs-eq0-clause-lacks c k low high =
 -- the lowest bit is that of the first tab
 lowest : (c : goal.Else-tabs-eq0) → count_trailing_zeros 64 c.tabs_of_16-tabs.result ≡ prefix_len (λ b. not (b == tab)) (chunk c.args.place 16 c.args.line.now)
 lowest c =
-    let line = c.args.line.now in
-    let lanes = chunk c.args.place 16 line in
-    let long = length-chunk c.args.place 16 line c.requires in
-    let some : 0 < c.tabs_of_16-tabs.result = omega (arith, c.if-tabs-eq0.false) in
-    ap (count_trailing_zeros 64) c.tabs_of_16-tabs.ensures
-    ∙ trailing_mask_l (λ b. b == tab) 64 lanes (omega (arith, long)) (subst (λ m. 0 < m) c.tabs_of_16-tabs.ensures some)
+    lowest_bit (λ b. b == tab) c.args.line.now c.args.place _ c.tabs_of_16-tabs.ensures c.requires (omega (arith, c.if-tabs-eq0.false))
 
 pub returns-else-tabs-eq0-clause-few : goal.returns-else-tabs-eq0-clause-few
 returns-else-tabs-eq0-clause-few c = run_in_chunk_le (λ b. b == tab) c.args.line.now c.args.place 16 _ 0 c.requires (lowest c)

@@ -1,22 +1,13 @@
-use Rattle.std.proofs.Common.{◌≡◌, ◌++◌, rules, subst, sym, ap, ◌∙◌, drop, drop_at, length}
+use Rattle.std.proofs.Common.{◌≡◌, ◌++◌, rules, subst, sym, ap, ◌∙◌, arith}
 use Rattle.std.specs.Prelude.{IsUtf8}
-use Rattle.std.proofs.lemmas.List.{take_rest}
+use Rattle.std.proofs.lemmas.Grind.{common_steps}
 use Rattle.std.proofs.lemmas.Str.{utf8_lossy-IsUtf8}
 use Rattle.form_urlencoded.specs.Form as form
 use Rattle.kev_read.proofs.decoding.push_decoded.Goals as goal
 
 -- the bytes that were appended are UTF-8
 appended_utf8 : (c : goal.Then-are_utf8) → IsUtf8 (form.decode c.args.input.now)
-appended_utf8 c =
-    let before = c.args.out.now.items in
-    let bytes = form.decode c.args.input.now in
-    let all : c.append_decoded.new.out.items ≡ before ++ bytes = search rules in
-    let start : length before ≡ c.len-start.result = search rules in
-    let appended : drop c.len-start.result c.append_decoded.new.out.items ≡ bytes = rw all (drop_at before bytes c.len-start.result start) in
-    let utf8 = c.are_utf8.ensures c.if-are_utf8.true in
-    let tested : IsUtf8 (drop c.len-start.result c.append_decoded.new.out.items) =
-    search (rules, utf8, take_rest c.append_decoded.new.out.items c.len-start.result) in
-    subst IsUtf8 appended tested
+appended_utf8 c = grind (arith, common_steps)
 
 pub returns-then-are_utf8-clause-utf8 : goal.returns-then-are_utf8-clause-utf8
 returns-then-are_utf8-clause-utf8 c =

@@ -1,4 +1,4 @@
-use Rattle.std.proofs.Common.{◌≡◌, List, ℕ, cond, eqb, get_or, length, map, replicate, sym, subst, ap, ◌∙◌, w8}
+use Rattle.std.proofs.Common.{eqb, map, replicate, sym, ap, ◌∙◌, w8}
 use Rattle.std.proofs.lemmas.Simd.{tops_compared, zip2_splat}
 use Rattle.std.specs.Simd.Lanes.{sel_l}
 use Rattle.kev_read.proofs.OrdinaryLanes.{chosen}

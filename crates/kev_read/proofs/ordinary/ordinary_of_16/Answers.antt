@@ -1,9 +1,10 @@
-use Rattle.std.proofs.Common.{◌≡◌, ℕ, ◌<◌, false, not, length, get_or, map, sym, ap, subst, ◌∙◌, arith}
+use Rattle.std.proofs.Common.{◌≡◌, not, get_or, sym, ◌∙◌, arith}
 use Rattle.std.specs.List.{prefix_len}
-use Rattle.std.specs.Simd.Lanes.{chunk, mask_l}
-use Rattle.std.proofs.lemmas.Simd.{length-chunk, none_from_empty_mask, run_in_chunk_le, run_in_chunk_fails, trailing_mask_l}
+use Rattle.std.specs.Simd.Lanes.{chunk}
+use Rattle.std.proofs.lemmas.Simd.{none_from_empty_mask, run_in_chunk_le, run_in_chunk_fails}
 use lib.Count.{count_trailing_zeros}
 use Rattle.kev_read.specs.Private.Ordinary.{is_special}
+use Rattle.kev_read.proofs.FirstLanes.{lowest_bit}
 use Rattle.kev_read.proofs.OrdinaryLanes.{ordinary_from}
 use Rattle.kev_read.proofs.ordinary.ordinary_of_16.Goals as goal
 
@@ -17,12 +18,7 @@ returns-then-mask-eq0-clause-ordinary c k low high =
 lowest : (c : goal.Else-mask-eq0) → count_trailing_zeros 64 c.special_of_16-mask.result
     ≡ prefix_len (λ x. not (is_special x)) (chunk c.args.place 16 c.args.bytes.now)
 lowest c =
-    let bytes = c.args.bytes.now in
-    let lanes = chunk c.args.place 16 bytes in
-    let long = length-chunk c.args.place 16 bytes c.requires in
-    let some : 0 < c.special_of_16-mask.result = omega (arith, c.if-mask-eq0.false) in
-    ap (count_trailing_zeros 64) c.special_of_16-mask.ensures
-    ∙ trailing_mask_l is_special 64 lanes (omega (arith, long)) (subst (λ m. 0 < m) c.special_of_16-mask.ensures some)
+    lowest_bit is_special c.args.bytes.now c.args.place _ c.special_of_16-mask.ensures c.requires (omega (arith, c.if-mask-eq0.false))
 
 pub returns-else-mask-eq0-clause-few : goal.returns-else-mask-eq0-clause-few
 returns-else-mask-eq0-clause-few c = run_in_chunk_le is_special c.args.bytes.now c.args.place 16 _ 0 c.requires (lowest c)

@@ -1,4 +1,4 @@
-use Rattle.std.proofs.Common.{◌≡◌, List, ℕ, bit_or, length, map, ap, ◌∙◌, arith}
+use Rattle.std.proofs.Common.{◌≡◌, bit_or, length, map, ap, ◌∙◌, arith}
 use Rattle.std.proofs.lemmas.List.{length-map}
 use Rattle.std.proofs.lemmas.Simd.{length-chunk, map-map}
 use Rattle.std.specs.Simd.Lanes.{chunk, mask_l, zip2}

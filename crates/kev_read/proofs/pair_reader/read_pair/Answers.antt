@@ -1,8 +1,6 @@
-use Rattle.std.proofs.Common.{◌≡◌, ◌+◌, ◌-◌, ◌<◌, [], get_or, length, drop, take, sym, ap, ◌∙◌, subst, arith, slice_range, refl, rules}
+use Rattle.std.proofs.Common.{◌≡◌, ◌+◌, ◌-◌, ◌<◌, get_or, length, drop, take, sym, ap, ◌∙◌, subst, arith, rules}
 use Rattle.std.proofs.Common.{length-drop}
-use Rattle.std.proofs.Math.Logic.{⊎_elim}
-use Rattle.kev_read.specs.Pairs.{decoded}
-use Rattle.kev_read.specs.Private.Layout.{pair_in, part_in}
+use Rattle.kev_read.specs.Private.Layout.{part_in}
 use Rattle.kev_read.specs.Private.Reading.{IsFirstPair}
 use Rattle.kev_read.proofs.FirstPairs.{pair_of_both, pair_of_key}
 use Rattle.kev_read.proofs.PairsInText.{part_stays}

@@ -1,4 +1,4 @@
-use Rattle.std.proofs.Common.{◌≡◌, ◌≤◌, ◌-◌, ◌++◌, map, drop, length}
+use Rattle.std.proofs.Common.{◌≡◌, ◌-◌, ◌++◌, map, drop, length}
 use Rattle.std.specs.Prelude.{All}
 use Rattle.form_urlencoded.specs.Form.{raw_pairs}
 use Rattle.kev_read.specs.Pairs.{pairs_of, decoded_pair}

@@ -1,4 +1,5 @@
-use Rattle.std.proofs.Common.{ℕ, ◌<◌, ◌≤◌, zero, suc, List, [], arith, get_or, length, subst, sym}
+use Rattle.std.proofs.Common.{ℕ, ◌<◌, ◌≤◌, zero, suc, List, [], arith, get_or, length}
+use Rattle.std.proofs.lemmas.Grind.{common_steps}
 use Rattle.text_model.specs.Texts.{Text}
 use Rattle.kbart_rows.specs.Hashing.{hash_of}
 use Rattle.kbart_rows.specs.Private.Index.{IsAhead, half_of}
@@ -14,11 +15,7 @@ Ahead entries keys ids from k run = k < length ids → IsAhead entries from (hal
 
 -- rows at or after `from` are not before a smaller row
 lower : (entries : List Entry) (from row wanted : ℕ) (run : Run) → row ≤ from → IsAhead entries row wanted run → IsAhead entries from wanted run
-lower entries from row wanted run le ahead = record {
-  hash = ahead.hash;
-  low = ahead.low;
-  ahead = λ k d inside is high. ahead.ahead k d inside is (omega (arith, le, high));
-}
+lower entries from row wanted run le ahead = grind (arith, common_steps)
 
 each : (keys : Keys) (ids : List Text) (from row : ℕ) (runs : Runs) → row ≤ from → length ids ≤ 3 → Ahead runs.entries.now keys ids row 0 runs.first
     → Ahead runs.entries.now keys ids row 1 runs.second → Ahead runs.entries.now keys ids row 2 runs.third
@@ -32,13 +29,4 @@ each keys ids from row runs le few first second third (suc (suc zero)) inside =
 each keys ids from row runs le few first second third (suc (suc (suc k))) inside = absurd (omega (arith, few, inside))
 
 pub returns-clause-ahead : goal.returns-clause-ahead
-returns-clause-ahead c =
-    let keys = c.args.keys.now in
-    let ids = c.args.ids.now in
-    let runs : Runs = record { entries = c.as_slice.result; first = c.of.result; second = c.of-2.result; third = c.of-3.result } in
-    let entries = sym c.as_slice.ensures.entries in
-    let row = c.min-row.ensures in
-    each keys ids c.args.from c.min-row.result runs (omega (arith, row)) c.of.ensures.few
-    (subst (λ (entries : List Entry). Ahead entries keys ids c.min-row.result 0 c.of.result) entries c.of.ensures.ahead)
-    (subst (λ (entries : List Entry). Ahead entries keys ids c.min-row.result 1 c.of-2.result) entries c.of-2.ensures.ahead)
-    (subst (λ (entries : List Entry). Ahead entries keys ids c.min-row.result 2 c.of-3.result) entries c.of-3.ensures.ahead)
+returns-clause-ahead c = grind (arith, common_steps)

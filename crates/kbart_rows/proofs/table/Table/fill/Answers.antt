@@ -1,5 +1,6 @@
-use Rattle.std.proofs.Common.{◌≡◌, ◌≤◌, ◌+◌, ◌∙◌, [], drop, get_or, length, ap, sym, arith}
-use Rattle.std.proofs.lemmas.List.{get_or-drop, length-drop}
+use Rattle.std.proofs.Common.{◌≡◌, ◌≤◌, ◌+◌, [], drop, get_or, length, ap, arith}
+use Rattle.std.proofs.lemmas.Grind.{common_steps}
+use Rattle.std.proofs.lemmas.List.{length-drop}
 use Rattle.environment_model.specs.Environment.{byte_count, member_count}
 use Rattle.kbart_rows.specs.Cells.{Holdings, cell_bytes, named_cells, row_bytes}
 use Rattle.kbart_rows.specs.Lines.{cells_in}
@@ -10,14 +11,7 @@ use Rattle.kbart_rows.proofs.table.Table.fill.Goals as goal
 -- the cells that were added are those of the row
 cells_are : (c : goal.After-fill) → named_cells (cells_in c.header.result.now) (cells_in c.line.result.now) ≡ named_cells c.args.self.now.header
     (get_or c.args.self.now.rows c.args.row [])
-cells_are c =
-    let lines = c.self.inside.lines in
-    let row = c.args.row in
-    let next : row + 1 ≡ 1 + row = omega arith in
-    let header = c.header.ensures.cells in
-    let cells = c.line.ensures.cells ∙ ap (λ (place : _). get_or lines place []) next ∙ sym (get_or-drop 1 lines row [])
-    ∙ ap (λ (table : Holdings). get_or table.rows row []) c.self.view_is in
-    ap (λ (names : _). named_cells names (cells_in c.line.result.now)) header ∙ ap (named_cells c.args.self.now.header) cells
+cells_are c = grind (arith, common_steps)
 
 -- and there are few enough of them
 small : (c : goal.After-fill) → cell_bytes (named_cells (cells_in c.header.result.now) (cells_in c.line.result.now)) ≤ MAX_ROW_BYTES

@@ -1,5 +1,4 @@
 use Rattle.std.proofs.Common.{length, ap, arith}
-use Rattle.environment_model.specs.Environment.{byte_count, member_count}
 use Rattle.kev_read.specs.ReadQuery.{ReadQuery}
 use Rattle.kev_read.proofs.FillingLemmas.{reaches, reached_bytes, reached_members, only_memory}
 use Rattle.kev_read.proofs.request.Request.fill.Goals as goal
@@ -18,15 +17,7 @@ returns-clause-members c =
     omega (arith, reached_members _ _ _ _ reach)
 
 pub returns-clause-room : goal.returns-clause-room
-returns-clause-room c = λ few_bytes few_members.
-    let query_bytes = ap (λ (r : ReadQuery). r.query_bytes) c.self.view_is in
-    let whole = ap (λ (r : ReadQuery). length r.pairs) c.self.view_is in
-    let bounded = c.self.invariant.0.values in
-    only_memory _ _ _ _ c.fill.result c.fill.ensures.err (omega arith) (omega arith)
+returns-clause-room c = grind (arith, c.self.view_is, c.self.invariant.0.values, only_memory, c.fill.result, c.fill.ensures.err)
 
 pub returns-clause-empty : goal.returns-clause-empty
-returns-clause-empty c = λ empty.
-    let no_bytes = ap byte_count empty in
-    let no_members = ap member_count empty in
-    let bounded = c.self.invariant.0 in
-    only_memory _ _ _ _ c.fill.result c.fill.ensures.err (omega arith) (omega arith)
+returns-clause-empty c = grind (arith, c.self.invariant.0, only_memory, c.fill.result, c.fill.ensures.err)
