@@ -2,6 +2,7 @@
 use Rattle.std.proofs.Common.{◌≡◌, ℕ, zero, suc, ◌+◌, ◌*◌, ◌<◌, ◌≤◌, length, Option, Some, None, Bool, true, false, sym, subst, arith}
 use Rattle.std.specs.Prelude.{if◌then◌else◌}
 use Rattle.std.proofs.Math.Nat.{mul-suc}
+use Rattle.std.proofs.lemmas.Grind.{common_steps}
 use Rattle.code_model.specs.Code.{Code, reading_at}
 use Rattle.code_model.specs.declared.code.Instruction.{Instruction}
 use Rattle.code_model.specs.declared.code.Instruction.TheVariants as instruction
@@ -71,14 +72,7 @@ module _ (c : Code) (is : IsCode c) where
       (λ p. printed_le (is_of_element c p) (reading_at c p)) n in
       let o2 = apart c (written_at c) (of_element c (written_at c)) 3 written_at_le of_element_le n in
       let o3 = apart c (written_at c) (of_others c (written_at c)) 3 written_at_le of_others_le n in
-      record {
-        s0 = omega (arith, steps);
-        s1 = omega (arith, steps);
-        o0 = omega (arith, printed);
-        o1 = omega (arith, printed);
-        o2 = omega (arith, o2);
-        o3 = omega (arith, o3);
-      }
+      grind (arith, common_steps)
 
   pub small_after : (place : ℕ) (sums : Sums) → place < length c.instrs → sums ≡ sums_below c (place + 1) → IsSmall sums
   small_after place sums lt is = subst IsSmall (sym is) (small_below (place + 1) (omega arith))

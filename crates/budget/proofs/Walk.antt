@@ -1,9 +1,10 @@
 -- The body of each place in turn, with whether it keeps its element.
-use Rattle.std.proofs.Common.{◌≡◌, ℕ, suc, ◌+◌, ◌<◌, ◌≤◌, Option, Some, None, refl, sym, ap, ◌∙◌, subst, arith, add-one}
+use Rattle.std.proofs.Common.{◌≡◌, ℕ, suc, ◌+◌, ◌<◌, ◌≤◌, Option, Some, None, refl, sym, ap, ◌∙◌, arith, add-one}
 use Rattle.code_model.specs.Code.{Code, reading_at}
 use Rattle.machine_model.specs.declared.form.Body.{Body}
 use Rattle.machine_model.specs.Form.{opened, body_after, body_at}
 use Rattle.std.specs.Prelude.{◌&&◌}
+use Rattle.std.proofs.lemmas.Grind.{common_steps}
 use Rattle.code_model.specs.declared.code.Instruction.{Instruction}
 use Rattle.machine_model.specs.Budget.{keeps_element, prints, is_of_element}
 use Rattle.machine_model.proofs.Bodies.{body_suc, body_on, body_off}
@@ -25,9 +26,7 @@ module _ (c : Code) where
 
   kept_in : (o : Option Body) (r : Running) → Some r ≡ running_in c o → r.kept ≡ keeps_element c r.body
   kept_in None r h = absurd (cc)
-  kept_in (Some b) r h =
-      let same : r ≡ record { body = b; kept = keeps_element c b } = cc in
-      subst (λ x. x.kept ≡ keeps_element c x.body) (sym same) refl
+  kept_in (Some b) r h = grind (arith, common_steps)
 
   pub no_body_at : (p : ℕ) → None ≡ running_at c p → body_at c p ≡ None
   no_body_at p h = none_in (body_at c p) h
@@ -39,16 +38,10 @@ module _ (c : Code) where
   kept_at p r h = kept_in (body_at c p) r h
 
   pub running_on : (p : ℕ) (r : Running) → Some r ≡ running_at c p → p + 1 < r.body.end → Some r ≡ running_at c (p + 1)
-  running_on p r h lt =
-      let same = the_body_at p r h in
-      let on : body_at c (suc p) ≡ Some r.body = body_on c p r.body same (omega arith) in
-      h ∙ ap (running_in c) (same ∙ sym (rw add-one on))
+  running_on p r h lt = grind (arith, the_body_at, body_on, add-one)
 
   pub running_off : (p : ℕ) (r : Running) → Some r ≡ running_at c p → r.body.end ≤ p + 1 → None ≡ running_at c (p + 1)
-  running_off p r h le =
-      let off : body_at c (suc p) ≡ None = body_off c p r.body (the_body_at p r h) (omega arith) in
-      let same : None ≡ body_at c (p + 1) = rw add-one (sym off) in
-      ap (running_in c) {x = None} same
+  running_off p r h le = grind (arith, body_off, the_body_at, add-one)
 
   pub running_opened : (p : ℕ) → None ≡ running_at c p → running_in c (opened c p (reading_at c p)) ≡ running_at c (p + 1)
   running_opened p h =

@@ -1,6 +1,5 @@
 -- The errors of small files, each with its place.
-use Rattle.std.proofs.Common.{◌≡◌, ℕ, true, false, [], ◌∷◌, ◌++◌, ◌≤◌, length, refl, inl, inr, subst, codes, arith}
-use Rattle.std.proofs.Common.{length-append}
+use Rattle.std.proofs.Common.{◌≡◌, ℕ, true, false, [], ◌∷◌, ◌++◌, ◌≤◌, length, refl, inl, inr, subst, codes, arith, length-append}
 use Rattle.std.specs.Prelude.{All}
 use Rattle.std.proofs.lemmas.List.Elements.{All-nil, All-cons}
 use Rattle.text_model.specs.Texts.{Text}
@@ -10,10 +9,9 @@ use Rattle.code_file.specs.declared.error.CodeError.{CodeError}
 use Rattle.code_file.specs.declared.error.CodeErrorKind.TheVariants.{TooLong, BadMagic, Truncated, TooMany, NoCode, BadName, BadKind, BadLiteral, Trailing}
 use Rattle.code_file.specs.declared.header.Header.{Header}
 use Rattle.code_file.specs.Grammar.{magic, IsNameByte, IsCodeName, IsLiteral, IsCodeFile}
-use Rattle.code_file.specs.Fault.{fault, after, no_kind, bad_kind, IsNameFault, IsLiteralFault, in_kind, no_length, bad_length, no_text, bad_text}
-use Rattle.code_file.specs.Fault.{IsTableFault, IsFirstWrong}
-use Rattle.code_file.specs.Fault.{IsFirstFault, in_field, too_long, IsFieldFault, bad_magic, no_counts, bad_counts, in_names, in_literals, in_instrs, trailing}
-use Rattle.code_file.specs.Fault.{PastMagic, PastCounts, PastHeader, PastNames, PastLiterals}
+use Rattle.code_file.specs.Fault.{fault, after, no_kind, bad_kind, IsNameFault, IsLiteralFault, in_kind, no_length, bad_length, no_text, bad_text, IsTableFault}
+use Rattle.code_file.specs.Fault.{IsFirstWrong, IsFirstFault, in_field, too_long, IsFieldFault, bad_magic, no_counts, bad_counts, in_names, in_literals}
+use Rattle.code_file.specs.Fault.{in_instrs, trailing, PastMagic, PastCounts, PastHeader, PastNames, PastLiterals}
 
 -- ---- the length of the file
 

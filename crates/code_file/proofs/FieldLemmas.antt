@@ -4,9 +4,7 @@ use Rattle.std.specs.Prelude.{◌==◌, Result, Ok, Err, MatchResult, IsOk}
 use Rattle.std.specs.Str.{IsUtf8, IsAscii}
 use Rattle.std.proofs.lemmas.Grind.{common_steps}
 use Rattle.std.proofs.lemmas.Str.{IsUtf8-from_ascii}
-use Rattle.std.proofs.Math.Seq.{take-append_seam}
 use Rattle.code_file.specs.Private.Tables.{BeginsWith}
-use Rattle.std.proofs.lemmas.List.{take-append-drop}
 use Rattle.text_model.specs.Texts.{Text}
 use Rattle.code_model.specs.Code.{Name}
 use Rattle.code_file.specs.Grammar.{number, kind_byte, name_field, IsCodeName}
@@ -17,10 +15,7 @@ kind_byte-kind k h = grind arith
 pub name_spelled : (bytes rest text after : Text) (list : Bool) (len : ℕ) → bytes ≡ kind_byte list ∷ len ∷ rest
     → text ≡ take len rest → after ≡ drop len rest → length text ≡ len
     → bytes ≡ kind_byte list ∷ length text ∷ (text ++ after)
-name_spelled bytes rest text after list len h front back n =
-    h ∙ ap (λ (t : Text). kind_byte list ∷ len ∷ t)
-    (sym (ap (λ (t : Text). t ++ after) front ∙ ap (λ (t : Text). take len rest ++ t) back ∙ take-append-drop len rest))
-    ∙ ap (λ (k : ℕ). kind_byte list ∷ k ∷ (text ++ after)) (sym n)
+name_spelled bytes rest text after list len h front back n = grind (arith, common_steps)
 
 pub literal_spelled : (bytes following rest text after : Text) (compared : Bool) (len : ℕ) → bytes ≡ kind_byte compared ∷ following
     → following ≡ number len ++ rest → text ≡ take len rest → after ≡ drop len rest → length text ≡ len
@@ -40,11 +35,7 @@ ascii_name n good i = grind (arith, common_steps)
 pub name_text : (bytes following text : Text) → BeginsWith IsCodeName name_field bytes → following ≡ drop 2 bytes
     → text ≡ take (get_or bytes 1 0) following → IsUtf8 text
 name_text bytes following text b h e =
-    let spells : bytes ≡ name_field b.0 ++ b.1 = b.3 in
-    let len : get_or bytes 1 0 ≡ length b.0.text = ap (λ (t : Text). get_or t 1 0) spells in
-    let following_is : following ≡ b.0.text ++ b.1 = h ∙ ap (drop 2) spells in
-    let same : text ≡ b.0.text =
-    e ∙ ap (λ (n : ℕ). take n following) len ∙ ap (take (length b.0.text)) following_is ∙ take-append_seam b.0.text b.1 in
+    let same : text ≡ b.0.text = grind (arith, common_steps) in
     subst IsUtf8 (sym same) (IsUtf8-from_ascii b.0.text (ascii_name b.0 b.2))
 
 pub ok_of_utf8 : {T E : Type 0} (r : Result T E) (P : T → Type 0) (Q : E → Type 0) (U : Type 0)

@@ -4,7 +4,7 @@ use Rattle.std.proofs.lemmas.Grind.{common_steps}
 use Rattle.std.proofs.Common.{None}
 use Rattle.std.specs.Prelude.{All}
 use Rattle.std.proofs.lemmas.Bool.{cases_lt, cases_eq}
-use Rattle.std.proofs.lemmas.List.{append-nil, take-append-drop, length-take-le, get_or_past, nil_from_length}
+use Rattle.std.proofs.lemmas.List.{take-append-drop}
 use Rattle.text_model.specs.Texts.{Text}
 use Rattle.code_model.specs.Code.{Code}
 use Rattle.code_file.specs.declared.limits.TheConstants.{MAX_BYTES}
@@ -96,19 +96,11 @@ instrs_here bytes fits short p =
     elim (cases_lt (length p.rest) room) [
       | inl few ↦ inr (_, in_instrs p few)
       | inr enough ↦
-          let tables : AreTables front p.header p.names p.literals instrs =
-          record {
-            allowed = p.allowed;
-            name_table = p.name_table;
-            literal_table = p.literal_table;
-            room = length-take-le room p.rest enough;
-            spells = refl;
-          } in
+          let tables : AreTables front p.header p.names p.literals instrs = grind (arith, common_steps) in
           elim (cases_lt 0 (length following)) [
             | inl some ↦ inr (_, trailing_here bytes front following p.header p.names p.literals instrs tables spells some short fits)
             | inr none ↦
-                let same : front ≡ bytes =
-                sym (spells ∙ ap (λ (t : Text). front ++ t) (nil_from_length following (omega arith)) ∙ append-nil front) in
+                let same : front ≡ bytes = grind (arith, common_steps) in
                 inl (code_of_tables bytes p.header p.names p.literals instrs
                 (subst (λ (t : Text). AreTables t p.header p.names p.literals instrs) same tables) short fits)
           ]
@@ -169,10 +161,7 @@ fields_here bytes fits short = elim (magic_or_not bytes) [
 ]
 
 are_bytes : (bytes : Text) → All (λ b. b < 256) bytes → AreBytes bytes
-are_bytes bytes h i = elim (cases_lt i (length bytes)) [
-  | inl here ↦ h i 0 here
-  | inr past ↦ let none = get_or_past bytes i 0 past in omega (arith, none)
-]
+are_bytes bytes h i = grind (arith, common_steps)
 
 pub code_or_fault : (bytes : Text) → All (λ b. b < 256) bytes
     → ((c : Code) × IsCodeFile bytes c) ⊎ ((e : CodeError) × IsFirstFault bytes e)

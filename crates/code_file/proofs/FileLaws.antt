@@ -1,17 +1,16 @@
 -- A file has one code or one first error, since each stage of reading has one result.
-use Rattle.std.proofs.Common.{◌≡◌, ◌≤◌, ◌+◌, ◌*◌, ℕ, false, List, [], ◌∷◌, ◌++◌, length, refl, sym, ◌∙◌, ap, subst, append_assoc, arith}
-use Rattle.std.proofs.Common.{length-append, Option, None}
-use Rattle.std.specs.Prelude.{Result, Ok, Err, ◌==◌}
+use Rattle.std.proofs.Common.{◌≡◌, ◌≤◌, ◌+◌, ◌*◌, ℕ, List, [], ◌∷◌, ◌++◌, length, refl, sym, ◌∙◌, ap, subst, arith, length-append, Option, None}
+use Rattle.std.specs.Prelude.{Result, Ok, Err}
 use Rattle.std.specs.List.{flat_map}
-use Rattle.std.proofs.lemmas.Bool.{le-ltb, ne_eqb}
 use Rattle.std.proofs.lemmas.List.{append-nil}
+use Rattle.std.proofs.lemmas.Grind.{common_steps}
 use Rattle.text_model.specs.Texts.{Text}
 use Rattle.code_model.specs.Code.{Code}
 use Rattle.code_file.specs.declared.header.Header.{Header}
-use Rattle.code_file.specs.declared.limits.TheConstants.{MAX_BYTES, MAX_NAMES, MAX_LITERALS, MAX_INSTRS}
+use Rattle.code_file.specs.declared.limits.TheConstants.{MAX_BYTES}
 use Rattle.code_file.specs.declared.error.CodeError.{CodeError}
 use Rattle.code_file.specs.declared.error.CodeErrorKind.TheVariants.{Truncated, Trailing, NoMemory}
-use Rattle.code_file.specs.Grammar.{header_field, header_of, name_field, literal_field, instr_field, IsCodeName, IsLiteral, IsHeader, IsCodeFile}
+use Rattle.code_file.specs.Grammar.{header_of, name_field, literal_field, instr_field, IsCodeName, IsLiteral, IsHeader, IsCodeFile}
 use Rattle.code_file.specs.Fault.{fault, after, header_fault, PastHeader, PastNames, PastLiterals, IsNameFault, IsLiteralFault, IsTable, IsTableFault}
 use Rattle.code_file.specs.Fault.{IsFieldFault, bad_magic, no_counts, bad_counts, in_names, in_literals, in_instrs, trailing, IsFirstFault, too_long, in_field}
 use Rattle.code_file.specs.Fault.{IsRefusal}
@@ -23,26 +22,14 @@ use Rattle.code_file.proofs.ReadingStages.{literals_faulty, ReadsInstrs, too_few
 -- ---- a code, or an error, is the result of the stages
 
 no_header_fault : (h : Header) → IsHeader h → header_fault h ≡ None
-no_header_fault h a =
-    let some : (h.instrs == 0) ≡ false = ne_eqb h.instrs 0 (λ e. omega (arith, a.some, e)) in
-    rw (le-ltb MAX_NAMES h.names a.names, le-ltb MAX_LITERALS h.literals a.literals, le-ltb MAX_INSTRS h.instrs a.instrs, some) refl
+no_header_fault h a = grind (arith, common_steps)
 
 header_read : (bytes : Text) (p : PastHeader bytes) → ReadsHeader bytes (Ok (p.header, p.rest))
 unfolding outcome
 header_read bytes p =
     let a = p.allowed in
     subst (ReadsHeader bytes) (ap (λ (o : Option CodeError). outcome o p.header p.rest) (no_header_fault p.header a))
-    (counted (record {
-      header = p.header;
-      rest = p.rest;
-      numbers = record {
-        version = a.version;
-        names = omega (arith, a.names);
-        literals = omega (arith, a.literals);
-        instrs = omega (arith, a.instrs);
-      };
-      spells = p.spells;
-    }))
+    (counted (grind (arith, common_steps)))
 
 table_found : {X : Type 0} (IsGood : X → Type 0) (field : X → Text) (IsFault : Text → CodeError → Type 0) (count : ℕ)
     (bytes rest : Text) (t : IsTable IsGood field count bytes) → ReadsTable IsGood field IsFault count (bytes ++ rest) (Ok (t.0, rest))
@@ -52,8 +39,7 @@ table_found IsGood field IsFault count bytes rest t =
 table_faulty : {X : Type 0} (IsGood : X → Type 0) (field : X → Text) (IsFault : Text → CodeError → Type 0) (count : ℕ)
     (bytes : Text) (e : CodeError) → IsTableFault IsGood field IsFault count bytes e → ReadsTable IsGood field IsFault count bytes (Err e)
 table_faulty {X = X} IsGood field IsFault count bytes e t =
-    let place : after (length (flat_map field t.table.0)) t.here ≡ e =
-    ap (λ (b : Text). after (length b) t.here) (sym t.table.1.spells) ∙ sym t.place in
+    let place : after (length (flat_map field t.table.0)) t.here ≡ e = grind (arith, common_steps) in
     subst (λ (x : CodeError). let r : Result (List X × Text) CodeError = Err x in ReadsTable IsGood field IsFault count bytes r) place
     (faulty t.table.0 t.rest t.here t.table.1.good (omega (arith, t.table.1.counted, t.fewer))
     (t.spells ∙ ap (λ (b : Text). b ++ t.rest) t.table.1.spells) t.faulty)
@@ -70,14 +56,7 @@ literals_read : (bytes : Text) (p : PastLiterals bytes) (r : Result Code CodeErr
     → ReadsInstrs (p.header, p.name_table.0, p.literal_table.0, p.rest) r → Reads bytes r
 literals_read bytes p r more =
     names_read bytes
-    (record {
-      header = p.header;
-      names = p.names;
-      rest = p.literals ++ p.rest;
-      allowed = p.allowed;
-      name_table = p.name_table;
-      spells = p.spells;
-    })
+    (grind (arith, common_steps))
     r
     (continues (p.header, p.name_table.0, p.literal_table.0, p.rest) r
     (literals_found p.literal_table.0 p.rest
@@ -93,14 +72,7 @@ past_literals bytes front following c f h = record {
   allowed = f.is_code.header;
   name_table = (c.names, record { good = f.is_code.names; counted = refl; spells = refl });
   literal_table = (c.literals, record { good = f.is_code.literals; counted = refl; spells = refl });
-  spells =
-      h ∙ ap (λ (b : Text). b ++ following) f.spells
-      ∙ append_assoc (header_field (header_of c)) (flat_map name_field c.names ++ (flat_map literal_field c.literals ++ flat_map instr_field c.instrs))
-      following
-      ∙ ap (λ (b : Text). header_field (header_of c) ++ b)
-      (append_assoc (flat_map name_field c.names) (flat_map literal_field c.literals ++ flat_map instr_field c.instrs) following
-      ∙ ap (λ (b : Text). flat_map name_field c.names ++ b)
-      (append_assoc (flat_map literal_field c.literals) (flat_map instr_field c.instrs) following));
+  spells = grind (arith, common_steps);
 }
 
 reads_code : (bytes : Text) (c : Code) → IsCodeFile bytes c → Reads bytes (Ok c)
@@ -122,21 +94,13 @@ reads_fault bytes e (in_names p f t) =
     continues (p.header, p.rest) _ (header_read bytes p)
     (stops _ (names_faulty f (table_faulty IsCodeName name_field IsNameFault p.header.names p.rest f t)))
 reads_fault bytes e (in_literals p f t) =
-    let place : after (10 + length (flat_map name_field p.name_table.0)) f ≡ after (10 + length p.names) f =
-    ap (λ (b : Text). after (10 + length b) f) (sym p.name_table.1.spells) in
+    let place : after (10 + length (flat_map name_field p.name_table.0)) f ≡ after (10 + length p.names) f = grind (arith, common_steps) in
     subst (λ (x : CodeError). Reads bytes (Err x)) place
     (names_read bytes p _
     (stops _ (literals_faulty f (table_faulty IsLiteral literal_field IsLiteralFault p.header.literals p.rest f t))))
 reads_fault bytes e (in_instrs p few) =
     let place : 10 + length (flat_map name_field p.name_table.0) + length (flat_map literal_field p.literal_table.0) + length p.rest ≡ length bytes =
-    omega (
-      arith,
-      ap length p.spells,
-      length-append p.names (p.literals ++ p.rest),
-      length-append p.literals p.rest,
-      ap length p.name_table.1.spells,
-      ap length p.literal_table.1.spells,
-    ) in
+    grind (arith, common_steps) in
     subst (λ (k : ℕ). Reads bytes (Err (fault Truncated k))) place (literals_read bytes p _ (too_few few))
 reads_fault bytes e (trailing front rest b c f h) =
     let place : 10 + length (flat_map name_field c.names) + length (flat_map literal_field c.literals) + 8 * length c.instrs ≡ length front =
@@ -150,9 +114,6 @@ reads_fault bytes e (trailing front rest b c f h) =
 pub file_one_code : (bytes : Text) (c d : Code) → IsCodeFile bytes c → IsCodeFile bytes d → c ≡ d
 file_one_code bytes c d f g =
     let both = one_reading bytes (Ok c) (Ok d) (reads_code bytes c f) (reads_code bytes d g) in cc
-
-pub file_one_spelling : (x y : Text) (c : Code) → IsCodeFile x c → IsCodeFile y c → x ≡ y
-file_one_spelling x y c f g = f.spells ∙ sym g.spells
 
 short_file : (bytes : Text) (c : Code) → IsCodeFile bytes c → length bytes ≤ MAX_BYTES
 short_file bytes c f = omega (arith, ap length f.spells, f.is_code.short)

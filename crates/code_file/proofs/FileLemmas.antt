@@ -1,7 +1,7 @@
 -- A whole file, and its code.
-use Rattle.std.proofs.Common.{◌≡◌, ◌<◌, ◌≤◌, ◌+◌, ◌*◌, ◌-◌, ◌/◌, ◌%◌, ℕ, zero, suc, false, List, [], ◌∷◌, ◌++◌, length, take, drop, get_or, refl, sym, ◌∙◌, ap}
+use Rattle.std.proofs.Common.{◌≡◌, ◌<◌, ◌≤◌, ◌+◌, ◌*◌, ◌-◌, ℕ, zero, suc, false, List, [], ◌∷◌, ◌++◌, length, take, drop, get_or, refl, sym, ◌∙◌, ap}
 use Rattle.std.proofs.lemmas.Grind.{common_steps}
-use Rattle.std.proofs.Common.{subst, append_assoc, arith, length-append}
+use Rattle.std.proofs.Common.{subst, arith, length-append}
 use Rattle.std.specs.Prelude.{◌==◌}
 use Rattle.std.proofs.lemmas.List.{nil_from_length, take-append-drop}
 use Rattle.text_model.specs.Texts.{Text}
@@ -10,8 +10,7 @@ use Rattle.code_model.specs.declared.code.Instr.{Instr}
 use Rattle.code_file.specs.declared.header.Header.{Header}
 use Rattle.code_file.specs.declared.limits.TheConstants.{MAX_BYTES}
 use Rattle.code_file.specs.declared.error.CodeErrorKind.TheVariants.{Trailing}
-use Rattle.code_file.specs.Grammar.{number, header_field, name_field, literal_field, instr_field, IsCodeName, IsLiteral, IsInstr}
-use Rattle.code_file.specs.Grammar.{IsCodeFile}
+use Rattle.code_file.specs.Grammar.{number, header_field, name_field, literal_field, instr_field, IsCodeName, IsLiteral, IsInstr, IsCodeFile}
 use Rattle.code_file.specs.Fault.{fault, IsTableOf, IsTable, IsFieldFault, trailing}
 use Rattle.code_file.specs.Private.Tables.{AreTables}
 use Rattle.code_file.proofs.TableLemmas.{table_none, table_cons}
@@ -32,10 +31,7 @@ bytes_left (b ∷ front) back h (suc i) = bytes_left front back (λ j. h (suc j)
 
 -- two bytes are the encoding of their number
 pub number_of_bytes : (high low : ℕ) → high < 256 → low < 256 → number (256 * high + low) ≡ high ∷ low ∷ []
-number_of_bytes high low h l =
-    let top : (256 * high + low) / 256 % 256 ≡ high = omega arith in
-    let bottom : (256 * high + low) % 256 ≡ low = omega arith in
-    rw (top, bottom) refl
+number_of_bytes high low h l = grind (arith, common_steps)
 
 pub number_small : (high low : ℕ) → high < 256 → low < 256 → 256 * high + low < 65536
 number_small high low h l = omega arith
@@ -111,10 +107,7 @@ trailing_here bytes front (b ∷ rest) k names literals instrs t h some short fi
 
 pub five_parts : (bytes head rest1 names rest2 literals rest3 instrs rest4 : Text) → bytes ≡ head ++ rest1 → rest1 ≡ names ++ rest2
     → rest2 ≡ literals ++ rest3 → rest3 ≡ instrs ++ rest4 → bytes ≡ (head ++ (names ++ (literals ++ instrs))) ++ rest4
-five_parts bytes head rest1 names rest2 literals rest3 instrs rest4 p q r s =
-    p ∙ ap (λ (t : Text). head ++ t) (q ∙ ap (λ (t : Text). names ++ t) (r ∙ ap (λ (t : Text). literals ++ t) s))
-    ∙ sym (append_assoc head (names ++ (literals ++ instrs)) rest4 ∙ ap (λ (t : Text). head ++ t)
-    (append_assoc names (literals ++ instrs) rest4 ∙ ap (λ (t : Text). names ++ t) (append_assoc literals instrs rest4)))
+five_parts bytes head rest1 names rest2 literals rest3 instrs rest4 p q r s = grind (arith, common_steps)
 
 pub cut_in_two : (n : ℕ) (text front back : Text) → front ≡ take n text → back ≡ drop n text → text ≡ front ++ back
 cut_in_two n text front back p q = rw (p, q) (sym (take-append-drop n text))

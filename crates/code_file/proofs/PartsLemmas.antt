@@ -46,11 +46,7 @@ first_wrong_of (b ∷ text) = elim (is_name_byte_or_not b) [
     | inl all ↦ inl (All-cons IsNameByte b text good all)
     | inr found ↦ inr (
       suc found.0,
-      record {
-        within = omega (arith, found.1.within);
-        before = All-cons IsNameByte b (take found.0 text) good found.1.before;
-        wrong = found.1.wrong;
-      },
+      grind (arith, common_steps),
     )
   ]
 ]

@@ -10,7 +10,7 @@ use Rattle.code_model.specs.declared.code.Instr.{Instr}
 use Rattle.code_file.specs.declared.header.Header.{Header}
 use Rattle.code_file.specs.declared.error.CodeError.{CodeError}
 use Rattle.code_file.specs.declared.error.CodeErrorKind.TheVariants.{BadMagic, Truncated, Trailing}
-use Rattle.code_file.specs.Grammar.{digit_byte, magic, number, header_field, code_with, name_field, literal_field, instr_field, IsCodeName, IsLiteral, IsInstr}
+use Rattle.code_file.specs.Grammar.{magic, number, header_field, code_with, name_field, literal_field, instr_field, IsCodeName, IsLiteral, IsInstr}
 use Rattle.code_file.specs.Fault.{fault, cut_short, after, header_fault, IsHeaderField, PastMagic, PastCounts, IsNameFault, IsLiteralFault}
 use Rattle.code_file.proofs.StageLemmas.{IsApart, ReadsTable, one_table, same_entries, IsOne, Then, then_one}
 use Rattle.code_file.proofs.NameLaws.{names_apart}
@@ -29,10 +29,7 @@ pub data ReadsHeader (bytes : Text) : Result (Header × Text) CodeError → Type
   counted : (p : PastCounts bytes) → ReadsHeader bytes (outcome (header_fault p.header) p.header p.rest)
 
 same_magic : (v w : ℕ) (s t : Text) → magic v ++ s ≡ magic w ++ t → (v ≡ w) × (s ≡ t)
-same_magic v w s t h =
-    let digit : digit_byte v ≡ digit_byte w = cc in
-    let tail : s ≡ t = cc in
-    (omega (arith, digit), tail)
+same_magic v w s t h = grind (arith, common_steps)
 
 same_header : (h k : Header) (s t : Text) → IsHeaderField h → IsHeaderField k → header_field h ++ s ≡ header_field k ++ t → (h ≡ k) × (s ≡ t)
 same_header h k s t p q same = grind (arith, common_steps)
@@ -76,17 +73,12 @@ pub data ReadsNames (s : Header × Text) : Result Names CodeError → Type 0 whe
   names_faulty : (e : CodeError) → ReadsTable IsCodeName name_field IsNameFault s.0.names s.1 (Err e) → ReadsNames s (Err (after 10 e))
 
 one_names : IsOne ReadsNames
-one_names s r q (names_found ns x h) (names_found ms y g) =
-    let both = one_table IsCodeName name_field IsNameFault names_apart s.0.names s.1 _ _ h g in
-    let same : (ns, x) ≡ (ms, y) = cc in
-    ap (λ (p : List Name × Text). let a : Result Names CodeError = Ok (s.0, p.0, p.1) in a) same
+one_names s r q (names_found ns x h) (names_found ms y g) = grind (arith, one_table, names_apart)
 one_names s r q (names_found ns x h) (names_faulty e g) =
     let both = one_table IsCodeName name_field IsNameFault names_apart s.0.names s.1 _ _ h g in cc
 one_names s r q (names_faulty e g) (names_found ns x h) =
     let both = one_table IsCodeName name_field IsNameFault names_apart s.0.names s.1 _ _ h g in cc
-one_names s r q (names_faulty e h) (names_faulty f g) =
-    let both = one_table IsCodeName name_field IsNameFault names_apart s.0.names s.1 _ _ h g in
-    let same : e ≡ f = cc in ap (λ (x : CodeError). let a : Result Names CodeError = Err (after 10 x) in a) same
+one_names s r q (names_faulty e h) (names_faulty f g) = grind (arith, one_table, names_apart)
 
 pub data ReadsLiterals (s : Names) : Result Literals CodeError → Type 0 where
   literals_found : (ls : List Literal) (rest : Text) → ReadsTable IsLiteral literal_field IsLiteralFault s.0.literals s.2 (Ok (ls, rest))
@@ -95,18 +87,12 @@ pub data ReadsLiterals (s : Names) : Result Literals CodeError → Type 0 where
       → ReadsLiterals s (Err (after (10 + length (flat_map name_field s.1)) e))
 
 one_literals : IsOne ReadsLiterals
-one_literals s r q (literals_found ns x h) (literals_found ms y g) =
-    let both = one_table IsLiteral literal_field IsLiteralFault literals_apart s.0.literals s.2 _ _ h g in
-    let same : (ns, x) ≡ (ms, y) = cc in
-    ap (λ (p : List Literal × Text). let a : Result Literals CodeError = Ok (s.0, s.1, p.0, p.1) in a) same
+one_literals s r q (literals_found ns x h) (literals_found ms y g) = grind (arith, one_table, literals_apart)
 one_literals s r q (literals_found ns x h) (literals_faulty e g) =
     let both = one_table IsLiteral literal_field IsLiteralFault literals_apart s.0.literals s.2 _ _ h g in cc
 one_literals s r q (literals_faulty e g) (literals_found ns x h) =
     let both = one_table IsLiteral literal_field IsLiteralFault literals_apart s.0.literals s.2 _ _ h g in cc
-one_literals s r q (literals_faulty e h) (literals_faulty f g) =
-    let both = one_table IsLiteral literal_field IsLiteralFault literals_apart s.0.literals s.2 _ _ h g in
-    let same : e ≡ f = cc in
-    ap (λ (x : CodeError). let a : Result Literals CodeError = Err (after (10 + length (flat_map name_field s.1)) x) in a) same
+one_literals s r q (literals_faulty e h) (literals_faulty f g) = grind (arith, one_table, literals_apart)
 
 -- ---- the instructions, and the end
 
@@ -116,9 +102,6 @@ no_instr_fault bytes e = ⊥
 instrs_apart : IsApart IsInstr instr_field no_instr_fault
 unfolding no_instr_fault
 instrs_apart = grind (arith, common_steps)
-  where
-    one : (x y : Instr) (s t : Text) → IsInstr x → IsInstr y → instr_field x ++ s ≡ instr_field y ++ t → (x ≡ y) × (s ≡ t)
-    one x y s t g h e = grind (arith, common_steps)
 
 -- the bytes before the instructions
 abbrev front_len : Literals → ℕ

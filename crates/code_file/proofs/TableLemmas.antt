@@ -1,16 +1,10 @@
 -- Tables of entries that follow one another.
-use Rattle.std.proofs.Common.{◌≡◌, ◌<◌, ◌≤◌, ◌+◌, ◌-◌, ◌*◌, ℕ, suc, List, [], ◌∷◌, ◌++◌, length, take, drop, refl, sym, ◌∙◌, ap, subst, append_assoc, arith}
+use Rattle.std.proofs.Common.{◌≡◌, ◌<◌, ◌≤◌, ◌+◌, ◌-◌, ℕ, suc, List, [], ◌∷◌, ◌++◌, length, take, drop, refl, sym, ◌∙◌, ap, subst, arith, length-append}
 use Rattle.std.proofs.lemmas.Grind.{common_steps}
-use Rattle.std.proofs.Common.{length-append}
 use Rattle.std.specs.Prelude.{All}
 use Rattle.std.specs.List.{flat_map}
-use Rattle.std.proofs.lemmas.List.{append-nil, take-append-drop}
-use Rattle.std.proofs.Math.Seq.{take-append_seam}
-use Rattle.std.proofs.lemmas.List.Concat.{flat_map-append}
 use Rattle.std.proofs.lemmas.List.Elements.{All-nil, All-push, All-head, All-tail}
 use Rattle.text_model.specs.Texts.{Text}
-use Rattle.code_model.specs.declared.code.Instr.{Instr}
-use Rattle.code_file.specs.Grammar.{instr_field, IsInstr}
 use Rattle.code_file.specs.Fault.{after, IsTableOf, IsTable}
 
 pub table_none : {X : Type 0} (IsGood : X → Type 0) (field : X → Text) → IsTable IsGood field 0 []
@@ -22,10 +16,7 @@ pub table_more : {X : Type 0} {IsGood : X → Type 0} {field : X → Text} {coun
 table_more {IsGood = IsGood} {field = field} {bytes = bytes} {entries = entries} t x good = record {
   good = All-push IsGood entries x t.good good;
   counted = length-append entries (x ∷ []) ∙ ap (λ (n : ℕ). n + 1) t.counted;
-  spells =
-      ap (λ (b : Text). b ++ field x) t.spells
-      ∙ ap (λ (b : Text). flat_map field entries ++ b) (sym (append-nil (field x)))
-      ∙ sym (flat_map-append field entries (x ∷ []));
+  spells = grind (arith, common_steps);
 }
 
 -- the first bytes are a table, and are one with one more entry
@@ -34,21 +25,15 @@ pub so_far_more : {X : Type 0} (IsGood : X → Type 0) (field : X → Text) (n a
     → (x : X) → IsGood x → rest ≡ field x ++ after → next ≡ length bytes - length after
     → IsTable IsGood field (n + 1) (take next bytes) × (next ≤ length bytes)
 so_far_more IsGood field n at next bytes rest after t within is x good spells eq =
-    let whole : bytes ≡ (take at bytes ++ field x) ++ after =
-    sym (take-append-drop at bytes) ∙ ap (λ (b : Text). take at bytes ++ b) (sym is ∙ spells) ∙ sym (append_assoc (take at bytes) (field x) after) in
+    let whole : bytes ≡ (take at bytes ++ field x) ++ after = grind (arith, common_steps) in
     let len : length bytes ≡ length (take at bytes ++ field x) + length after = ap length whole ∙ length-append (take at bytes ++ field x) after in
-    let place : next ≡ length (take at bytes ++ field x) = omega (arith, eq, len) in
-    let front : take next bytes ≡ take at bytes ++ field x =
-    ap (λ (n : ℕ). take n bytes) place ∙ ap (take (length (take at bytes ++ field x))) whole ∙ take-append_seam (take at bytes ++ field x) after in
+    let front : take next bytes ≡ take at bytes ++ field x = grind (arith, common_steps) in
     ((t.0 ++ x ∷ [], subst (λ (b : Text). IsTableOf IsGood field (n + 1) b (t.0 ++ x ∷ [])) (sym front) (table_more t.1 x good)), omega (arith, eq))
 
 -- one more entry is read, and fewer bytes are left
 pub spells_more : {X : Type 0} (field : X → Text) (bytes rest after : Text) (built : List X) (x : X)
     → bytes ≡ flat_map field built ++ rest → rest ≡ field x ++ after → bytes ≡ flat_map field (built ++ x ∷ []) ++ after
-spells_more field bytes rest after built x h s =
-    h ∙ ap (λ (t : Text). flat_map field built ++ t) s ∙ sym (append_assoc (flat_map field built) (field x) after)
-    ∙ ap (λ (t : Text). t ++ after)
-    (ap (λ (t : Text). flat_map field built ++ t) (sym (append-nil (field x))) ∙ sym (flat_map-append field built (x ∷ [])))
+spells_more field bytes rest after built x h s = grind (arith, common_steps)
 
 -- A table of which the entries `built` have been read, and the bytes `rest` are left.
 pub record IsBuilding {X : Type 0} (IsGood : X → Type 0) (field : X → Text) (count : ℕ) (bytes rest : Text) (built : List X) : Type 0 where
@@ -88,11 +73,3 @@ pub table_cons : {X : Type 0} (IsGood : X → Type 0) (field : X → Text) (coun
     → IsTableOf IsGood field count bytes entries → (x : X) → IsGood x → whole ≡ field x ++ bytes
     → IsTableOf IsGood field (suc count) whole (x ∷ entries)
 table_cons IsGood field count bytes whole entries t x good h = grind (arith, common_steps)
-
--- one more instruction is read, and eight fewer bytes are left
-pub instrs_more : (count n : ℕ) (bytes rest after : Text) (built : List Instr) (instr : Instr)
-    → All IsInstr built × (length built ≡ n) × (length rest ≡ 8 * (count - n)) × (bytes ≡ flat_map instr_field built ++ rest)
-    → n < count → IsInstr instr → rest ≡ instr_field instr ++ after → length rest ≡ 8 + length after
-    → All IsInstr (built ++ instr ∷ []) × (length (built ++ instr ∷ []) ≡ n + 1) × (length after ≡ 8 * (count - (n + 1)))
-    × (bytes ≡ flat_map instr_field (built ++ instr ∷ []) ++ after)
-instrs_more count n bytes rest after built instr so_far more fits spells len = grind (arith, common_steps)

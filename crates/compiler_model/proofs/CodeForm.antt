@@ -4,6 +4,7 @@ use Rattle.std.specs.Prelude.{slice_get, not}
 use Rattle.std.specs.List.{AllByRecursion, filter_map, flat_map}
 use Rattle.std.proofs.lemmas.Bool.{cases_lt, not-true}
 use Rattle.std.proofs.lemmas.List.{length-append, length-map}
+use Rattle.std.proofs.lemmas.Grind.{common_steps}
 use Rattle.text_model.specs.Texts.{Text}
 use Rattle.text_model.specs.UriText.{IsUriText}
 use Rattle.text_model.proofs.Lists.{all_filter}
@@ -63,8 +64,7 @@ module _ (c : Code) (version : ℕ) (lists : List Text) where
       let away = place + length (rule_lines lists rule) in
       let both = placed_both c away place (lines block) (Halts ∷ []) h.0 in
       let next : last + 1 ≡ away = omega (arith, length-append (lines block) (Halts ∷ [])) in
-      let whole : away + length (flat_map (rule_lines lists) rules) + 1 ≡ length c.instrs =
-      omega (arith, eq, length-append (rule_lines lists rule) (flat_map (rule_lines lists) rules)) in
+      let whole : away + length (flat_map (rule_lines lists) rules) + 1 ≡ length c.instrs = grind (arith, common_steps) in
       let at_last = body_past c block version away place last None f.0 both.0 refl (omega (arith, next, whole)) tt at in
       let at_away : body_at c away ≡ None = subst (λ n. body_at c n ≡ None) next (body_next c last instruction.Halt both.1.0.reads refl None at_last tt) in
       clean_both c place last (length c.instrs)

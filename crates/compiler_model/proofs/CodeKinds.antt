@@ -18,19 +18,16 @@ use Rattle.machine_model.specs.Kinds.{Kinds, any_kinds, IsBelow, edge, edges, ne
 use Rattle.machine_model.specs.Typable.{Table, Holds, IsMet}
 use Rattle.machine_model.proofs.Orders.{below_trans}
 use Rattle.machine_model.proofs.Readings.{Reads-reading_at}
-use Rattle.compiler_model.specs.declared.lines.Action.{Action}
-use Rattle.compiler_model.specs.declared.lines.Action.TheVariants.{LoadText, LoadList, LoadConst, CountMembers, Emits, Separates, Puts, Cuts}
 use Rattle.compiler_model.specs.declared.lines.Test.{Test}
-use Rattle.compiler_model.specs.declared.lines.Test.TheVariants.{IsUndefined, IsEmpty, HasNoMember, HasNoNumber, Differs, IsLess}
 use Rattle.compiler_model.specs.declared.lines.Target.TheVariants.{Ahead}
-use Rattle.compiler_model.specs.declared.lines.Line.TheVariants.{Acts, Jumps, Turns}
+use Rattle.compiler_model.specs.declared.lines.Line.TheVariants.{Jumps, Turns}
 use Rattle.compiler_model.specs.Blocks.{Block, Nothing, Does, Then, Unless, Either, ForEach, LeaveIf, Leave, lines}
 use Rattle.compiler_model.specs.Compiled.{test_instruction}
-use Rattle.compiler_model.proofs.Places.{IsPlaced, ArePlaced, placed_both}
+use Rattle.compiler_model.proofs.Places.{ArePlaced, placed_both}
 use Rattle.compiler_model.proofs.Formed.{IsFormed}
 use Rattle.compiler_model.proofs.Forming.{Room, room_less, body_next, loop_body, body_begins, test_each, each_read, none_outside, body_past}
 use Rattle.compiler_model.proofs.NoFaults.{test_read}
-use Rattle.compiler_model.proofs.Typed.{MeetsAction, after_action, MeetsTest, after_test, Typed, rows, length-rows, exactly}
+use Rattle.compiler_model.proofs.Typed.{MeetsTest, after_test, Typed, rows, length-rows, exactly}
 
 -- kinds for places one after another
 abbrev pub AreRowsPlaced : Table → ℕ → List Kinds → Type 0
@@ -79,31 +76,13 @@ module _ (c : Code) (t : Table) where
   pub settled_both : (p m q : ℕ) → Settled p m → Settled m q → Settled p q
   settled_both p m q a b x low high = ⊎_elim (λ lt. a x low lt) (λ le. b x le high) (cases_lt x m)
 
-  action_settled : (a : Action) (away p : ℕ) (ks : Kinds) → IsPlaced c away p (Acts a) → t p ≡ Some ks → MeetsAction a ks → Takes (p + 1) (after_action a ks)
-      → IsSettled p
-  action_settled (LoadText a name) away p ks h e m k = settled p _ ks (Reads-reading_at c p _ h.reads) e (k, tt) tt
-  action_settled (LoadList a name) away p ks h e m k = settled p _ ks (Reads-reading_at c p _ h.reads) e (k, tt) tt
-  action_settled (LoadConst a text) away p ks h e m k = settled p _ ks (Reads-reading_at c p _ h.reads) e (k, tt) tt
-  action_settled (CountMembers a b) away p ks h e m k = settled p _ ks (Reads-reading_at c p _ h.reads) e (k, tt) (m, tt)
-  action_settled (Emits text) away p ks h e m k = settled p _ ks (Reads-reading_at c p _ h.reads) e (k, tt) tt
-  action_settled (Separates text) away p ks h e m k = settled p _ ks (Reads-reading_at c p _ h.reads) e (k, tt) tt
-  action_settled (Puts a w) away p ks h e m k = settled p _ ks (Reads-reading_at c p _ h.reads) e (k, tt) (m, tt)
-  action_settled (Cuts a n w) away p ks h e m k = settled p _ ks (Reads-reading_at c p _ h.reads) e (k, tt) (m, tt)
-
   test_settled : (test : Test) (p d : ℕ) (ks : Kinds) → Reads c p (test_instruction test d) → t p ≡ Some ks → MeetsTest test ks → Takes d ks
       → Takes (p + 1) (after_test test ks) → IsSettled p
-  test_settled (IsUndefined a) p d ks r e m j k = settled p _ ks (Reads-reading_at c p _ r) e (k, (j, tt)) (m, tt)
-  test_settled (IsEmpty a) p d ks r e m j k = settled p _ ks (Reads-reading_at c p _ r) e (k, (j, tt)) (m, tt)
-  test_settled (HasNoMember a) p d ks r e m j k = settled p _ ks (Reads-reading_at c p _ r) e (k, (j, tt)) (m, tt)
-  test_settled (HasNoNumber a b) p d ks r e m j k = settled p _ ks (Reads-reading_at c p _ r) e (k, (j, tt)) (m, tt)
-  test_settled (Differs a b) p d ks r e m j k = settled p _ ks (Reads-reading_at c p _ r) e (k, (j, tt)) (m.0, (m.1, tt))
-  test_settled (IsLess a b) p d ks r e m j k = settled p _ ks (Reads-reading_at c p _ r) e (k, (j, tt)) (m.0, (m.1, tt))
+  test_settled test p d ks r e m j k = grind (arith, common_steps)
 
   next_settled : (p q a : ℕ) (ns : Kinds) → Reads c q instruction.Next → body_at c q ≡ Some (loop_body c p q a) → t q ≡ Some ns
       → Takes (p + 1) (put ns a kind.Text) → Takes (q + 1) (put ns a kind.Any) → IsSettled q
-  next_settled p q a ns r at e back out =
-      settled q instruction.Next ns (Reads-reading_at c q _ r) e
-      (subst (λ o. AllByRecursion (Holds t) (edges q ns o instruction.Next)) (sym at) (back, (out, tt))) tt
+  next_settled p q a ns r at e back out = grind (arith, common_steps)
 
   -- the places of a block have the block's kinds, and the kinds before it are at or below those of its first place
   abbrev Fits : ℕ → ℕ → Kinds → Type 0
@@ -121,9 +100,7 @@ module _ (c : Code) (t : Table) where
       → q < length c.instrs → Room c o q → TakesAll o away → body_at c p ≡ o → (ks ms : Kinds) (y : Typed b ks ms) → AreRowsPlaced t p (rows b ks ms y)
       → Takes q ms
       → Fits p q ks
-  block_fits Nothing version away p q o f h eq lt room m at ks ms y r k =
-      let same : q ≡ p = omega (arith, eq) in
-      (λ x low high. absurd (omega (arith, low, high, eq)), takes_below p ks ms y (subst (λ n. Takes n ms) same k))
+  block_fits Nothing version away p q o f h eq lt room m at ks ms y r k = grind (arith, common_steps)
   block_fits (Does a) version away p q o f h eq lt room m at ks ms y r k = grind (arith, common_steps)
   block_fits (Then x z) version away p q o f h eq lt room m at ks ms y r k =
       let mid = p + length (lines x) in

@@ -1,10 +1,11 @@
 -- The code of rules contains their lines one after another, and ends with what the rules mean.
 use Rattle.std.proofs.Common.{◌≡◌, ℕ, suc, ◌+◌, List, [], ◌∷◌, ◌++◌, length, map, Option, Some, None, Bool, true, false, refl, sym, ap, ◌∙◌, subst, arith}
 use Rattle.std.specs.Prelude.{slice_get, if◌then◌else◌}
-use Rattle.std.specs.List.{AllByRecursion, list_any, filter_map, cons_option, position_or_len, flat_map}
+use Rattle.std.specs.List.{AllByRecursion, list_any, filter_map, position_or_len, flat_map}
 use Rattle.std.specs.Bool.{Decides}
 use Rattle.std.proofs.lemmas.List.{append_assoc}
 use Rattle.std.proofs.lemmas.List.Elements.{filter_map-append}
+use Rattle.std.proofs.lemmas.Grind.{common_steps}
 use Rattle.text_model.specs.Texts.{Text}
 use Rattle.text_model.proofs.Lists.{all_append}
 use Rattle.environment_model.specs.Environment.{Environment}
@@ -18,8 +19,6 @@ use Rattle.rule_parser.specs.Meaning.{meaning}
 use Rattle.compiler_model.specs.declared.lines.Action.TheVariants.{LoadText, LoadList, LoadConst, CountMembers, Emits, Separates, Puts, Cuts}
 use Rattle.compiler_model.specs.declared.lines.Line.{Line}
 use Rattle.compiler_model.specs.declared.lines.Line.TheVariants.{Acts, Tests, Jumps, Begins, Turns, Halts, Fails}
-use Rattle.compiler_model.specs.Blocks.{lines}
-use Rattle.compiler_model.specs.Shapes.{rule_block}
 use Rattle.compiler_model.specs.Tables.{name_entry, literal_entry, is_same_name, is_same_literal, name_used, literal_used, firsts, names_of, literals_of}
 use Rattle.compiler_model.specs.Compiled.{rule_lines, all_lines, instructions_from, rules_instructions, has_counts, code_of}
 use Rattle.compiler_model.specs.Answer.{answer}
@@ -95,8 +94,7 @@ table_has : {X : Type 0} (same : X → X → Bool) (decides : (x y : X) → Deci
     (post : List Line) (x : X) → used line ≡ Some x
     → slice_get (firsts same (filter_map used (pre ++ line ∷ post))) (position_or_len (same x) (firsts same (filter_map used (pre ++ line ∷ post)))) ≡ Some x
 table_has {X = X} same decides used pre line post x e =
-    let split : filter_map used (pre ++ line ∷ post) ≡ filter_map used pre ++ x ∷ filter_map used post = filter_map-append used pre (line ∷ post)
-    ∙ ap (λ o. filter_map used pre ++ cons_option o (filter_map used post)) e in
+    let split : filter_map used (pre ++ line ∷ post) ≡ filter_map used pre ++ x ∷ filter_map used post = grind (arith, filter_map-append) in
     at_index same decides x _
     (among_firsts same decides x _
     (subst (λ xs. list_any (same x) xs ≡ true) (sym split) (among_itself same decides (filter_map used pre) x (filter_map used post))))
@@ -137,8 +135,7 @@ lines_of_rules_formed : (version : ℕ) (lists : List Text) (rules : List Rule) 
     → AllByRecursion (IsFormedLine version) (flat_map (rule_lines lists) rules ++ Fails ∷ [])
 lines_of_rules_formed version lists [] h = (tt, tt)
 lines_of_rules_formed version lists (rule ∷ rules) h =
-    let here : AllByRecursion (IsFormedLine version) (rule_lines lists rule) =
-    all_append _ (lines (rule_block lists rule)) (Halts ∷ []) (lines_formed version false (rule_block lists rule) h.0) (tt, tt) in
+    let here : AllByRecursion (IsFormedLine version) (rule_lines lists rule) = grind (arith, all_append, lines_formed) in
     subst (AllByRecursion (IsFormedLine version)) (sym (append_assoc (rule_lines lists rule) (flat_map (rule_lines lists) rules) (Fails ∷ [])))
     (all_append _ (rule_lines lists rule) _ here (lines_of_rules_formed version lists rules h.1))
 
@@ -150,8 +147,7 @@ abbrev version_of : Bool → ℕ
 version_of b = if b then 2 else 1
 
 second_version : (b : Bool) → b ≡ true → version_of b ≡ 2
-second_version true e = refl
-second_version false e = absurd (cc)
+second_version b e = grind (arith, common_steps)
 
 module _ (trees : TreesAreSound) (rules : RuleSet) (sound : IsSound rules) where
   pub code_formed : AreFormed (code_of rules).version rules.lists rules.rules
@@ -164,9 +160,7 @@ module _ (trees : TreesAreSound) (rules : RuleSet) (sound : IsSound rules) where
       (all_have_entries (code_of rules) [] (all_lines rules) refl refl)
 
   pub code_placed : AreRulesPlaced (code_of rules) rules.lists 0 rules.rules
-  code_placed =
-      rules_placed (code_of rules) rules.lists rules.rules 0 founded
-      (instructions_stored (code_of rules) _ 0 (λ n. let e : 0 + n ≡ n = omega arith in ap (slice_get (code_of rules).instrs) e))
+  code_placed = grind (arith, rules_placed, founded, instructions_stored)
 
   started : (c : Code) (v : Environment) → After c v 0 (Running start)
   unfolding After

@@ -1,11 +1,12 @@
 -- Each entry that lines use is in its table, at its index.
-use Rattle.std.proofs.Common.{◌≡◌, suc, ◌+◌, List, [], ◌∷◌, ◌++◌, Some, Bool, true, false, refl, sym, ap, ◌∙◌, subst, arith}
+use Rattle.std.proofs.Common.{◌≡◌, List, [], ◌∷◌, ◌++◌, Some, Bool, true, false, refl, arith}
 use Rattle.std.specs.Prelude.{◌||◌, ◌&&◌, not, if◌then◌else◌, slice_get, filter}
 use Rattle.std.specs.List.{list_any, position_or_len}
 use Rattle.std.specs.Bool.{beq, Decides}
 use Rattle.std.specs.Str.{bytes_eq}
-use Rattle.std.proofs.lemmas.Bool.{and_from, and_parts, false≢true, or_right}
+use Rattle.std.proofs.lemmas.Bool.{and_from, and_parts, or_right}
 use Rattle.std.proofs.lemmas.Slice.Eq.{bytes_eq-Decides}
+use Rattle.std.proofs.lemmas.Grind.{common_steps}
 use Rattle.text_model.specs.Texts.{Text}
 use Rattle.code_model.specs.Code.{Name, Literal}
 use Rattle.compiler_model.specs.Tables.{is_same_name, is_same_literal, firsts}
@@ -35,10 +36,7 @@ module _ {X : Type 0} (same : X → X → Bool) (decides : (x y : X) → Decides
       by_test : (b : Bool) → same x z ≡ b → (c : Bool) → same y z ≡ c → (b || list_any (same x) ys) ≡ true
           → (IsAmong x ys → IsAmong x (filter (λ z. not (same y z)) ys))
           → list_any (same x) (if not c then (z ∷ filter (λ z. not (same y z)) ys) else filter (λ z. not (same y z)) ys) ≡ true
-      by_test true e true f h rest = absurd (false≢true (sym d ∙ subst (λ w. same y w ≡ true) (sym ((decides x z).0 e)) f))
-      by_test true e false f h rest = rw e refl
-      by_test false e true f h rest = rest h
-      by_test false e false f h rest = or_right (same x z) _ (rest h)
+      by_test b e c f h rest = grind (arith, common_steps)
 
   pub among_firsts : (x : X) (xs : List X) → IsAmong x xs → IsAmong x (firsts same xs)
   among_firsts x [] h = h
@@ -47,11 +45,7 @@ module _ {X : Type 0} (same : X → X → Bool) (decides : (x y : X) → Decides
       by_test : (b : Bool) → same x y ≡ b → (b || list_any (same x) xs) ≡ true → (IsAmong x xs → IsAmong x (firsts same xs))
           → (same x y || list_any (same x) (filter (λ z. not (same y z)) (firsts same xs))) ≡ true
       by_test true e h rest = rw e refl
-      by_test false e h rest = or_right (same x y) _ (kept x y (firsts same xs) (other (same y x) refl) (rest h))
-        where
-          other : (c : Bool) → same y x ≡ c → same y x ≡ false
-          other true f = absurd (false≢true (sym e ∙ (decides x y).1 (sym ((decides y x).0 f))))
-          other false f = f
+      by_test false e h rest = grind (arith, or_right, kept)
 
   -- an entry is at its index
   pub at_index : (x : X) (xs : List X) → IsAmong x xs → slice_get xs (position_or_len (same x) xs) ≡ Some x
@@ -60,10 +54,7 @@ module _ {X : Type 0} (same : X → X → Bool) (decides : (x y : X) → Decides
     where
       by_test : (b : Bool) → same x y ≡ b → (b || list_any (same x) xs) ≡ true → (IsAmong x xs → slice_get xs (position_or_len (same x) xs) ≡ Some x)
           → slice_get (y ∷ xs) (position_or_len (same x) (y ∷ xs)) ≡ Some x
-      by_test true e h rest = rw e (ap Some (sym ((decides x y).0 e)))
-      by_test false e h rest =
-          let next : 1 + position_or_len (same x) xs ≡ suc (position_or_len (same x) xs) = omega arith in
-          rw e (ap (slice_get (y ∷ xs)) next ∙ rest h)
+      by_test b e h rest = grind (arith, common_steps)
 
   pub among_itself : (pre : List X) (x : X) (post : List X) → IsAmong x (pre ++ x ∷ post)
   among_itself [] x post = rw ((decides x x).1 refl) refl

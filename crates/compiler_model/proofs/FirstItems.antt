@@ -15,9 +15,7 @@ pub record BeginWith (b : ℕ) (points : List Text) : Type 0 where
   pub whole : points ≡ (b ∷ first) ∷ others
 
 byte_first : (b : ℕ) (points : List Text) → BeginWith b (with_byte b points)
-byte_first b [] = record { first = []; others = []; whole = refl }
-byte_first b ([] ∷ points) = record { first = []; others = points; whole = refl }
-byte_first b ((next ∷ t) ∷ points) = grind (arith, common_steps)
+byte_first b points = grind (arith, common_steps)
 
 triplets_first : (b : ℕ) (first : Text) (others : List Text) → BeginWith b (with_triplets ((b ∷ first) ∷ others))
 unfolding with_triplets

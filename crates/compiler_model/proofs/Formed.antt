@@ -1,10 +1,11 @@
 -- Blocks that are correctly assembled: their registers, counts and link texts are allowed, no loop is in a loop, and no jump leaves a loop. The blocks of rules
 -- are correctly assembled.
-use Rattle.std.proofs.Common.{◌≡◌, ℕ, zero, suc, ◌≤◌, List, [], ◌∷◌, ◌++◌, Bool, true, false, refl, arith}
+use Rattle.std.proofs.Common.{◌≡◌, ℕ, ◌≤◌, List, [], ◌∷◌, ◌++◌, Bool, true, false, refl, arith}
 use Rattle.std.specs.Prelude.{codes, nat_lt, nat_le, ◌&&◌, ◌||◌, All}
 use Rattle.std.specs.List.{AllByRecursion, list_any}
-use Rattle.std.proofs.lemmas.Bool.{and_from, le-leb, or_right}
+use Rattle.std.proofs.lemmas.Bool.{or_right}
 use Rattle.std.proofs.lemmas.List.Elements.{All-head, All-tail}
+use Rattle.std.proofs.lemmas.Grind.{common_steps}
 use Rattle.text_model.specs.Texts.{Text, is_unreserved, is_reserved}
 use Rattle.text_model.specs.UriText.{IsUriText, nothing}
 use Rattle.text_model.proofs.UriTexts.{IsUriText-append, IsUriText-character}
@@ -14,14 +15,10 @@ use Rattle.uri_grammar.specs.declared.parts.Op.{Op}
 use Rattle.uri_grammar.specs.declared.parts.Op.TheVariants as operator
 use Rattle.uri_grammar.specs.declared.parts.Spec.{Spec}
 use Rattle.uri_grammar.specs.declared.parts.Part.{Part}
-use Rattle.uri_grammar.specs.declared.parts.Part.TheVariants.{Literal, Expression}
 use Rattle.uri_grammar.specs.Texts.{IsTemplate}
 use Rattle.uri_grammar.specs.Promises.{IsSoundSpec, IsSoundPart}
 use Rattle.uri_template.specs.Expansion.{Style, style_of}
-use Rattle.rule_parser.specs.declared.rule.Bound.{Bound}
-use Rattle.rule_parser.specs.declared.rule.Bound.TheVariants as bound
 use Rattle.rule_parser.specs.declared.rule.Guard.{Guard}
-use Rattle.rule_parser.specs.declared.rule.Guard.TheVariants as guard
 use Rattle.rule_parser.specs.declared.rule.Rule.{Rule}
 use Rattle.rule_parser.specs.Rules.{IsSoundRule}
 use Rattle.compiler_model.specs.declared.lines.Action.{Action}
@@ -29,7 +26,7 @@ use Rattle.compiler_model.specs.declared.lines.Action.TheVariants.{LoadText, Loa
 use Rattle.compiler_model.specs.declared.lines.Test.{Test}
 use Rattle.compiler_model.specs.declared.lines.Test.TheVariants.{IsUndefined, IsEmpty, HasNoMember, HasNoNumber, Differs, IsLess}
 use Rattle.compiler_model.specs.Blocks.{Block, Nothing, Does, Then, Unless, Either, ForEach, LeaveIf, Leave}
-use Rattle.compiler_model.specs.Shapes.{loading, is_missing, bound_block, bounds_block, guard_block, guards_block, lead_block, writing_action, named_block}
+use Rattle.compiler_model.specs.Shapes.{loading, is_missing, guard_block, guards_block, lead_block, writing_action, named_block}
 use Rattle.compiler_model.specs.Shapes.{item_block, head_block, members_block, loaded_block, specs_block, part_block, parts_block, rule_block}
 use Rattle.compiler_model.specs.Compiled.{is_counts}
 
@@ -76,34 +73,17 @@ TreesAreSound = (text : Text) (parts : List Part) → IsTemplate text parts → 
 
 module _ (version : ℕ) where
   loading_formed : (inside list : Bool) (name : Text) → IsFormedAction version inside (loading list name)
-  loading_formed inside true name = refl
-  loading_formed inside false name = refl
+  loading_formed inside list name = grind (arith, common_steps)
 
   missing_formed : (list : Bool) → IsFormedTest (is_missing list)
-  missing_formed true = refl
-  missing_formed false = refl
-
-  bound_formed : (test : Test) → IsFormedTest test → (b : Bound) → IsFormed version false (bound_block test b)
-  bound_formed test h bound.Open = tt
-  bound_formed test h (bound.Digits digits) = (refl, ((refl, refl), (refl, h)))
-  bound_formed test h (bound.Name name) = (refl, (refl, ((refl, refl), (refl, h))))
-
-  bounds_formed : (low high : Bound) → IsFormed version false (bounds_block low high)
-  bounds_formed low high = (bound_formed (IsLess 1 3) (refl, refl) low, bound_formed (IsLess 3 1) (refl, refl) high)
+  missing_formed list = grind (arith, common_steps)
 
   -- only `counts` needs version 2
   guard_formed : (lists : List Text) (g : Guard) → (is_counts g ≡ true → version ≡ 2) → IsFormed version false (guard_block lists g)
-  guard_formed lists (guard.Has name) h = (loading_formed false (is_list lists name) name, (refl, missing_formed (is_list lists name)))
-  guard_formed lists (guard.Lacks name) h = (loading_formed false (is_list lists name) name, (missing_formed (is_list lists name), refl))
-  guard_formed lists (guard.Given name) h = (refl, ((refl, refl), (refl, refl)))
-  guard_formed lists (guard.Same name text) h = (refl, ((refl, refl), (refl, (refl, (refl, refl)))))
-  guard_formed lists (guard.Holds name text) h = (refl, (refl, (refl, ((refl, refl, refl, ((refl, refl), refl)), (refl, refl)))))
-  guard_formed lists (guard.Between name low high) h = (refl, ((refl, refl), ((refl, (refl, refl)), bounds_formed low high)))
-  guard_formed lists (guard.Counts name low high) h = (refl, ((refl, refl, h refl), bounds_formed low high))
+  guard_formed lists g h = grind (arith, common_steps)
 
   first_true : (b c : Bool) → b ≡ true → (b || c) ≡ true
-  first_true true c h = refl
-  first_true false c h = absurd (cc)
+  first_true b c h = grind (arith, common_steps)
 
   guards_formed : (lists : List Text) (gs : List Guard) → (list_any is_counts gs ≡ true → version ≡ 2) → IsFormed version false (guards_block lists gs)
   guards_formed lists [] h = tt
@@ -143,25 +123,21 @@ module _ (version : ℕ) where
   -- ---- specs
 
   lead_formed : (first sep : Text) → IsUriText first → IsUriText sep → IsFormed version false (lead_block first sep)
-  lead_formed [] sep f s = ((refl, s), refl)
-  lead_formed (b ∷ first) sep f s = ((refl, s, f), refl)
+  lead_formed first sep f s = grind (arith, common_steps)
 
   writing_formed : (inside : Bool) (r : ℕ) → IsRegister r → (w : Writing) (n : ℕ) → n ≤ 9999 → IsFormedAction version inside (writing_action r w n)
-  writing_formed inside r h w zero le = h
-  writing_formed inside r h w (suc n) le = (h, and_from (nat_le 1 (suc n)) (nat_le (suc n) 9999) (le-leb 1 (suc n) (omega arith)) (le-leb (suc n) 9999 le))
+  writing_formed inside r h w n le = grind (arith, common_steps)
 
   named_formed : (inside : Bool) (ifemp : Text) (r : ℕ) → IsRegister r → (name : Text) → IsUriText name → (value : Action)
       → IsFormedAction version inside value → IsFormed version inside (named_block ifemp r name value)
-  named_formed inside [] r h name u value f = (u, (h, (equals_uri, f)))
-  named_formed inside (b ∷ ifemp) r h name u value f = (named_uri name u, f)
+  named_formed inside ifemp r h name u value f = grind (arith, equals_uri, named_uri)
 
   item_formed : (inside : Bool) (style : Style) (r : ℕ) → IsRegister r → (name : Text) → IsUriText name → (value : Action)
       → IsFormedAction version inside value → IsFormed version inside (item_block style r name value)
   item_formed inside style r h name u value f = grind (arith, named_formed)
 
   head_formed : (named : Bool) (name : Text) → IsUriText name → IsFormed version false (head_block named name)
-  head_formed true name u = named_uri name u
-  head_formed false name u = tt
+  head_formed named name u = grind (arith, named_uri)
 
   members_formed : (style : Style) → WritesUri style → (name : Text) → IsUriText name → (explode : Bool)
       → IsFormed version false (members_block style name explode)
@@ -169,9 +145,7 @@ module _ (version : ℕ) where
   members_formed style w name u true = (refl, refl, refl, ((refl, w.sep), item_formed true style 5 refl name u (Puts 5 style.writing) refl))
 
   loaded_formed : (list : Bool) (style : Style) → WritesUri style → (spec : Spec) → IsSoundSpec spec → IsFormed version false (loaded_block list style spec)
-  loaded_formed true style w spec h = members_formed style w spec.name h.uri_text spec.explode
-  loaded_formed false style w spec h = item_formed false style 0 refl spec.name h.uri_text (writing_action 0 style.writing spec.cut)
-      (writing_formed false 0 refl style.writing spec.cut h.cut)
+  loaded_formed list style w spec h = grind (arith, members_formed, item_formed, writing_formed)
 
   specs_formed : (lists : List Text) (style : Style) → WritesUri style → (specs : List Spec) → All IsSoundSpec specs
       → IsFormed version false (specs_block lists style specs)
@@ -186,8 +160,7 @@ module _ (version : ℕ) where
       )
 
   part_formed : (lists : List Text) (part : Part) → IsSoundPart part → IsFormed version false (part_block lists part)
-  part_formed lists (Literal text) h = h
-  part_formed lists (Expression op specs) h = (refl, specs_formed lists (style_of op) (style_uri op) specs h.1)
+  part_formed lists part h = grind (arith, specs_formed, style_uri)
 
   parts_formed : (lists : List Text) (parts : List Part) → All IsSoundPart parts → IsFormed version false (parts_block lists parts)
   parts_formed lists [] h = tt

@@ -3,21 +3,20 @@
 use Rattle.std.proofs.Common.{◌≡◌, ℕ, suc, ◌+◌, ◌-◌, ◌<◌, ◌≤◌, List, [], ◌∷◌, length, Option, Some, None, true, false, refl, sym, ap, ◌∙◌, subst, arith}
 use Rattle.std.proofs.Common.{add-one}
 use Rattle.std.specs.List.{list_all}
-use Rattle.std.proofs.lemmas.Bool.{and_parts, and_from, lt-ltb, eq-eqb}
+use Rattle.std.proofs.lemmas.Bool.{and_parts, and_from, lt-ltb}
 use Rattle.std.proofs.lemmas.List.{length-append}
-use Rattle.code_model.specs.Code.{Code, is_same_instr, spelling, reading_at}
+use Rattle.std.proofs.lemmas.Grind.{common_steps}
+use Rattle.code_model.specs.Code.{Code, spelling, reading_at}
 use Rattle.code_model.specs.declared.code.Instruction.{Instruction}
 use Rattle.code_model.specs.declared.code.Instruction.TheVariants as instruction
 use Rattle.code_model.specs.Operands.{Operand, operands, is_in_range}
 use Rattle.machine_model.specs.declared.form.Body.{Body}
 use Rattle.machine_model.specs.Operands.{Reads, is_right, is_register, is_in_table, has_table_kind, has_right_operands}
-use Rattle.machine_model.specs.Form.{is_next, body_at, is_in_body, is_same_body, is_each, fault_of}
-use Rattle.machine_model.specs.Form.{fault_in, fault_at}
-use Rattle.machine_model.proofs.Readings.{Reads-reading_at, instr_itself}
+use Rattle.machine_model.specs.Form.{is_next, body_at, is_in_body, is_each, fault_of, fault_in, fault_at}
+use Rattle.machine_model.proofs.Readings.{Reads-reading_at}
 use Rattle.machine_model.proofs.Bodies.{body_suc, body_on, body_off, opened_none}
 use Rattle.machine_model.proofs.Checks.{IsRightlyPlaced, passes_all as none_fails}
 use Rattle.compiler_model.specs.declared.lines.Action.{Action}
-use Rattle.compiler_model.specs.declared.lines.Action.TheVariants.{LoadText, LoadList, LoadConst, CountMembers, Emits, Separates, Puts, Cuts}
 use Rattle.compiler_model.specs.declared.lines.Test.{Test}
 use Rattle.compiler_model.specs.declared.lines.Test.TheVariants.{IsUndefined, IsEmpty, HasNoMember, HasNoNumber, Differs, IsLess}
 use Rattle.compiler_model.specs.declared.lines.Target.TheVariants.{Ahead}
@@ -62,21 +61,10 @@ module _ (c : Code) where
   unfolding fault_at
   passes_all p i k =
       let four = right_four i k.reads.right in
-      let spelled_so = and_from (is_same_instr (spelling i) (spelling i)) _ (instr_itself (spelling i)) four.0 in
       ap (fault_in c p) k.reads.spelled ∙ ap (fault_of c p (spelling i)) k.reads.known
-      ∙ none_fails c p (spelling i) i (record {
-        spelled = spelled_so;
-        registers = four.1;
-        in_tables = four.2;
-        table_kinds = four.3;
-        placed = k.placed;
-      })
+      ∙ none_fails c p (spelling i) i (grind (arith, common_steps))
 
   -- ---- bodies
-
-  pub same_body : (o : Option Body) → is_same_body o o ≡ true
-  same_body None = refl
-  same_body (Some b) = eq-eqb b.start b.start refl
 
   -- a place is before the end of the body, if there is one
   abbrev pub Room : Option Body → ℕ → Type 0
@@ -124,14 +112,7 @@ module _ (c : Code) where
   test_each (IsLess a b) d = refl
 
   action_each : (a : Action) (away p : ℕ) → is_each (line_instruction c.names c.literals away p (Acts a)) ≡ false
-  action_each (LoadText a name) away p = refl
-  action_each (LoadList a name) away p = refl
-  action_each (LoadConst a t) away p = refl
-  action_each (CountMembers a b) away p = refl
-  action_each (Emits t) away p = refl
-  action_each (Separates t) away p = refl
-  action_each (Puts a w) away p = refl
-  action_each (Cuts a n w) away p = refl
+  action_each a away p = grind (arith, common_steps)
 
   -- EACH, with the place where its loop ends
   pub each_read : (away p q a b places : ℕ) → p + places ≡ q + 1 → IsPlaced c away p (Begins a b places) → Reads c p (instruction.Each a b (q + 1))

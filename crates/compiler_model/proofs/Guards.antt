@@ -64,10 +64,7 @@ module _ (v : Environment) (lists : List Text) where
   -- ---- what rules see of a name is what is loaded
 
   text_seen : (m : Option Meaning) (list : Bool) → not list ≡ true → text_in (seen_as v list m) ≡ text_in m
-  text_seen m true e = absurd (cc)
-  text_seen None false e = refl
-  text_seen (Some (Single t)) false e = refl
-  text_seen (Some (Several ts)) false e = refl
+  text_seen m list e = grind (arith, common_steps)
 
   pub members_seen : (m : Option Meaning) (list : Bool) → list ≡ true → members_in (seen_as v list m) ≡ members_in m
   members_seen m false e = absurd (cc)
@@ -115,8 +112,7 @@ module _ (v : Environment) (lists : List Text) where
       k) both.1)
     where
       by_high : (b : Bool) (n : Store) → Settles b n.output Q R → Bounds i b n.output Q R
-      by_high true n k = λ m f g. k m g
-      by_high false n k = k
+      by_high b n k = grind (arith, common_steps)
 
       by_low : (b : Bool) → Settles b s.output (λ n. Settles (is_at_most (bound_number look high) i) n.output Q R) R → bound_fits lists high ≡ true
           → Bounds i b s.output (λ n. Brings v None (bound_block (IsLess 3 1) high) n Q R) R

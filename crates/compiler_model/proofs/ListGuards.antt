@@ -1,11 +1,12 @@
 -- What the blocks of guards on lists do, and then those of all guards.
 
-use Rattle.std.proofs.Common.{◌≡◌, List, [], ◌∷◌, length, Some, None, Bool, true, false, refl, sym, ◌∙◌, subst, ◌⊎◌, inl, inr, arith}
+use Rattle.std.proofs.Common.{◌≡◌, List, [], ◌∷◌, length, Some, None, Bool, true, false, refl, subst, ◌⊎◌, arith}
 use Rattle.std.specs.Prelude.{codes, ◌||◌}
 use Rattle.std.specs.List.{list_all, list_any}
 use Rattle.std.specs.Str.{bytes_eq}
-use Rattle.std.proofs.lemmas.Bool.{and_parts, false≢true}
+use Rattle.std.proofs.lemmas.Bool.{and_parts}
 use Rattle.std.proofs.lemmas.Slice.Eq.{bytes_eq-Decides}
+use Rattle.std.proofs.lemmas.Grind.{common_steps}
 use Rattle.text_model.specs.Texts.{Text}
 use Rattle.environment_model.specs.Environment.{Environment, look_up, text_of, members_of}
 use Rattle.environment_model.specs.Lists.{is_list}
@@ -34,8 +35,7 @@ module _ (v : Environment) (lists : List Text) where
 
   -- whether or not earlier turns have found the text, it has been found now
   found_now : (earlier : Bool) → (earlier || true) ≡ true
-  found_now true = refl
-  found_now false = refl
+  found_now earlier = grind (arith, common_steps)
 
   -- the turns of the loop of `holds`, when earlier ones have found the text or not
   turns_find : (text : Text) (ts : List Text) (first before : Bool) (s : Store) (Q : Claim) → s.registers 1 ≡ value.Text text
@@ -64,8 +64,7 @@ module _ (v : Environment) (lists : List Text) where
 
       by_test : (b : Bool) → bytes_eq t text ≡ b → Found (before || (b || found text ts)) → (Found true → Later (keeping 2 (value.Text one) entered))
           → (Found (before || found text ts) → Later entered) → ((t ≡ text → ⊥) × Later entered) ⊎ ((t ≡ text) × Later (keeping 2 (value.Text one) entered))
-      by_test true h k there missing = inr ((bytes_eq-Decides t text).0 h, there (subst Found (found_now before) k))
-      by_test false h k there missing = inl (λ same. false≢true (sym h ∙ (bytes_eq-Decides t text).1 same), missing k)
+      by_test b h k there missing = grind (arith, bytes_eq-Decides, found_now)
 
   holds_brings : (name text : Text) (s : Store) (Q R : Claim) → Settles (found text (members_of v name)) s.output Q R
       → Brings v None (guard_block lists (guard.Holds name text)) s Q R
@@ -73,8 +72,7 @@ module _ (v : Environment) (lists : List Text) where
       (refl, members_of v name, refl, turns_find text (members_of v name) true false _ _ refl refl (λ n g o. by_mark n (found text (members_of v name)) g o k))
     where
       by_mark : (n : Store) (b : Bool) → n.registers 2 ≡ value.Text (mark b) → n.output ≡ s.output → Settles b s.output Q R → Tested (IsEmpty 2) n (R n) Q
-      by_mark n true g o k = inr (0x31, [], g, k n o)
-      by_mark n false g o k = inl (g, k n o)
+      by_mark n b g o k = grind (arith, common_steps)
 
   -- ---- every guard
 
@@ -111,5 +109,4 @@ module _ (v : Environment) (lists : List Text) where
       by_first : (b : Bool) → Settles b s.output (λ n. Settles (list_all (guard_holds (look v lists)) gs) n.output Q R) R
           → ((n : Store) → Settles (list_all (guard_holds (look v lists)) gs) n.output Q R → Brings v None (guards_block lists gs) n Q R)
           → Settles b s.output (λ n. Brings v None (guards_block lists gs) n Q R) R
-      by_first true k rest = λ n e. rest n (k n e)
-      by_first false k rest = k
+      by_first b k rest = grind (arith, common_steps)

@@ -1,16 +1,16 @@
 -- The places of a block have no error of form.
 
-use Rattle.std.proofs.Common.{◌≡◌, ℕ, ◌+◌, ◌-◌, ◌<◌, ◌≤◌, [], ◌∷◌, length, Option, Some, None, Bool, true, false, refl, ap, ◌∙◌, subst, arith, ⊎_elim}
-use Rattle.std.specs.Prelude.{nat_lt, ◌||◌, not}
-use Rattle.std.proofs.lemmas.Bool.{lt-ltb, eq-eqb, cases_lt}
+use Rattle.std.proofs.Common.{◌≡◌, ℕ, ◌+◌, ◌<◌, ◌≤◌, [], ◌∷◌, length, Option, Some, None, true, false, refl, ap, ◌∙◌, subst, arith, ⊎_elim}
+use Rattle.std.specs.Prelude.{◌||◌, not}
+use Rattle.std.proofs.lemmas.Bool.{cases_lt}
 use Rattle.std.proofs.lemmas.List.{length-append}
-use Rattle.code_model.specs.Code.{Code, reading_at}
+use Rattle.std.proofs.lemmas.Grind.{common_steps}
+use Rattle.code_model.specs.Code.{Code}
 use Rattle.code_model.specs.declared.code.Instruction.{Instruction}
 use Rattle.code_model.specs.declared.code.Instruction.TheVariants as instruction
 use Rattle.machine_model.specs.declared.form.Body.{Body}
 use Rattle.machine_model.specs.Operands.{Reads}
 use Rattle.machine_model.specs.Form.{is_next, body_at, is_in_body, target, is_each, is_sep, ends_run, fault_at}
-use Rattle.machine_model.proofs.Readings.{Reads-reading_at}
 use Rattle.compiler_model.specs.declared.lines.Action.{Action}
 use Rattle.compiler_model.specs.declared.lines.Action.TheVariants.{LoadText, LoadList, LoadConst, CountMembers, Emits, Separates, Puts, Cuts}
 use Rattle.compiler_model.specs.declared.lines.Test.{Test}
@@ -22,8 +22,7 @@ use Rattle.compiler_model.specs.Blocks.{Block, Nothing, Does, Then, Unless, Eith
 use Rattle.compiler_model.specs.Compiled.{place_of, test_instruction}
 use Rattle.compiler_model.proofs.Places.{IsPlaced, ArePlaced, placed_both}
 use Rattle.compiler_model.proofs.Formed.{IsFormedAction, IsFormed}
-use Rattle.compiler_model.proofs.Forming.{Room, body_begins, body_past, body_next, each_read, loop_body, none_outside, passes_all, room_less, same_body}
-use Rattle.compiler_model.proofs.Forming.{test_each}
+use Rattle.compiler_model.proofs.Forming.{Room, body_begins, body_past, body_next, each_read, loop_body, none_outside, passes_all, room_less, test_each}
 
 module _ (c : Code) where
   abbrev pub HasNoFault : ℕ → ℕ → Type 0
@@ -35,117 +34,30 @@ module _ (c : Code) where
   pub clean_both : (p m q : ℕ) → HasNoFault p m → HasNoFault m q → HasNoFault p q
   clean_both p m q a b x low high = ⊎_elim (λ lt. a x low lt) (λ le. b x le high) (cases_lt x m)
 
-  continues_with : (p : ℕ) (i : Instruction) → p + 1 < length c.instrs → (nat_lt (p + 1) (length c.instrs) || ends_run i) ≡ true
-  continues_with p i lt = rw (lt-ltb (p + 1) (length c.instrs) lt) refl
-
   -- an instruction that leads only to the next place
   plain_good : (p : ℕ) (i : Instruction) → Reads c p i → is_each i ≡ false → is_next (Some i) ≡ false → target i ≡ None
       → (not (is_sep i) || is_in_body (body_at c p)) ≡ true → p + 1 < length c.instrs → fault_at c p ≡ None
-  plain_good p i r e n t s lt =
-      passes_all c p i (record {
-        reads = r;
-        placed = record {
-          forward = rw t refl;
-          within = rw t refl;
-          crosses = rw (e, t) refl;
-          nested = rw e refl;
-          looped = rw e refl;
-          next_last = rw n refl;
-          sep_in = s;
-          continues = continues_with p i lt;
-        };
-      })
+  plain_good p i r e n t s lt = passes_all c p i (grind (arith, common_steps))
 
   -- an instruction that may jump within its body, or outside of loops
   jump_good : (p d : ℕ) (i : Instruction) (o : Option Body) → Reads c p i → is_each i ≡ false → is_next (Some i) ≡ false → is_sep i ≡ false → target i ≡ Some d
       → p < d → d < length c.instrs → body_at c p ≡ o → body_at c d ≡ o → fault_at c p ≡ None
-  jump_good p d i o r e n s t low high at there =
-      passes_all c p i (record {
-        reads = r;
-        placed = record {
-          forward = rw t (lt-ltb p d low);
-          within = rw t (lt-ltb d (length c.instrs) high);
-          crosses = rw (e, t, at, there) (same_body c o);
-          nested = rw e refl;
-          looped = rw e refl;
-          next_last = rw n refl;
-          sep_in = rw s refl;
-          continues = continues_with p i (omega (arith, low, high));
-        };
-      })
+  jump_good p d i o r e n s t low high at there = passes_all c p i (grind (arith, common_steps))
 
   each_good : (p q a b : ℕ) → Reads c p (instruction.Each a b (q + 1)) → Reads c q instruction.Next → p < q → q + 1 < length c.instrs → body_at c p ≡ None
       → fault_at c p ≡ None
-  each_good p q a b r n lt within at =
-      let last : q + 1 - 1 ≡ q = omega arith in
-      let next : is_next (reading_at c (q + 1 - 1)) ≡ true = ap (λ x. is_next (reading_at c x)) last ∙ ap is_next (Reads-reading_at c q instruction.Next n) in
-      passes_all c p (instruction.Each a b (q + 1)) (record {
-        reads = r;
-        placed = record {
-          forward = lt-ltb p (q + 1) (omega (arith, lt));
-          within = lt-ltb (q + 1) (length c.instrs) within;
-          crosses = refl;
-          nested = rw at refl;
-          looped = next;
-          next_last = refl;
-          sep_in = refl;
-          continues = continues_with p (instruction.Each a b (q + 1)) (omega (arith, lt, within));
-        };
-      })
+  each_good p q a b r n lt within at = passes_all c p (instruction.Each a b (q + 1)) (grind (arith, common_steps))
 
   next_good : (p q a : ℕ) → Reads c q instruction.Next → body_at c q ≡ Some (loop_body c p q a) → q + 1 < length c.instrs → fault_at c q ≡ None
-  next_good p q a r at lt =
-      passes_all c q instruction.Next (record {
-        reads = r;
-        placed = record {
-          forward = refl;
-          within = refl;
-          crosses = refl;
-          nested = refl;
-          looped = refl;
-          next_last = rw at (eq-eqb (q + 1) (q + 1) refl);
-          sep_in = refl;
-          continues = continues_with q instruction.Next lt;
-        };
-      })
+  next_good p q a r at lt = passes_all c q instruction.Next (grind (arith, common_steps))
 
   -- HALT and FAIL may be anywhere
   pub last_good : (p : ℕ) (i : Instruction) → Reads c p i → ends_run i ≡ true → fault_at c p ≡ None
   last_good p i r e = by_end i r e
     where
-      either_end : (b : Bool) → (b || true) ≡ true
-      either_end true = refl
-      either_end false = refl
-
       by_end : (i : Instruction) → Reads c p i → ends_run i ≡ true → fault_at c p ≡ None
-      by_end instruction.Halt r e =
-          passes_all c p instruction.Halt (record {
-            reads = r;
-            placed = record {
-              forward = refl;
-              within = refl;
-              crosses = refl;
-              nested = refl;
-              looped = refl;
-              next_last = refl;
-              sep_in = refl;
-              continues = either_end _;
-            };
-          })
-      by_end instruction.Fail r e =
-          passes_all c p instruction.Fail (record {
-            reads = r;
-            placed = record {
-              forward = refl;
-              within = refl;
-              crosses = refl;
-              nested = refl;
-              looped = refl;
-              next_last = refl;
-              sep_in = refl;
-              continues = either_end _;
-            };
-          })
+      by_end instruction.Halt r e = passes_all c p instruction.Halt (grind (arith, common_steps))
+      by_end instruction.Fail r e = passes_all c p instruction.Fail (grind (arith, common_steps))
       by_end _ r e = absurd (cc)
 
   action_good : (a : Action) (version away p : ℕ) (o : Option Body) → IsFormedAction version (is_in_body o) a → body_at c p ≡ o → p + 1 < length c.instrs
@@ -234,10 +146,7 @@ module _ (c : Code) where
       (block_clean x version away (p + 1) last (Some (loop_body c p last a)) f.3 both.0 refl (omega (arith, eq2, lt)) (omega arith)
       (no_way (loop_body c p last a) last away) inside)
       (clean_one last q eq2 (next_good p last a both.1.0.reads end (omega (arith, eq2, lt)))))
-  block_clean (LeaveIf t) version away p q o f h eq lt room m at =
-      let none = none_outside c o f.0 in
-      let out = m none in
-      clean_one p q eq (test_good t p away None h.0.reads (omega (arith, eq, out.0)) out.1 (at ∙ none) out.2)
+  block_clean (LeaveIf t) version away p q o f h eq lt room m at = grind (arith, none_outside, clean_one, test_good)
   block_clean Leave version away p q o f h eq lt room m at =
       let none = none_outside c o f in
       let out = m none in

@@ -4,6 +4,7 @@ use Rattle.std.proofs.Common.{◌≡◌, ℕ, zero, suc, List, [], ◌∷◌, �
 use Rattle.std.specs.Prelude.{codes, map, if◌then◌else◌}
 use Rattle.std.specs.List.{flat_map}
 use Rattle.std.proofs.lemmas.List.{append_assoc, append-nil}
+use Rattle.std.proofs.lemmas.Grind.{common_steps}
 use Rattle.text_model.specs.Texts.{Text}
 use Rattle.text_model.specs.Writing.{written, written_u, written_ur}
 use Rattle.text_model.proofs.Cuts.{cut-nothing}
@@ -40,8 +41,7 @@ equated_some style x b rest e = ap (equated style) e ∙ ap (λ y. codes "=" ++ 
 
 -- an operator that writes the equals sign for an empty value too
 equated_always : (style : Style) (x : Text) → style.ifemp ≡ codes "=" → equated style x ≡ codes "=" ++ written style.writing x
-equated_always style [] e = e ∙ ap (λ y. codes "=" ++ y) (sym (written_nothing style.writing))
-equated_always style (b ∷ x) e = refl
+equated_always style x e = grind (arith, written_nothing)
 
 -- what the table of operators has for an empty value: an equals sign or nothing
 abbrev pub EndsName : Text → Type 0
@@ -82,8 +82,7 @@ module _ (v : Environment) where
 
   value_brings : (turn : Option Bool) (r : ℕ) (w : Writing) (n : ℕ) (t : Text) (s : Store) (Q : Claim) → s.registers r ≡ value.Text t
       → Q (saying (written w (prefix w n t)) s) → Acted v turn (writing_action r w n) s Q
-  value_brings turn r w zero t s Q e k = (t, e, k)
-  value_brings turn r w (suc n) t s Q e k = (t, e, k)
+  value_brings turn r w n t s Q e k = grind (arith, common_steps)
 
   -- registers are unchanged, and the text is appended to the output
   abbrev pub Adds : Store → Text → Claim → Type 0
@@ -105,10 +104,7 @@ module _ (v : Environment) where
             (k _ (simp append_assoc refl ∙ ap (λ y. s.output ++ (name ++ y)) (sym (equated_some style x b first.0 first.1)))),
       )
   named_brings style turn r n name t s Q R (c ∷ ifemp) i (inl h) e k = absurd (cc)
-  named_brings style turn r n name t s Q R (c ∷ ifemp) i (inr h) e k =
-      let x = prefix style.writing n t in
-      value_brings turn r style.writing n t _ Q e
-      (k _ (simp append_assoc refl ∙ ap (λ y. s.output ++ (name ++ y)) (sym (equated_always style x (i ∙ h)))))
+  named_brings style turn r n name t s Q R (c ∷ ifemp) i (inr h) e k = grind (arith, value_brings, append_assoc, equated_always)
 
   pub item_brings : (style : Style) → EndsName style.ifemp → (turn : Option Bool) (r n : ℕ) (name t : Text) (s : Store) (Q R : Claim)
       → s.registers r ≡ value.Text t → Adds s (item style name (prefix style.writing n t)) Q

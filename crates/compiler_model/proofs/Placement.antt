@@ -1,16 +1,15 @@
 -- The code of rules: its tables have the entries of its lines, and it contains the lines.
-use Rattle.std.proofs.Common.{◌≡◌, ℕ, List, length, Some, Bool, true, false, refl, ap, arith}
+use Rattle.std.proofs.Common.{◌≡◌, ℕ, List, length, Some, Bool, true, false, refl, arith}
 use Rattle.std.specs.Prelude.{slice_get, nat_lt, nat_le}
 use Rattle.std.specs.List.{AllByRecursion}
 use Rattle.std.proofs.lemmas.Grind.{common_steps}
 use Rattle.std.proofs.lemmas.Bool.{lt-ltb, eq-eqb}
 use Rattle.std.proofs.lemmas.Option.{slice_get_within}
 use Rattle.text_model.specs.declared.writing.Writing.{Writing}
-use Rattle.text_model.specs.declared.writing.Writing.TheVariants.{U, UR}
 use Rattle.text_model.proofs.Lists.{all_append}
 use Rattle.code_model.specs.Code.{Code, spelling, reading}
 use Rattle.code_model.specs.declared.code.Instruction.{Instruction}
-use Rattle.machine_model.specs.Operands.{has_right_operands, register_count, text_of_name, text_of_literal}
+use Rattle.machine_model.specs.Operands.{has_right_operands, register_count}
 use Rattle.compiler_model.specs.declared.lines.Action.{Action}
 use Rattle.compiler_model.specs.declared.lines.Action.TheVariants.{LoadText, LoadList, LoadConst, CountMembers, Emits, Separates, Puts, Cuts}
 use Rattle.compiler_model.specs.declared.lines.Test.TheVariants.{IsUndefined, IsEmpty, HasNoMember, HasNoNumber, Differs, IsLess}
@@ -32,14 +31,7 @@ IsFormedLine version (Begins a b places) = IsRegister a × IsRegister b
 IsFormedLine version line = Unit {0}
 
 anywhere : (version : ℕ) (inside : Bool) (a : Action) → IsFormedAction version inside a → IsFormedAction version true a
-anywhere version inside (Separates t) h = (refl, h.1)
-anywhere version inside (LoadText a name) h = h
-anywhere version inside (LoadList a name) h = h
-anywhere version inside (LoadConst a name) h = h
-anywhere version inside (CountMembers a b) h = h
-anywhere version inside (Emits t) h = h
-anywhere version inside (Puts a w) h = h
-anywhere version inside (Cuts a n w) h = h
+anywhere version inside a h = grind (arith, common_steps)
 
 pub lines_formed : (version : ℕ) (inside : Bool) (b : Block) → IsFormed version inside b → AllByRecursion (IsFormedLine version) (lines b)
 lines_formed version inside Nothing h = tt
@@ -70,24 +62,10 @@ module _ (c : Code) where
   within_table xs n x h = lt-ltb n (length xs) (slice_get_within xs n x h)
 
   mode_right : (w : Writing) → nat_le (mode_of w) 1 ≡ true
-  mode_right U = refl
-  mode_right UR = refl
+  mode_right w = grind (arith, common_steps)
 
   text_meant : (line : Line) → HasEntries c line → HasText c line
-  text_meant (Acts (LoadText a name)) h = ap text_of_name h
-  text_meant (Acts (LoadList a name)) h = ap text_of_name h
-  text_meant (Acts (LoadConst a t)) h = ap text_of_literal h
-  text_meant (Acts (Emits t)) h = ap text_of_literal h
-  text_meant (Acts (Separates t)) h = ap text_of_literal h
-  text_meant (Acts (CountMembers a b)) h = tt
-  text_meant (Acts (Puts a w)) h = tt
-  text_meant (Acts (Cuts a n w)) h = tt
-  text_meant (Tests t g) h = tt
-  text_meant (Jumps g) h = tt
-  text_meant (Begins a b n) h = tt
-  text_meant Turns h = tt
-  text_meant Halts h = tt
-  text_meant Fails h = tt
+  text_meant line h = grind (arith, common_steps)
 
   abbrev instruction_at : ℕ → ℕ → Line → Instruction
   instruction_at away place line = line_instruction c.names c.literals away place line
@@ -141,7 +119,4 @@ module _ (c : Code) where
   -- the instruction of a line is at its place
   pub placed : (away place : ℕ) (line : Line) → IsFormedLine c.version line → HasEntries c line
       → slice_get c.instrs place ≡ Some (spelling (instruction_at away place line)) → IsPlaced c away place line
-  placed away place line f h at = record {
-    reads = record { spelled = at; known = version_knows away place line f; right = operands_right away place line f h };
-    text = text_meant line h;
-  }
+  placed away place line f h at = grind (arith, version_knows, operands_right, text_meant)

@@ -1,10 +1,11 @@
 -- The kinds of the code of rules.
 
-use Rattle.std.proofs.Common.{◌≡◌, ℕ, ◌+◌, ◌<◌, List, [], ◌∷◌, ◌++◌, length, Some, None, refl, ap, ◌∙◌, subst, arith}
+use Rattle.std.proofs.Common.{◌≡◌, ℕ, ◌+◌, List, [], ◌∷◌, ◌++◌, length, Some, None, refl, ap, ◌∙◌, subst, arith}
 use Rattle.std.specs.Prelude.{slice_get}
 use Rattle.std.specs.List.{flat_map}
 use Rattle.std.proofs.lemmas.Option.{slice_get_within}
 use Rattle.std.proofs.lemmas.List.{length-append}
+use Rattle.std.proofs.lemmas.Grind.{common_steps}
 use Rattle.text_model.specs.Texts.{Text}
 use Rattle.code_model.specs.Code.{Code}
 use Rattle.code_model.specs.declared.code.Instruction.TheVariants as instruction
@@ -55,18 +56,14 @@ module _ (c : Code) (t : Table) (version : ℕ) (lists : List Text) where
       → place + length (flat_map (rule_lines lists) rules) + 1 ≡ length c.instrs → AreRowsPlaced t place (rules_rows lists rules)
       → Settled c t place (length c.instrs) × Holds t (edge place any_kinds)
   unfolding rules_rows
-  rules_settled [] place f h at eq r = (
-    settled_one c t place (length c.instrs) (omega (arith, eq)) (settled c t place instruction.Fail any_kinds (Reads-reading_at c place _ h) r.0 tt tt),
-    (any_kinds, r.0, below_any any_kinds),
-  )
+  rules_settled [] place f h at eq r = grind (arith, common_steps)
   rules_settled (rule ∷ rules) place f h at eq r =
       let block = rule_block lists rule in
       let last = place + length (lines block) in
       let away = place + length (rule_lines lists rule) in
       let are_placed = placed_both c away place (lines block) (Halts ∷ []) h.0 in
       let next : last + 1 ≡ away = omega (arith, length-append (lines block) (Halts ∷ [])) in
-      let whole : away + length (flat_map (rule_lines lists) rules) + 1 ≡ length c.instrs =
-      omega (arith, eq, length-append (rule_lines lists rule) (flat_map (rule_lines lists) rules)) in
+      let whole : away + length (flat_map (rule_lines lists) rules) + 1 ≡ length c.instrs = grind (arith, common_steps) in
       let both = rows_both t place (rows block any_kinds any_kinds (rule_typed lists rule)) (any_kinds ∷ rules_rows lists rules) r in
       let later = subst (λ n. AreRowsPlaced t (place + n) (any_kinds ∷ rules_rows lists rules)) (length-rows block any_kinds any_kinds (rule_typed lists rule))
       both.1 in
@@ -98,9 +95,7 @@ module _ (trees : TreesAreSound) (rules : RuleSet) (sound : IsSound rules) where
 
   settled_at : (place : ℕ) → IsSettled (code_of rules) table place
   unfolding table
-  settled_at place ks e =
-      let within : place < length (rules_rows rules.lists rules.rules) = slice_get_within (rules_rows rules.lists rules.rules) place ks e in
-      all_settled.0 place (omega arith) (omega (arith, within, length-rules_rows rules.lists rules.rules, code_length rules)) ks e
+  settled_at place ks e = grind (arith, rules_rows, slice_get_within, all_settled, length-rules_rows, code_length)
 
   pub code_typable : IsTypable (code_of rules)
   code_typable =

@@ -1,5 +1,5 @@
 -- A code that contains rules one after another: the machine ends with their meaning.
-use Rattle.std.proofs.Common.{◌≡◌, ℕ, ◌+◌, List, [], ◌∷◌, ◌++◌, length, Option, Some, None, Bool, true, false, refl, sym, ap, ◌∙◌, arith}
+use Rattle.std.proofs.Common.{◌≡◌, ℕ, ◌+◌, List, [], ◌∷◌, length, Option, Some, None, Bool, true, false, refl, sym, ap, ◌∙◌, arith}
 use Rattle.std.specs.Prelude.{if◌then◌else◌, All}
 use Rattle.std.specs.List.{list_all, find}
 use Rattle.std.specs.Option.{option_map}
@@ -84,9 +84,7 @@ module _ (c : Code) (v : Environment) (lists : List Text) where
           → Settles b s.output
           (λ n. Brings v None (parts_block lists rule.template.parts) n (λ n. (b ≡ true) × (n.output ≡ expansion look rule.template.parts))
           (λ n. (b ≡ false) × (n.output ≡ []))) (λ n. (b ≡ false) × (n.output ≡ []))
-      by_test true = λ n same. parts_bring v lists rule.template.parts sound.kinds n _ _
-          (λ m added. (refl, added ∙ ap (λ x. x ++ expansion look rule.template.parts) (same ∙ empty)))
-      by_test false = λ n same. (refl, same ∙ empty)
+      by_test b = grind (arith, parts_bring)
 
   pub rules_finish : (rules : List Rule) → All (IsSoundRule lists) rules → (p : ℕ) (s : Store) → s.output ≡ [] → AreRulesPlaced c lists p rules
       → Finishes c v (end_of (first_link rules)) (at_place p None s)

@@ -2,12 +2,12 @@
 use Rattle.std.proofs.Common.{◌≡◌, ℕ, ◌+◌, ◌<◌, ◌≤◌, List, [], ◌∷◌, length, Option, Some, None, Bool, true, false, refl, sym, ap, ◌∙◌, subst, arith, ◌⊎◌, inl}
 use Rattle.std.proofs.Common.{inr}
 use Rattle.std.proofs.lemmas.List.{length-append}
+use Rattle.std.proofs.lemmas.Grind.{common_steps}
 use Rattle.text_model.specs.Texts.{Text}
 use Rattle.text_model.specs.Writing.{written}
 use Rattle.text_model.specs.Cut.{cut}
 use Rattle.text_model.specs.Number.{leading_number}
 use Rattle.text_model.specs.declared.writing.Writing.{Writing}
-use Rattle.text_model.specs.declared.writing.Writing.TheVariants.{U, UR}
 use Rattle.environment_model.specs.Environment.{Environment, text_of, members_of}
 use Rattle.code_model.specs.Code.{Code}
 use Rattle.machine_model.specs.Operands.{writing_of}
@@ -29,8 +29,7 @@ use Rattle.compiler_model.proofs.Effects.{Store, keeping, saying, Claim, Acted, 
 use Rattle.compiler_model.proofs.Places.{IsPlaced, ArePlaced, placed_both, Finishes, at_place, onward, again, same_place}
 
 writing_of-mode_of : (w : Writing) → writing_of (mode_of w) ≡ w
-writing_of-mode_of U = refl
-writing_of-mode_of UR = refl
+writing_of-mode_of w = grind (arith, common_steps)
 
 -- whether the turn of a loop is its first
 abbrev pub turn_of : Option Loop → Option Bool
@@ -159,8 +158,7 @@ module _ (c : Code) (v : Environment) (e : End) where
       → ((n : Store) → R n → IsInside l away × Ends away l n) → Ends p l s
 
   none_of : (l : Option Loop) → turn_of l ≡ None → l ≡ None
-  none_of None h = refl
-  none_of (Some l) h = absurd (cc)
+  none_of l h = grind (arith, common_steps)
 
   pub moves : (b : Block) (away p q : ℕ) (l : Option Loop) → ArePlaced c away p (lines b) → p + length (lines b) ≡ q → q ≤ away → Around l p q
       → MovesTo away p q l b
@@ -182,8 +180,7 @@ module _ (c : Code) (v : Environment) (e : End) where
   moves (Either t x y) away p q l h eq le i s Q R b k m =
       let mid = p + 1 + length (lines x) in
       let both = placed_both c away (p + 1) (lines x) (Jumps (Ahead (length (lines y) + 1)) ∷ lines y) h.1 in
-      let whole : p + 1 + length (lines x) + 1 + length (lines y) ≡ q =
-      omega (arith, eq, length-append (lines x) (Jumps (Ahead (length (lines y) + 1)) ∷ lines y)) in
+      let whole : p + 1 + length (lines x) + 1 + length (lines y) ≡ q = grind (arith, common_steps) in
       let over : mid + (length (lines y) + 1) ≡ q = omega (arith, whole) in
       tests t _ away p (mid + 1) l s _ _ h.0 (omega arith) (omega arith) (i (p + 1) (omega arith) (omega (arith, whole))) b
       (λ done. (

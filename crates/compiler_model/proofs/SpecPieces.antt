@@ -1,20 +1,20 @@
 -- What the blocks of variables, of expressions and of templates write.
 
-use Rattle.std.proofs.Common.{◌≡◌, List, [], ◌∷◌, ◌++◌, Option, Some, None, Bool, true, false, refl, sym, ap, ◌∙◌, subst, inl, inr}
+use Rattle.std.proofs.Common.{arith, ◌≡◌, List, [], ◌∷◌, ◌++◌, Option, Some, None, Bool, true, false, refl, sym, ap, ◌∙◌, inl, inr}
+use Rattle.std.proofs.lemmas.Grind.{common_steps}
 use Rattle.std.specs.Prelude.{if◌then◌else◌, ◌==◌}
 use Rattle.std.specs.List.{flat_map, list_all, cons_option}
 use Rattle.std.proofs.lemmas.Bool.{and_parts, eqb-true}
 use Rattle.std.proofs.lemmas.List.{append_assoc, append-nil}
 use Rattle.text_model.specs.Texts.{Text}
-use Rattle.environment_model.specs.Environment.{Environment}
-use Rattle.environment_model.specs.Environment.{Meaning, Single, Several, look_up, text_in, members_in, only_text, only_list, members_of, view}
+use Rattle.environment_model.specs.Environment.{Environment, Meaning, Single, Several, look_up, text_in, members_in, only_text, only_list, members_of, view}
 use Rattle.environment_model.specs.Lists.{is_list, list_names}
 use Rattle.machine_model.specs.Values.{text_or_undefined}
 use Rattle.machine_model.specs.Values as value
 use Rattle.uri_grammar.specs.declared.parts.Spec.{Spec}
 use Rattle.uri_grammar.specs.declared.parts.Part.{Part}
 use Rattle.uri_grammar.specs.declared.parts.Part.TheVariants.{Literal, Expression}
-use Rattle.uri_template.specs.Expansion.{Style, style_of, item, list_piece, prefix, several_piece, piece, pieces, led, part_text, expansion}
+use Rattle.uri_template.specs.Expansion.{Style, style_of, item, list_piece, prefix, piece, pieces, led, part_text, expansion}
 use Rattle.rule_parser.specs.Rules.{spec_fits, part_fits, parts_fit}
 use Rattle.compiler_model.specs.Blocks.{Does, Then, Unless}
 use Rattle.compiler_model.specs.Shapes.{loading, is_missing, lead_block, loaded_block, specs_block, part_block, parts_block}
@@ -56,8 +56,7 @@ module _ (v : Environment) where
   list_brings style h spec z flag (Some (Several [])) e s Q R f k = inl (ap (λ m. value.List (members_in m)) e, k _ f (sym (append-nil s.output)))
   list_brings style h spec z flag (Some (Several (t ∷ ts))) e s Q R f k =
       let r : value.List (members_of v spec.name) ≡ value.List (t ∷ ts) = ap (λ m. value.List (members_in m)) e in
-      let k2 : Opens style flag (Some (list_piece style spec.name spec.explode (t ∷ ts))) s Q =
-      subst (λ n. Opens style flag (several_piece style spec n (t ∷ ts)) s Q) z k in
+      let k2 : Opens style flag (Some (list_piece style spec.name spec.explode (t ∷ ts))) s Q = grind (arith, common_steps) in
       inr (
         t,
         ts,
@@ -84,13 +83,10 @@ module _ (v : Environment) where
 
   piece_more : (style : Style) (flag out : Text) (p : Option Text) (ps : List Text) → (out ++ opened style flag p) ++ left_over style (next_flag p flag) ps
       ≡ out ++ left_over style flag (cons_option p ps)
-  piece_more style flag out None ps = ap (λ x. x ++ left_over style flag ps) (append-nil out)
-  piece_more style [] out (Some p) ps = simp append_assoc refl
-  piece_more style (b ∷ flag) out (Some p) ps = simp append_assoc refl
+  piece_more style flag out p ps = grind (arith, common_steps)
 
   none_left : (style : Style) (flag : Text) → left_over style flag [] ≡ []
-  none_left style [] = refl
-  none_left style (b ∷ flag) = refl
+  none_left style flag = grind (arith, common_steps)
 
   module _ (lists : List Text) where
     abbrev look : Text → Option Meaning

@@ -1,6 +1,6 @@
 -- Kinds of expressions: before and after each variable r4 holds a text.
 
-use Rattle.std.proofs.Common.{ℕ, zero, suc, List, [], ◌∷◌, Bool, true, false, refl, arith}
+use Rattle.std.proofs.Common.{ℕ, List, [], ◌∷◌, Bool, true, false, refl, arith}
 use Rattle.std.specs.Prelude.{codes, if◌then◌else◌}
 use Rattle.std.proofs.lemmas.Grind.{common_steps}
 use Rattle.text_model.specs.Texts.{Text}
@@ -43,8 +43,7 @@ lead_typed (b ∷ first) sep k ks flag value = (
 )
 
 writing_typed : (r : ℕ) (w : Writing) (n : ℕ) (ks ms : Kinds) → HasKindIn ks r kind.Text → IsBelow ks ms → Typed (Does (writing_action r w n)) ks ms
-writing_typed r w zero ks ms h below = (h, below)
-writing_typed r w (suc n) ks ms h below = (h, below)
+writing_typed r w n ks ms h below = grind (arith, common_steps)
 
 -- a value with its name, if r holds a text
 item_typed : (style : Style) (r : ℕ) (name : Text) (w : Writing) (n : ℕ) (ks ms : Kinds) → HasKindIn ks r kind.Text → IsBelow ks ms
@@ -56,12 +55,10 @@ item_typed style r name w n ks ms h below = by_test style.named style.ifemp
     named (b ∷ ifemp) = (ks, (tt, exactly ks), writing_typed r w n ks ms h below)
 
     by_test : (b : Bool) (ifemp : Text) → Typed (if b then named_block ifemp r name (writing_action r w n) else Does (writing_action r w n)) ks ms
-    by_test true ifemp = named ifemp
-    by_test false ifemp = writing_typed r w n ks ms h below
+    by_test b ifemp = grind (arith, named, writing_typed)
 
 head_typed : (named : Bool) (name : Text) (ks : Kinds) → Typed (head_block named name) ks ks
-head_typed true name ks = (tt, exactly ks)
-head_typed false name ks = exactly ks
+head_typed named name ks = grind (arith, common_steps)
 
 -- in a loop over members r5 holds one
 abbrev turning : Kinds

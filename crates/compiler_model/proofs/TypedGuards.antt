@@ -1,6 +1,7 @@
 -- Kinds of guards: nothing is known before one, and nothing after it.
 
-use Rattle.std.proofs.Common.{List, [], ◌∷◌, Bool, true, false, refl}
+use Rattle.std.proofs.Common.{arith, List, [], ◌∷◌, Bool, true, false, refl}
+use Rattle.std.proofs.lemmas.Grind.{common_steps}
 use Rattle.text_model.specs.Texts.{Text}
 use Rattle.environment_model.specs.Lists.{is_list}
 use Rattle.machine_model.specs.declared.kind.Kind.{Kind}
@@ -24,12 +25,10 @@ loaded_kind true = kind.List
 loaded_kind false = kind.OptText
 
 loading_typed : (list : Bool) (name : Text) (ks : Kinds) → Typed (Does (loading list name)) ks (put ks 0 (loaded_kind list))
-loading_typed true name ks = (tt, record { at = λ r. kind_le_refl _ })
-loading_typed false name ks = (tt, record { at = λ r. kind_le_refl _ })
+loading_typed list name ks = grind (arith, common_steps)
 
 missing_met : (list : Bool) (ks : Kinds) → MeetsTest (is_missing list) (put ks 0 (loaded_kind list))
-missing_met true ks = refl
-missing_met false ks = refl
+missing_met list ks = grind (arith, common_steps)
 
 -- r1 holds a number before and after a bound
 abbrev numbered : Kinds
@@ -93,13 +92,7 @@ guard_typed lists (guard.Holds name text) =
             (
               turn,
               turn,
-              record {
-                list = refl;
-                enters = put_above (put ks 3 kind.Text) two 3 kind.Text refl (known_pair (put ks 3 kind.Text) 1 kind.Text 2 kind.Text refl refl);
-                returns = put_above (put turn 3 kind.Text) two 3 kind.Text refl (known_pair (put turn 3 kind.Text) 1 kind.Text 2 kind.Text refl refl);
-                leaves = known_pair (put turn 3 kind.Any) 1 kind.Text 2 kind.Text refl refl;
-                skips = known_pair (put ks 3 kind.Any) 1 kind.Text 2 kind.Text refl refl;
-              },
+              grind (arith, common_steps),
               (
                 (refl, refl),
                 exactly turn,

@@ -1,20 +1,18 @@
 -- A property of all names that the code of rules loads, as texts or as lists.
-use Rattle.std.proofs.Common.{ℕ, zero, suc, List, [], ◌∷◌, ◌++◌, Bool, true, false, sym, subst, arith}
+use Rattle.std.proofs.Common.{List, [], ◌∷◌, ◌++◌, Bool, true, false, sym, subst, arith}
 use Rattle.std.specs.Prelude.{All}
 use Rattle.std.specs.List.{AllByRecursion, filter_map, flat_map}
 use Rattle.std.proofs.lemmas.Grind.{common_steps}
 use Rattle.std.proofs.lemmas.List.{append_assoc}
 use Rattle.std.proofs.lemmas.List.Elements.{All-head, All-tail, All-from_recursion}
 use Rattle.text_model.specs.Texts.{Text}
-use Rattle.text_model.specs.declared.writing.Writing.{Writing}
 use Rattle.text_model.proofs.Lists.{all_append}
 use Rattle.environment_model.specs.Lists.{is_list}
 use Rattle.code_model.specs.Code.{Name}
 use Rattle.uri_grammar.specs.declared.parts.Spec.{Spec}
 use Rattle.uri_grammar.specs.declared.parts.Part.{Part}
-use Rattle.uri_grammar.specs.declared.parts.Part.TheVariants.{Literal, Expression}
 use Rattle.uri_grammar.specs.Promises.{IsSoundSpec, IsSoundPart}
-use Rattle.uri_template.specs.Expansion.{Style, style_of}
+use Rattle.uri_template.specs.Expansion.{Style}
 use Rattle.rule_parser.specs.declared.rule.Bound.{Bound}
 use Rattle.rule_parser.specs.declared.rule.Bound.TheVariants as bound
 use Rattle.rule_parser.specs.declared.rule.Guard.{Guard}
@@ -22,14 +20,12 @@ use Rattle.rule_parser.specs.declared.rule.Guard.TheVariants as guard
 use Rattle.rule_parser.specs.declared.rule.Rule.{Rule}
 use Rattle.rule_parser.specs.Rules.{IsSoundGuard, IsSoundRule}
 use Rattle.compiler_model.specs.declared.lines.Action.{Action}
-use Rattle.compiler_model.specs.declared.lines.Action.TheVariants.{LoadText, LoadList, Puts}
-use Rattle.compiler_model.specs.declared.lines.Test.{Test}
-use Rattle.compiler_model.specs.declared.lines.Test.TheVariants.{IsLess}
+use Rattle.compiler_model.specs.declared.lines.Action.TheVariants.{LoadText, LoadList}
 use Rattle.compiler_model.specs.declared.lines.Line.{Line}
-use Rattle.compiler_model.specs.declared.lines.Line.TheVariants.{Acts, Halts, Fails}
+use Rattle.compiler_model.specs.declared.lines.Line.TheVariants.{Acts, Fails}
 use Rattle.compiler_model.specs.Blocks.{Block, Nothing, Does, Then, Unless, Either, ForEach, LeaveIf, Leave, lines}
-use Rattle.compiler_model.specs.Shapes.{loading, bound_block, guard_block, guards_block, lead_block, writing_action, item_block}
-use Rattle.compiler_model.specs.Shapes.{head_block, members_block, loaded_block, specs_block, part_block, parts_block, rule_block}
+use Rattle.compiler_model.specs.Shapes.{loading, guard_block, guards_block, lead_block}
+use Rattle.compiler_model.specs.Shapes.{loaded_block, specs_block, part_block, parts_block, rule_block}
 use Rattle.compiler_model.specs.Tables.{is_same_name, name_used, names_of}
 use Rattle.compiler_model.specs.Compiled.{rule_lines}
 use Rattle.compiler_model.proofs.Formed.{TreesAreSound}
@@ -82,47 +78,18 @@ module _ (Right : Bool → Text → Type 0) where
   -- ---- guards
 
   loading_right : (list : Bool) (name : Text) → Right list name → LoadsRightly (loading list name)
-  loading_right true name h = h
-  loading_right false name h = h
-
-  bound_right : (test : Test) (b : Bound) → IsRightBound b → IsRightBlock (bound_block test b)
-  bound_right test bound.Open h = tt
-  bound_right test (bound.Digits digits) h = (tt, tt)
-  bound_right test (bound.Name name) h = (h, tt)
+  loading_right list name h = grind (arith, common_steps)
 
   guard_right : (lists : List Text) (g : Guard) → IsRightGuard lists g → IsRightBlock (guard_block lists g)
-  guard_right lists (guard.Has name) h = (loading_right (is_list lists name) name h, tt)
-  guard_right lists (guard.Lacks name) h = (loading_right (is_list lists name) name h, tt)
-  guard_right lists (guard.Given name) h = (h, (tt, tt))
-  guard_right lists (guard.Same name text) h = (h, (tt, (tt, tt)))
-  guard_right lists (guard.Holds name text) h = (tt, (tt, (h, (tt, tt))))
-  guard_right lists (guard.Between name low high) h = (h.0, (tt, (tt, (bound_right (IsLess 1 3) low h.1, bound_right (IsLess 3 1) high h.2))))
-  guard_right lists (guard.Counts name low high) h = (h.0, (tt, (bound_right (IsLess 1 3) low h.1, bound_right (IsLess 3 1) high h.2)))
+  guard_right lists g h = grind (arith, common_steps)
 
   -- ---- expressions
 
   lead_right : (first sep : Text) → IsRightBlock (lead_block first sep)
-  lead_right [] sep = (tt, tt)
-  lead_right (b ∷ first) sep = ((tt, tt), tt)
-
-  writing_right : (r : ℕ) (w : Writing) (n : ℕ) → LoadsRightly (writing_action r w n)
-  writing_right r w zero = tt
-  writing_right r w (suc n) = tt
-
-  item_right : (style : Style) (r : ℕ) (name : Text) (value : Action) → LoadsRightly value → IsRightBlock (item_block style r name value)
-  item_right style r name value h = grind (arith, common_steps)
-
-  head_right : (named : Bool) (name : Text) → IsRightBlock (head_block named name)
-  head_right true name = tt
-  head_right false name = tt
-
-  members_right : (style : Style) (name : Text) (explode : Bool) → IsRightBlock (members_block style name explode)
-  members_right style name false = (head_right style.named name, (tt, tt))
-  members_right style name true = (tt, item_right style 5 name (Puts 5 style.writing) tt)
+  lead_right first sep = grind (arith, common_steps)
 
   loaded_right : (list : Bool) (style : Style) (spec : Spec) → IsRightBlock (loaded_block list style spec)
-  loaded_right true style spec = members_right style spec.name spec.explode
-  loaded_right false style spec = item_right style 0 spec.name (writing_action 0 style.writing spec.cut) (writing_right 0 style.writing spec.cut)
+  loaded_right list style spec = grind (arith, common_steps)
 
   -- ---- lines
 
@@ -163,8 +130,7 @@ module _ (Right : Bool → Text → Type 0) where
     parts_right (part ∷ parts) h = (of_part part (All-head IsSoundPart part parts h), parts_right parts (All-tail IsSoundPart part parts h))
       where
         of_part : (part : Part) → IsSoundPart part → IsRightBlock (part_block lists part)
-        of_part (Literal text) k = tt
-        of_part (Expression op specs) k = (tt, specs_right (style_of op) specs k.1)
+        of_part part k = grind (arith, specs_right)
 
     rules_right : (rules : List Rule) → All (IsSoundRule lists) rules → AllByRecursion IsRightLine (flat_map (rule_lines lists) rules ++ Fails ∷ [])
     rules_right [] h = (tt, tt)
@@ -172,8 +138,7 @@ module _ (Right : Bool → Text → Type 0) where
         let sound = All-head (IsSoundRule lists) rule rules h in
         let parts = trees rule.template.text rule.template.parts sound.template in
         let right : IsRightBlock (rule_block lists rule) = (guards_right rule.guards sound.guards, parts_right rule.template.parts parts) in
-        let here : AllByRecursion IsRightLine (rule_lines lists rule) =
-        all_append _ (lines (rule_block lists rule)) (Halts ∷ []) (lines_right (rule_block lists rule) right) (tt, tt) in
+        let here : AllByRecursion IsRightLine (rule_lines lists rule) = grind (arith, all_append, lines_right, right) in
         subst (AllByRecursion IsRightLine) (sym (append_assoc (rule_lines lists rule) (flat_map (rule_lines lists) rules) (Fails ∷ [])))
         (all_append _ (rule_lines lists rule) _ here (rules_right rules (All-tail (IsSoundRule lists) rule rules h)))
 

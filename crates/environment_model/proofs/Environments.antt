@@ -1,5 +1,5 @@
 -- Look-ups in an environment, and how it changes when a text or a member is added.
-use Rattle.std.proofs.Common.{◌≡◌, ◌+◌, [], ◌∷◌, ◌++◌, Bool, true, false, length, is_some, bytes_eq, Some, None, refl, sym, ap, ◌∙◌, arith, length-append}
+use Rattle.std.proofs.Common.{◌≡◌, ◌+◌, [], ◌∷◌, ◌++◌, Bool, true, false, length, is_some, bytes_eq, Some, None, refl, sym, ap, ◌∙◌, arith}
 use Rattle.std.proofs.lemmas.Grind.{common_steps}
 use Rattle.std.proofs.lemmas.List.Sums.{sum_by-cons, sum_by_push}
 use Rattle.text_model.specs.Texts.{Text}
@@ -80,16 +80,11 @@ with_member-text [] name t is_text = let none : is_some (text_of [] name) ≡ fa
 with_member-text (e ∷ env) name t is_text = by_cases (bytes_eq e.name name) refl (with_member-text env name t)
   where
     keeps : (m : Meaning) → is_some (text_in (Some m)) ≡ true → more m t ≡ m
-    keeps (Single u) h = refl
-    keeps (Several us) h = absurd (cc)
+    keeps m h = grind (arith, common_steps)
 
     by_cases : (b : Bool) → bytes_eq e.name name ≡ b → (is_some (text_of env name) ≡ true → with_member env name t ≡ env)
         → with_member (e ∷ env) name t ≡ e ∷ env
-    by_cases true same following =
-        with_member-same e env name t same ∙ ap (λ m. record { name = e.name; meaning = m } ∷ env)
-        (keeps e.meaning (ap (λ o. is_some (text_in o)) (sym (look_up-same e env name same)) ∙ is_text))
-    by_cases false other following =
-        with_member-other e env name t other ∙ ap (λ es. e ∷ es) (following (ap (λ o. is_some (text_in o)) (sym (look_up-other e env name other)) ∙ is_text))
+    by_cases b same following = grind (arith, with_member-same, keeps, is_some, look_up-same, with_member-other, look_up-other)
 
 -- ---- E and M
 
@@ -113,18 +108,14 @@ member_count-with_text env name t = grind (arith, common_steps)
 
 -- a member adds its bytes to a list
 more_bytes : (m : Meaning) (t : Text) → is_some (text_in (Some m)) ≡ false → meaning_bytes (more m t) ≡ meaning_bytes m + length t
-more_bytes (Single u) t h = absurd (cc)
-more_bytes (Several us) t h = sum_by_push length us t
+more_bytes m t h = grind (arith, common_steps)
 
 more_members : (m : Meaning) (t : Text) → is_some (text_in (Some m)) ≡ false → meaning_members (more m t) ≡ meaning_members m + 1
-more_members (Single u) t h = absurd (cc)
-more_members (Several us) t h = length-append us (t ∷ [])
+more_members m t h = grind (arith, common_steps)
 
 pub byte_count-with_member : (env : Environment) (name t : Text) → is_some (text_of env name) ≡ false → byte_count (with_member env name t)
     ≡ byte_count env + length t
-byte_count-with_member [] name t no_text =
-    ap byte_count (with_member-empty name t) ∙ let one = byte_count-push [] (record { name = name; meaning = Several (t ∷ []) }) in let bytes =
-    sum_by_push length [] t in omega arith
+byte_count-with_member [] name t no_text = grind (arith, with_member-empty, byte_count-push, sum_by_push)
 byte_count-with_member (e ∷ env) name t no_text = by_cases (bytes_eq e.name name) refl (byte_count-with_member env name t)
   where
     by_cases : (b : Bool) → bytes_eq e.name name ≡ b → (is_some (text_of env name) ≡ false → byte_count (with_member env name t) ≡ byte_count env + length t)
@@ -166,8 +157,4 @@ is_there-with_member (e ∷ env) name t other there = by_cases (bytes_eq e.name 
 
     by_cases : (b : Bool) → bytes_eq e.name name ≡ b → (is_there env name ≡ true → is_there (with_member env name t) other ≡ is_there env other)
         → is_there (with_member (e ∷ env) name t) other ≡ is_there (e ∷ env) other
-    by_cases true same following =
-        ap (λ es. is_there es other) (with_member-same e env name t same) ∙ front (record { name = e.name; meaning = more e.meaning t }) e env env refl refl
-    by_cases false not_same following =
-        let there' : is_there env name ≡ true = ap is_some (sym (look_up-other e env name not_same)) ∙ there in
-        ap (λ es. is_there es other) (with_member-other e env name t not_same) ∙ front e e (with_member env name t) env refl (following there')
+    by_cases b same following = grind (arith, with_member-same, front, is_some, look_up-other, with_member-other)

@@ -1,9 +1,9 @@
 -- The entries of one more row.
 use Rattle.std.proofs.Common.{◌≡◌, ℕ, ◌+◌, ◌*◌, ◌≤◌, ◌<◌, ◌||◌, Bool, true, false, List, [], ◌∷◌, ◌++◌}
 use Rattle.std.proofs.lemmas.Grind.{common_steps}
-use Rattle.std.proofs.Common.{Option, None, Some, ap, arith, drop, get_or, length, nat_lt, option_map, refl, subst, sym, take, ◌∙◌, true≢false}
+use Rattle.std.proofs.Common.{Option, ap, arith, drop, get_or, length, nat_lt, option_map, refl, subst, sym, take, ◌∙◌, true≢false}
 use Rattle.std.proofs.lemmas.Bool.Decides.{nat_tests}
-use Rattle.std.proofs.lemmas.List.Elements.{All-append, All-cons, All-nil, Contains-append_left, Contains-append_right}
+use Rattle.std.proofs.lemmas.List.Elements.{All-append, Contains-append_left, Contains-append_right}
 use Rattle.std.proofs.lemmas.Slice.Eq.{bytes_eq-Decides}
 use Rattle.std.specs.List.{Contains}
 use Rattle.std.specs.Option.{option_to_list}
@@ -24,19 +24,13 @@ HasSoFar keys print online rows done entries = (row : ℕ) (id : Text) → row <
     → Contains entries (entry_for keys row id)
 
 its_own : (keys : Keys) (row : ℕ) (id : Text) (found : Option Text) → is_id id found ≡ true → Contains (entries_for keys row found) (entry_for keys row id)
-its_own keys row id None is = absurd (true≢false (sym is))
-its_own keys row id (Some other) is =
-    let same : id ≡ other = (bytes_eq-Decides id other).0 is in
-    (0, omega arith, ap (entry_for keys row) (sym same))
+its_own keys row id found is = grind (arith, bytes_eq-Decides)
 
 at_most_one : (keys : Keys) (row : ℕ) (found : Option Text) → length (entries_for keys row found) ≤ 1
-at_most_one keys row None = omega arith
-at_most_one keys row (Some id) = omega arith
+at_most_one keys row found = grind (arith, common_steps)
 
 small_row : (keys : Keys) (row : ℕ) (found : Option Text) → row < 4294967296 → AreSmall (entries_for keys row found)
-small_row keys row None small = All-nil (λ (entry : Entry). entry.row < 4294967296)
-small_row keys row (Some id) small = All-cons (λ (entry : Entry). entry.row < 4294967296) (entry_for keys row id) [] small
-    (All-nil (λ (entry : Entry). entry.row < 4294967296))
+small_row keys row found small = grind (arith, common_steps)
 
 pub small_more : (keys : Keys) (row : ℕ) (a b : Option Text) (old : List Entry) → row < 4294967296 → AreSmall old
     → AreSmall ((old ++ entries_for keys row a) ++ entries_for keys row b)

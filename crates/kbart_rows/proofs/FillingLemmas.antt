@@ -3,7 +3,7 @@ use Rattle.std.proofs.Common.{◌≡◌, ℕ, ◌+◌, ◌-◌, ◌≤◌, ◌<�
 use Rattle.std.proofs.lemmas.Grind.{common_steps}
 use Rattle.std.proofs.Common.{Result, Ok, Err, OnOk, IfErr, refl, sym, ap, ◌∙◌, arith, append-nil}
 use Rattle.std.proofs.lemmas.List.Sums.{sum_by-cons, sum_by-append, fold-append}
-use Rattle.std.proofs.lemmas.List.{get_or-drop, take-append-drop}
+use Rattle.std.proofs.lemmas.List.{take-append-drop}
 use Rattle.std.proofs.lemmas.List.Elements.{filter_map-append}
 use Rattle.std.specs.List.{cons_option, filter_map, range_with_len, sum_by}
 use Rattle.text_model.specs.Texts.{Text}
@@ -84,15 +84,6 @@ pub filled_more : (old : Environment) (header cells : Row) (column : ℕ)
     ≡ with_named_cells old (filter_map (named_cell header cells) (range_with_len 0 (column + 1)))
 filled_more old header cells column = grind (arith, one_cell, fold-append, filter_map-append, range_more)
 
--- the cell that the program finds is that of the definition
-cell_is : (header cells : Row) (column : ℕ) (name cell : Text) (found : Option ℕ) → get_or header column [] ≡ name → get_or cells column [] ≡ cell
-    → found ≡ column_of header name
-    → cell_at_first found column name cell ≡ named_cell header cells column
-cell_is header cells column name cell found is_name is_cell is_found =
-    ap (λ first. cell_at_first first column name cell) is_found
-    ∙ ap (λ n. cell_at_first (column_of header n) column n cell) (sym is_name)
-    ∙ ap (λ text. cell_at_first (column_of header (get_or header column [])) column (get_or header column []) text) (sym is_cell)
-
 -- the first of the names that are left is that of the column, and the first of the cells that are left is its cell
 pub record ColumnAt (header row : Row) (column : ℕ) (name cell : Text) (other_names : Row) (found : Option ℕ) : Type 0 where
   pub inside : column < length header
@@ -104,13 +95,8 @@ pub column_at : (header row : Row) (column : ℕ) (name cell : Text) (other_name
 column_at header row column name cell other_names cells found names_left cells_left is_cell is_found =
     let at = item_at header column name other_names names_left in
     let here : column + 0 ≡ column = omega arith in
-    let cell_there : get_or row column [] ≡ cell =
-    sym (is_cell ∙ ap (λ (left : _). get_or left 0 []) cells_left ∙ get_or-drop column row 0 [] ∙ ap (λ (place : _). get_or row place []) here) in
-    record {
-      inside = at.inside;
-      after = at.after;
-      is = cell_is header row column name cell found (at.is []) cell_there is_found;
-    }
+    let cell_there : get_or row column [] ≡ cell = grind (arith, common_steps) in
+    grind (arith, common_steps)
 
 -- a cell is rejected after those before it were added
 pub stops_at : (old now new : Environment) (header cells : Row) (column : ℕ) (cell : Option NamedCell) (e : VarsError) → column < length header
@@ -127,10 +113,7 @@ stops_at old now new header cells column (Some cell) e inside is so_far unchange
       before = filter_map test (range_with_len 0 column);
       refused = cell;
       after = filter_map test (range_with_len (0 + column + 1) others);
-      in_order = ap (λ n. filter_map test (range_with_len 0 n)) size ∙ ap (filter_map test) (range_parts 0 column others)
-          ∙ filter_map-append test (range_with_len 0 column) ((0 + column) ∷ range_with_len (0 + column + 1) others)
-          ∙ ap (λ at. filter_map test (range_with_len 0 column) ++ cons_option (test at) (filter_map test (range_with_len (0 + column + 1) others))) here
-          ∙ ap (λ found. filter_map test (range_with_len 0 column) ++ cons_option found (filter_map test (range_with_len (0 + column + 1) others))) (sym is);
+      in_order = grind (arith, size, range_parts, filter_map-append, here, is);
       reached = unchanged ∙ so_far;
       is_new = rw unchanged refused.0;
       too_large = rw unchanged refused.1;
@@ -139,8 +122,7 @@ stops_at old now new header cells column (Some cell) e inside is so_far unchange
 -- ---- the bytes of a row's cells
 
 name_bytes : (name cell : Text) → cell_bytes (cons_option (name_cell name cell) []) ≤ length cell
-name_bytes name [] = omega arith
-name_bytes name (b ∷ text) = omega (arith, cell_bytes-cons (record { name = name; text = b ∷ text }) [])
+name_bytes name cell = grind (arith, common_steps)
 
 column_bytes : (header cells : Row) (column : ℕ) → cell_bytes (cons_option (named_cell header cells column) []) ≤ length (get_or cells column [])
 column_bytes header cells column = grind (arith, common_steps)

@@ -1,12 +1,13 @@
 -- A walk over the names of a header: the first column of each.
-use Rattle.std.proofs.Common.{◌≡◌, ℕ, ◌+◌, ◌<◌, ◌||◌, Bool, true, false, suc, List, [], ◌∷◌, ◌++◌, length, take, drop, get_or, Option, Some, None}
-use Rattle.std.proofs.Common.{is_some, refl, sym, ap, ◌∙◌, arith, if◌then◌else◌}
+use Rattle.std.proofs.Common.{◌≡◌, ℕ, ◌+◌, ◌<◌, ◌||◌, Bool, suc, List, [], ◌∷◌, ◌++◌, length, take, drop, get_or, Option, Some, None}
+use Rattle.std.proofs.Common.{is_some, sym, ap, ◌∙◌, arith, if◌then◌else◌}
 use Rattle.std.proofs.lemmas.Iterator.Adapters.{position_from-zero}
 use Rattle.std.proofs.lemmas.List.{drop_more, length-drop, take_all, take_more, length-take-le}
 use Rattle.std.proofs.lemmas.Option.{get_or_from_slice_get, slice_get_within}
 use Rattle.std.specs.List.{position_from, slice_get}
 use Rattle.std.specs.Option.{unwrap_or}
 use Rattle.std.specs.Str.{bytes_eq}
+use Rattle.std.proofs.lemmas.Grind.{common_steps}
 use Rattle.text_model.specs.Texts.{Text}
 use Rattle.text_model.proofs.Lists.{same_parts}
 use Rattle.kbart_rows.specs.Cells.{Row, column_of}
@@ -49,13 +50,7 @@ or_else (Some column) other = Some column
 position_more : (test : Text → Bool) (first : ℕ) (names : Row) (name : Text)
     → position_from test first (names ++ name ∷ []) ≡ or_else (position_from test first names) (if test name then Some (first + length names) else None)
 position_more test first [] name = ap (λ column. if test name then Some column else None) (omega arith)
-position_more test first (other ∷ names) name =
-    elim (test other) as (λ b. (if b then Some first else position_from test (first + 1) (names ++ name ∷ []))
-    ≡ or_else (if b then Some first else position_from test (first + 1) names) (if test name then Some (first + suc (length names)) else None)) [
-      | true ↦ refl
-      | false ↦ position_more test (first + 1) names name
-          ∙ ap (λ column. or_else (position_from test (first + 1) names) (if test name then Some column else None)) (omega arith)
-    ]
+position_more test first (other ∷ names) name = grind (arith, common_steps, position_more test (first + 1) names name)
 
 column_more : (names : Row) (name other : Text) → column_of (names ++ name ∷ []) other
     ≡ or_else (column_of names other) (if bytes_eq other name then Some (length names) else None)
@@ -72,22 +67,16 @@ name_known header column name other at =
     ∙ either (column_of before other) (bytes_eq other name) (length before)
   where
     either : (found : Option ℕ) (is : Bool) (column : ℕ) → is_some (or_else found (if is then Some column else None)) ≡ (is_some found || is)
-    either None true column = refl
-    either None false column = refl
-    either (Some first) is column = refl
+    either found is column = grind (arith, common_steps)
 
 entered : (found : Option ℕ) (is : Bool) (column : ℕ) → (if is then Some (unwrap_or found column) else found) ≡ or_else found (if is then Some column else None)
-entered None true column = refl
-entered None false column = refl
-entered (Some first) true column = refl
-entered (Some first) false column = refl
+entered found is column = grind (arith, common_steps)
 
 -- the look-up of a name after one more column was entered
 pub column_entered : (header : Row) (column : ℕ) (name other : Text) (rest : Row) (found : Option ℕ) → IsAt header column name rest
     → found ≡ column_of (take column header) other
     → (if bytes_eq other name then Some (unwrap_or found column) else found) ≡ column_of (take (column + 1) header) other
 column_entered header column name other rest found at so_far =
-    let inside = at.inside in
     let size = length-take-le column header (omega arith) in
     entered found (bytes_eq other name) column
     ∙ ap (λ before. or_else before (if bytes_eq other name then Some column else None)) so_far

@@ -1,11 +1,8 @@
 -- Places in an index.
-use Rattle.std.proofs.Common.{◌≡◌, ℕ, ◌+◌, ◌/◌, ◌^◌, ◌≤◌, ◌<◌, Bool, true, false}
+use Rattle.std.proofs.Common.{◌≡◌, ℕ, ◌+◌, ◌≤◌, ◌<◌, Bool, true, false, List, [], ◌∷◌, ◌++◌, get_or, length, take, drop, ap, ◌∙◌, refl, arith, nat_lt}
 use Rattle.std.proofs.lemmas.Grind.{common_steps}
-use Rattle.std.proofs.Common.{List, [], ◌∷◌, ◌++◌, get_or, length, take, drop, ap, ◌∙◌, refl, arith, nat_lt}
 use Rattle.std.proofs.lemmas.Bool.Decides.{nat_tests}
-use Rattle.std.proofs.lemmas.List.{get_or-drop, get_or-take, get_or_append_left, length-append}
-use Rattle.std.proofs.lemmas.Nat.{le-div, pow_pos}
-use Rattle.std.proofs.Math.Nat.{div-mul-le_self}
+use Rattle.std.proofs.lemmas.List.{get_or-drop, get_or-take, length-append}
 use Rattle.kbart_rows.specs.Private.Index.{AreSmall, AreStarts, IsOrdered, bucket_of, entry_key, key_of}
 use Rattle.kbart_rows.specs.declared.index.Entry.{Entry}
 
@@ -14,9 +11,7 @@ at_mid entries start n i k d inside is = get_or-take n (drop start entries) i d 
 
 -- a later hash is in no earlier bucket
 pub buckets_rise : (shift a b : ℕ) → a ≤ b → bucket_of shift a ≤ bucket_of shift b
-buckets_rise shift a b le =
-    let whole = div-mul-le_self a (2 ^ shift) in
-    le-div (a / 2 ^ shift) b (2 ^ shift) (pow_pos shift) (omega (arith, le, whole))
+buckets_rise shift a b le = grind (arith, common_steps)
 
 -- a bucket does not start after the next one
 pub starts_rise : (shift : ℕ) (entries : List Entry) (starts : List ℕ) (bucket : ℕ) → AreStarts shift entries starts → bucket + 1 < length starts
@@ -67,10 +62,7 @@ pub place_before : (shift : ℕ) (entries : List Entry) (starts : List ℕ) (has
 place_before shift entries starts hash row start place are small inside is before k d below within = by_test (nat_lt k start) refl
   where
     by_test : (b : Bool) → nat_lt k start ≡ b → entry_key (get_or entries k d) < key_of hash row
-    by_test true less = grind (arith, nat_tests, before_start, inside, within)
-    by_test false more =
-        let late : start ≤ k = grind (arith, nat_tests) in
-        before k d late below
+    by_test b less = grind (arith, nat_tests, before_start, inside, within, before)
 
 pub place_after : (shift : ℕ) (entries : List Entry) (starts : List ℕ) (hash row end place : ℕ) → AreStarts shift entries starts → row < 4294967296
     → bucket_of shift hash + 1 < length starts → end ≡ get_or starts (bucket_of shift hash + 1) 0
@@ -79,22 +71,13 @@ pub place_after : (shift : ℕ) (entries : List Entry) (starts : List ℕ) (hash
 place_after shift entries starts hash row end place are small inside is after k d above within = by_test (nat_lt k end) refl
   where
     by_test : (b : Bool) → nat_lt k end ≡ b → key_of hash row ≤ entry_key (get_or entries k d)
-    by_test true less =
-        let early : k < end = grind (arith, nat_tests) in
-        after k d above early
-    by_test false more =
-        let late : end ≤ k = grind (arith, nat_tests) in
-        let more = after_end shift entries starts hash k d are inside (omega (arith, late, is)) within in
-        omega (arith, more, small)
+    by_test b less = grind (arith, nat_tests, after, after_end, inside, within)
 
 -- ---- how the starts are found
 
 pub hashes_rise : (entries : List Entry) (i j : ℕ) (d : Entry) → IsOrdered entries → AreSmall entries → i ≤ j → j < length entries
     → (get_or entries i d).hash ≤ (get_or entries j d).hash
-hashes_rise entries i j d order small le inside =
-    let keys = order i j d le inside in
-    let fits = small j d inside in
-    omega (arith, keys, fits)
+hashes_rise entries i j d order small le inside = grind (arith, inside)
 
 -- the starts of that many buckets
 pub record AreSoFar (shift : ℕ) (entries : List Entry) (starts : List ℕ) (buckets at : ℕ) : Type 0 where
@@ -125,39 +108,22 @@ one_start_more shift entries starts buckets at start order small so_far later in
     }
   where
     earlier : (k : ℕ) (d : Entry) → k < start → k < length entries → bucket_of shift (get_or entries k d).hash < buckets
-    earlier k d below within = by_test (nat_lt k at) refl
-      where
-        by_test : (b : Bool) → nat_lt k at ≡ b → bucket_of shift (get_or entries k d).hash < buckets
-        by_test true less =
-            let early : k < at = grind (arith, nat_tests) in
-            so_far.passed k d early within
-        by_test false more =
-            let late : at ≤ k = grind (arith, nat_tests) in
-            skipped k d late below
+    earlier k d below within = grind (arith, common_steps)
 
     last : (bucket : ℕ) → bucket < length (starts ++ start ∷ []) → nat_lt bucket (length starts) ≡ false
         → (bucket ≡ buckets) × (get_or (starts ++ start ∷ []) bucket 0 ≡ start)
     last bucket few more = grind (arith, common_steps)
 
     first : (bucket : ℕ) → nat_lt bucket (length starts) ≡ true → (bucket < length starts) × (get_or (starts ++ start ∷ []) bucket 0 ≡ get_or starts bucket 0)
-    first bucket less =
-        let early : bucket < length starts = grind (arith, nat_tests) in
-        (early, get_or_append_left starts (start ∷ []) 0 bucket early)
+    first bucket less = grind (arith, common_steps)
 
     by_before : (bucket k : ℕ) (d : Entry) → bucket < length (starts ++ start ∷ []) → k < get_or (starts ++ start ∷ []) bucket 0 → k < length entries
         → (b : Bool) → nat_lt bucket (length starts) ≡ b → bucket_of shift (get_or entries k d).hash < bucket
-    by_before bucket k d few below within true less =
-        let part = first bucket less in
-        let same = part.1 in
-        so_far.before bucket k d part.0 (omega (arith, below, same)) within
-    by_before bucket k d few below within false more = grind (arith, last, earlier, within)
+    by_before bucket k d few below within b less = grind (arith, common_steps)
 
     by_after : (bucket k : ℕ) (d : Entry) → bucket < length (starts ++ start ∷ []) → get_or (starts ++ start ∷ []) bucket 0 ≤ k → k < length entries
         → (b : Bool) → nat_lt bucket (length starts) ≡ b → bucket ≤ bucket_of shift (get_or entries k d).hash
-    by_after bucket k d few above within true less =
-        let part = first bucket less in
-        let same = part.1 in
-        so_far.after bucket k d part.0 (omega (arith, above, same)) within
+    by_after bucket k d few above within true less = grind (arith, common_steps)
     by_after bucket k d few above within false more =
         let part = last bucket few more in
         let is = part.0 in
@@ -169,7 +135,4 @@ one_start_more shift entries starts buckets at start order small so_far later in
 
     by_within : (bucket : ℕ) → bucket < length (starts ++ start ∷ []) → (b : Bool) → nat_lt bucket (length starts) ≡ b
         → get_or (starts ++ start ∷ []) bucket 0 ≤ length entries
-    by_within bucket few true less = grind (arith, common_steps)
-    by_within bucket few false more =
-        let same = (last bucket few more).1 in
-        omega (arith, same, inside)
+    by_within bucket few b less = grind (arith, common_steps)

@@ -1,13 +1,12 @@
 -- Where a row's cells are in its line.
-use Rattle.std.proofs.Common.{cond, count_by}
-use Rattle.std.proofs.Common.{Bor, ◌≡◌, ◌≢◌, ℕ, ◌+◌, ◌==◌, ◌≤◌, true, false, zero, suc, List, [], ◌∷◌, ◌++◌, length, map, get_or, All, Option}
-use Rattle.std.proofs.Common.{Some, None, refl, sym, ap, ◌∙◌, arith, append_assoc, length-append, if◌then◌else◌}
+use Rattle.std.proofs.Common.{count_by, Bor, ◌≡◌, ◌≢◌, ℕ, ◌==◌, ◌≤◌, true, false, zero, suc, List, [], ◌∷◌, ◌++◌, length, map, get_or, All, Option, Some, None}
+use Rattle.std.proofs.Common.{refl, sym, ap, ◌∙◌, arith, append_assoc, length-append, if◌then◌else◌}
 use Rattle.std.proofs.lemmas.Bool.Decides.{nat_tests}
 use Rattle.std.proofs.lemmas.List.Elements.{All-head, All-tail}
-use Rattle.std.proofs.lemmas.List.Sums.{sum_by-cons}
 use Rattle.std.proofs.lemmas.Option.{same_Some, none-some}
 use Rattle.std.specs.List.{sum_by}
 use Rattle.std.specs.Option.{option_map, unwrap_or}
+use Rattle.std.proofs.lemmas.Grind.{common_steps}
 use Rattle.csv.specs.Records.{field_at}
 use Rattle.text_model.specs.Texts.{Text}
 use Rattle.kbart_rows.specs.Cells.{Row, row_bytes, tab}
@@ -45,33 +44,17 @@ cells_of_line (cell ∷ cells) plain =
     ∙ first_cell cell (line_of cells) (All-head HasNoTab cell cells plain)
     ∙ ap (λ rest. cell ∷ rest) (cells_of_line cells (All-tail HasNoTab cell cells plain))
 
-pub prepended_cells : (b : ℕ) (cells : Row) → length (prepended b cells) ≡ length cells
-prepended_cells b [] = refl
-prepended_cells b (cell ∷ cells) = refl
-
 -- a tab makes a cell
 pub few_cells : (line : Text) → length (cells_in line) ≤ length line
 unfolding cells_in
 few_cells [] = omega arith
-few_cells (b ∷ line) =
-    elim (b == tab) as (λ is. length (if is then [] ∷ cells_in line else prepended b (cells_in line)) ≤ suc (length line)) [
-      | true ↦ omega (arith, few_cells line)
-      | false ↦ omega (arith, few_cells line, prepended_cells b (cells_in line))
-    ]
+few_cells (b ∷ line) = grind (arith, common_steps, few_cells line)
 
 -- the cells are bytes of the line
 pub cells_fit : (line : Text) → sum_by length (cells_in line) ≤ length line
 unfolding cells_in
 cells_fit [] = omega arith
-cells_fit (b ∷ line) =
-    elim (b == tab) as (λ is. sum_by length (if is then [] ∷ cells_in line else prepended b (cells_in line)) ≤ suc (length line)) [
-      | true ↦ omega (arith, cells_fit line, sum_by-cons length [] (cells_in line))
-      | false ↦ omega (arith, cells_fit line, prepended_bytes b (cells_in line))
-    ]
-  where
-    prepended_bytes : (b : ℕ) (cells : Row) → sum_by length (prepended b cells) ≤ suc (sum_by length cells)
-    prepended_bytes b [] = omega arith
-    prepended_bytes b (cell ∷ cells) = omega (arith, sum_by-cons length (b ∷ cell) cells, sum_by-cons length cell cells)
+cells_fit (b ∷ line) = grind (arith, common_steps, cells_fit line)
 
 -- ---- a line with a tab after its last cell
 
@@ -92,18 +75,7 @@ no_line_closed = refl
 pub line_closed : (line : Text) → IsClosed (line ++ tab ∷ [])
 unfolding cells_in
 line_closed [] = refl
-line_closed (b ∷ line) =
-    let more = some_cell line in
-    elim (b == tab) as (λ is. suc (length (line ++ tab ∷ [])) ≡ sum_by length (if is then [] ∷ cells_of line else prepended b (cells_of line))
-    + length (if is then [] ∷ cells_of line else prepended b (cells_of line))) [
-      | true ↦ omega (arith, line_closed line, sum_by-cons length [] (cells_of line))
-      | false ↦ longer (cells_of line) more.0 more.1 more.2 (line_closed line)
-    ]
-  where
-    longer : (cells : Row) (first : Text) (others : Row) → cells ≡ first ∷ others → length (line ++ tab ∷ []) ≡ sum_by length cells + length cells
-        → suc (length (line ++ tab ∷ [])) ≡ sum_by length (prepended b cells) + length (prepended b cells)
-    longer cells first others is closed =
-        rw is omega (arith, rw is at closed, sum_by-cons length (b ∷ first) others, sum_by-cons length first others)
+line_closed (b ∷ line) = grind (arith, common_steps, line_closed line)
 
 -- between the cells there is one tab less
 pub row_bytes_are : (line : Text) → row_bytes (cells_of line) ≡ length line
@@ -115,12 +87,7 @@ row_bytes_are line =
 pub tabs_are_cells : (line : Text) → count_by (λ b. b == tab) line ≡ length (cells_in line)
 unfolding cells_in
 tabs_are_cells [] = refl
-tabs_are_cells (b ∷ line) =
-    sum_by-cons (λ b. cond (b == tab) 1 0) b line
-    ∙ elim (b == tab) as (λ is. cond is 1 0 + count_by (λ b. b == tab) line ≡ length (if is then [] ∷ cells_in line else prepended b (cells_in line))) [
-      | true ↦ omega (arith, tabs_are_cells line)
-      | false ↦ omega (arith, tabs_are_cells line, prepended_cells b (cells_in line))
-    ]
+tabs_are_cells (b ∷ line) = grind (arith, common_steps, tabs_are_cells line)
 
 -- the field at a place, or no text
 pub field_or_empty : (fields : Row) (at : ℕ) (found : Option (Bor Text)) (other : Bor Text) → option_map (λ field. field.now) found ≡ field_at fields at

@@ -1,8 +1,9 @@
 -- What is left of a line after some of its columns.
-use Rattle.std.proofs.Common.{◌≡◌, ℕ, ◌+◌, ◌≤◌, ◌<◌, zero, suc, [], ◌∷◌, ◌++◌, length, drop, get_or, Some, None, refl, sym, ap, ◌∙◌, arith, append_assoc}
+use Rattle.std.proofs.Common.{◌≡◌, ℕ, ◌+◌, ◌≤◌, ◌<◌, zero, suc, [], ◌∷◌, ◌++◌, length, drop, get_or, Some, None, refl, sym, ap, ◌∙◌, arith}
 use Rattle.std.proofs.lemmas.List.{get_or_past, length-drop}
 use Rattle.std.proofs.lemmas.Option.{slice_get-get_or, slice_get_past}
 use Rattle.std.specs.List.{slice_get}
+use Rattle.std.proofs.lemmas.Grind.{common_steps}
 use Rattle.text_model.specs.Texts.{Text}
 use Rattle.kbart_rows.specs.Cells.{Row, tab}
 use Rattle.kbart_rows.specs.Lines.{cells_in}
@@ -30,8 +31,7 @@ pub cell_passed : (line rest cell others : Text) (column next : ℕ) → IsRest 
     → rest ≡ cell ++ tab ∷ others → next ≡ column + 1 → IsRest line next others
 cell_passed line rest cell others column next left cells parts more = record {
   front = left.front ++ (cell ++ tab ∷ []);
-  parts = left.parts ∙ ap (λ text. left.front ++ text) (parts ∙ sym (append_assoc cell (tab ∷ []) others))
-      ∙ sym (append_assoc left.front (cell ++ tab ∷ []) others);
+  parts = grind (arith, common_steps);
   left = (next_cell_at line rest cell others column left cells).after ∙ ap (λ place. drop place (cells_in line)) (sym more);
 }
 

@@ -1,9 +1,7 @@
 -- The rows that match, found by runs through an index.
-use Rattle.std.proofs.Common.{◌≡◌, ℕ, ◌+◌, ◌≤◌, ◌<◌, ◌||◌, Bool, true, false}
+use Rattle.std.proofs.Common.{◌≡◌, ℕ, ◌+◌, ◌≤◌, ◌<◌, ◌||◌, Bool, true, false, cond, zero, suc, List, [], ◌∷◌, Option, Some, None, filter, get_or, length, codes}
 use Rattle.std.proofs.lemmas.Grind.{common_steps}
-use Rattle.std.proofs.Common.{cond, zero, suc, List, [], ◌∷◌, Option, Some, None, filter, get_or, length}
-use Rattle.std.proofs.Common.{codes, refl, sym, ap, ◌∙◌, subst, arith, nat_le, nat_lt, true≢false}
-use Rattle.std.proofs.lemmas.Bool.Decides.{nat_tests}
+use Rattle.std.proofs.Common.{refl, sym, subst, arith, nat_le, true≢false}
 use Rattle.std.specs.List.{list_any, range_with_len}
 use Rattle.text_model.specs.Texts.{Text}
 use Rattle.kbart_rows.specs.Cells.{Holdings, Row, column_of}
@@ -88,18 +86,10 @@ ready_passed table ids from to row old new entries first second third later past
       entries = old.entries;
       first = passed entries_now row old.first;
       second = passed entries_now row old.second;
-      third =
-          passed entries_now row old.third;
+      third = passed entries_now row old.third;
     } in
     let same : moved ≡ new = sym (λ i. record { entries = entries i; first = first i; second = second i; third = third i }) in
-    subst (AreReady table ids to) same (record {
-      order = ready.order;
-      entries_small = ready.entries_small;
-      has = ready.has;
-      few = ready.few;
-      small = ready.small;
-      ahead = λ k inside. each k inside;
-    })
+    subst (AreReady table ids to) same (grind (arith, each))
   where
     each : (k : ℕ) → k < length ids → IsAhead old.entries.now to (half_of (hash_of table.keys (get_or ids k [])))
         (run_of (record {
@@ -127,28 +117,15 @@ first_in test from row is low least first (suc n) after before = by_test (first_
   where
     later : (first + 1 ≤ row → row < first + 1 + n → first_from from (filter test (range_with_len (first + 1) n)) ≡ Some row) → (first ≡ row → ⊥)
         → first_from from (filter test (range_with_len (first + 1) n)) ≡ Some row
-    later next other = next (beyond (nat_lt first row) refl) (omega (arith, before))
-      where
-        beyond : (b : Bool) → nat_lt first row ≡ b → first + 1 ≤ row
-        beyond true less = grind (arith, nat_tests)
-        beyond false more =
-            let le : row ≤ first = grind (arith, nat_tests) in
-            absurd (other (omega (arith, le, after)))
+    later next other = grind (arith, common_steps)
 
     by_from : (first + 1 ≤ row → row < first + 1 + n → first_from from (filter test (range_with_len (first + 1) n)) ≡ Some row) → test first ≡ true
         → (b : Bool) → nat_le from first ≡ b → cond b (Some first) (first_from from (filter test (range_with_len (first + 1) n))) ≡ Some row
-    by_from next passes true le =
-        let not_before : from ≤ first = grind (arith, nat_tests) in
-        let above = least first passes not_before in
-        ap Some (omega (arith, above, after))
-    by_from next passes false more =
-        let high : first < from = grind (arith, nat_tests) in
-        later next (λ same. absurd (omega (arith, same, high, low)))
+    by_from next passes b le = grind (arith, common_steps)
 
     by_test : (first + 1 ≤ row → row < first + 1 + n → first_from from (filter test (range_with_len (first + 1) n)) ≡ Some row) → (b : Bool) → test first ≡ b
         → first_from from (cond b (first ∷ filter test (range_with_len (first + 1) n)) (filter test (range_with_len (first + 1) n))) ≡ Some row
-    by_test next true passes = by_from next passes (nat_le from first) refl
-    by_test next false fails = later next (λ same. absurd (true≢false (sym is ∙ ap test (sym same) ∙ fails)))
+    by_test next b passes = grind (arith, common_steps)
 
 pub first_match : (table : Holdings) (ids : List Text) (from row : ℕ) → matches table ids row ≡ true → from ≤ row → row < length table.rows
     → ((other : ℕ) → matches table ids other ≡ true → from ≤ other → row ≤ other) → first_from from (matching_rows table ids) ≡ Some row
@@ -162,15 +139,11 @@ none_in test from none first (suc n) = by_test (none_in test from none (first + 
   where
     by_from : first_from from (filter test (range_with_len (first + 1) n)) ≡ None → test first ≡ true → (b : Bool) → nat_le from first ≡ b
         → cond b (Some first) (first_from from (filter test (range_with_len (first + 1) n))) ≡ None
-    by_from next passes true le =
-        let low : from ≤ first = grind (arith, nat_tests) in
-        absurd (none first passes low)
-    by_from next passes false more = next
+    by_from next passes b le = grind (arith, common_steps)
 
     by_test : first_from from (filter test (range_with_len (first + 1) n)) ≡ None → (b : Bool) → test first ≡ b
         → first_from from (cond b (first ∷ filter test (range_with_len (first + 1) n)) (filter test (range_with_len (first + 1) n))) ≡ None
-    by_test next true passes = by_from next passes (nat_le from first) refl
-    by_test next false fails = next
+    by_test next b passes = grind (arith, by_from)
 
 abbrev pub all_left : Runs → ℕ
 all_left runs = left_of runs.entries.now runs.first + left_of runs.entries.now runs.second + left_of runs.entries.now runs.third

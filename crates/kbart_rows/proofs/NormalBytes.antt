@@ -1,6 +1,5 @@
 -- An identifier is normalised byte by byte.
-use Rattle.std.proofs.Common.{◌≡◌, ℕ, ◌≤◌, ◌<◌, Bool, true, false, cond, List, []}
-use Rattle.std.proofs.Common.{◌∷◌, ◌++◌, All, filter, map, refl, sym, ap, ◌∙◌, arith, nat_lt, get_or}
+use Rattle.std.proofs.Common.{◌≡◌, ℕ, ◌≤◌, ◌<◌, Bool, true, false, cond, List, [], ◌∷◌, ◌++◌, All, filter, map, refl, sym, ap, ◌∙◌, arith, nat_lt, get_or}
 use Rattle.std.proofs.lemmas.Bool.Decides.{nat_tests}
 use Rattle.std.proofs.lemmas.List.{append-nil, get_or_default, map-append}
 use Rattle.std.proofs.lemmas.List.Elements.{All-head, All-tail, filter-append}
@@ -8,6 +7,7 @@ use Rattle.std.proofs.lemmas.Str.{encode_ascii, encodes-chars, inside_one}
 use Rattle.std.specs.Char.{to_ascii_uppercase}
 use Rattle.std.specs.Str.{IsUtf8, chars, encode_utf8_all}
 use Rattle.std.proofs.lemmas.Str.Ascii.{uppercase_ascii}
+use Rattle.std.proofs.lemmas.Grind.{common_steps}
 use lib.Utf8.{encode}
 use Rattle.text_model.specs.Texts.{Text}
 use Rattle.kbart_rows.specs.Identifiers as spec
@@ -17,10 +17,7 @@ high_counts : (b : ℕ) → 128 ≤ b → spec.counts b ≡ true
 high_counts b high = grind (arith, high, nat_tests)
 
 high_stays : (b : ℕ) → 128 ≤ b → to_ascii_uppercase b ≡ b
-high_stays b high =
-    let low : nat_lt b 97 ≡ false = grind (arith, high, nat_tests) in
-    let past : nat_lt b 123 ≡ false = grind (arith, high, nat_tests) in
-    rw low rw past refl
+high_stays b high = grind (arith, common_steps)
 
 all_high : (bs : Text) → All (λ b. 128 ≤ b) bs → normal bs ≡ bs
 all_high [] high = refl
@@ -50,15 +47,7 @@ one_character c = grind (arith, nat_tests, encode_ascii, uppercase_ascii, all_hi
 
 characters : (cs : List ℕ) → normal (encode_utf8_all cs) ≡ encode_utf8_all (map to_ascii_uppercase (filter spec.counts cs))
 characters [] = refl
-characters (c ∷ cs) =
-    let rest = encode_utf8_all (map to_ascii_uppercase (filter spec.counts cs)) in
-    normal_append (encode c) (encode_utf8_all cs) ∙ ap (λ later. normal (encode c) ++ later) (characters cs)
-    ∙ ap (λ first. first ++ rest) (one_character c) ∙ by_count (spec.counts c)
-  where
-    by_count : (b : Bool) → cond b (encode (to_ascii_uppercase c)) [] ++ encode_utf8_all (map to_ascii_uppercase (filter spec.counts cs))
-        ≡ encode_utf8_all (map to_ascii_uppercase (cond b (c ∷ filter spec.counts cs) (filter spec.counts cs)))
-    by_count true = refl
-    by_count false = refl
+characters (c ∷ cs) = grind (arith, normal_append, one_character, cond, characters cs)
 
 pub normal_bytes : (text : Text) → IsUtf8 text → normal text ≡ spec.normalised text
 normal_bytes text utf8 = ap normal (sym (encodes-chars text utf8)) ∙ characters (chars text)

@@ -1,5 +1,5 @@
 -- Reading a table line by line.
-use Rattle.std.proofs.Common.{Bor, ◌≡◌, ℕ, List, [], ◌∷◌, ◌++◌, Some, true, false, refl, ◌∙◌, inl, arith, ◌+◌, ◌≤◌, ◌<◌, length, get_or, drop}
+use Rattle.std.proofs.Common.{Bor, ◌≡◌, ℕ, List, [], ◌∷◌, ◌++◌, Some, true, false, refl, arith, ◌+◌, ◌≤◌, ◌<◌, length, get_or, drop}
 use Rattle.std.proofs.lemmas.Grind.{common_steps}
 use Rattle.csv.specs.Reading.{Reached, Ready, ReadRecord, source_of, strip_bom}
 use Rattle.csv.specs.declared.parser.State.TheVariants as state
@@ -32,14 +32,7 @@ pub reading_continues : (bytes : Text) (lines : List Row) (old new : Reader (Bor
 reading_continues bytes lines old new cells reading read first =
     let more = rows-more rest_of old new cells tab_separated state.StartRecord (strip_bom bytes) reading.rest lines reading.config reading.source
     reading.reached read in
-    record {
-      trim = read.3 ∙ reading.trim;
-      ready = inl first;
-      config = read.2 ∙ reading.config;
-      rest = more.0;
-      source = more.1;
-      reached = more.2;
-    }
+    grind (arith, common_steps)
 
 pub reading_ends : (bytes : Text) (lines : List Row) (old new : Reader (Bor (List ℕ))) (cells : Row) → IsReading bytes lines old
     → ReadRecord rest_of old new false cells

@@ -4,7 +4,6 @@ use Rattle.std.proofs.lemmas.Grind.{common_steps}
 use Rattle.std.proofs.Common.{get_or, IsUtf8, refl, sym, ap, subst, ◌∙◌, inl, inr, arith}
 use Rattle.std.proofs.lemmas.Bool.{and_parts}
 use Rattle.std.proofs.lemmas.List.Elements.{All-append, All-cons, All-nil, All-tail}
-use Rattle.std.proofs.lemmas.Option.{same_Some}
 use lib.Utf8.{encode, encodes, scalar, scalar_cases, scalars}
 use Rattle.csv.specs.Machine.{Read, next_record}
 use Rattle.csv.specs.Reading.{Reached, Ready, ReadRecord, is_bom, source_of, strip_bom}
@@ -86,16 +85,10 @@ whole_starts bytes reader utf8 fresh = record {
 cell_by_cell : (cells whole : Option Read) (read : Read) → AreAlike cells whole → whole ≡ Some read
     → (other : Read) × (cells ≡ Some other) × (other.0 ≡ cells_of (get_or read.0 0 [])) × (other.1 ≡ read.1) × (other.2 ≡ read.2) × IsBetween read.1
     × IsUnseparated read.2
-cell_by_cell None None read alike is = cc is
-cell_by_cell None (Some whole) read alike is = absurd alike
-cell_by_cell (Some cells) None read alike is = absurd alike
-cell_by_cell (Some cells) (Some whole) read alike is = rw (← same_Some whole read is) (cells, refl, alike.0, alike.1, alike.2, alike.3, alike.4)
+cell_by_cell cells whole read alike is = grind (arith, common_steps)
 
 nothing_more : (cells whole : Option Read) → AreAlike cells whole → whole ≡ None → cells ≡ None
-nothing_more None None alike is = refl
-nothing_more None (Some whole) alike is = absurd alike
-nothing_more (Some cells) None alike is = absurd alike
-nothing_more (Some cells) (Some whole) alike is = cc is
+nothing_more cells whole alike is = grind (arith, common_steps)
 
 same_reached : (xs : Text) (lines others : List Row) (s t : State) (ys zs : Text) → lines ≡ others → s ≡ t → ys ≡ zs
     → Reached tab_separated state.StartRecord xs lines s ys → Reached tab_separated state.StartRecord xs others t zs

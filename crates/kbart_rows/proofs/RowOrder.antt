@@ -1,13 +1,13 @@
 -- Matching rows one after another.
-use Rattle.std.proofs.Common.{◌≡◌, ℕ, ◌+◌, ◌≤◌, ◌<◌, Bool, true, false, cond, zero, suc, List}
-use Rattle.std.proofs.Common.{[], ◌∷◌, All, Some, None, filter, refl, sym, ap, ◌∙◌, arith, nat_le}
-use Rattle.std.proofs.Common.{get_or, length}
+use Rattle.std.proofs.Common.{◌≡◌, ℕ, ◌+◌, ◌≤◌, ◌<◌, Bool, true, false, cond, zero, suc, List, [], ◌∷◌, All, Some, None, filter, refl, sym, ap, ◌∙◌, arith}
+use Rattle.std.proofs.Common.{nat_le, get_or, length}
 use Rattle.std.proofs.lemmas.Bool.Decides.{nat_tests}
 use Rattle.std.proofs.lemmas.List.FromFn.{length-range_with_len, get_or-range_with_len}
 use Rattle.std.proofs.lemmas.List.Kept.{AllPairs-filter}
 use Rattle.std.proofs.lemmas.List.Elements.{All-cons, All-head, All-nil, All-tail, All-weaker}
 use Rattle.std.proofs.lemmas.Option.{none-some, same_Some}
 use Rattle.std.specs.List.{AllPairs, range_with_len}
+use Rattle.std.proofs.lemmas.Grind.{common_steps}
 use Rattle.text_model.specs.Texts.{Text}
 use Rattle.kbart_rows.specs.Cells.{Holdings}
 use Rattle.kbart_rows.specs.Identifiers.{first_from, identifier_columns, is_match, matching_rows}
@@ -37,9 +37,7 @@ below_end test first (suc n) =
     ]
 
 pub matching_rows_within : (table : Holdings) (ids : List Text) → All (λ row. row < length table.rows) (matching_rows table ids)
-matching_rows_within table ids =
-    All-weaker (λ row. row < 0 + length table.rows) (λ row. row < length table.rows) (λ row small. omega (arith, small)) (matching_rows table ids)
-    (below_end (λ row. is_match (identifier_columns table.header) ids (get_or table.rows row [])) 0 (length table.rows))
+matching_rows_within table ids = grind (arith, below_end)
 
 rest_rises : (row : ℕ) (rows : List ℕ) → Rise (row ∷ rows) → Rise rows
 rest_rises row rows rise i j d before within = rise (suc i) (suc j) d (omega (arith, before)) (omega (arith, within))
@@ -63,8 +61,7 @@ none_from from (row ∷ rows) none = by_test (nat_le from row) (none_from from r
   where
     by_test : (b : Bool) → (first_from from rows ≡ None → filter (nat_le from) rows ≡ []) → cond b (Some row) (first_from from rows) ≡ None
         → cond b (row ∷ filter (nat_le from) rows) (filter (nat_le from) rows) ≡ []
-    by_test true rest found = absurd (none-some row (sym found))
-    by_test false rest later = rest later
+    by_test b rest found = grind (arith, common_steps)
 
 pub first_is_from : (from row : ℕ) (rows : List ℕ) → first_from from rows ≡ Some row → from ≤ row
 first_is_from from row [] found = absurd (none-some row found)
@@ -72,11 +69,7 @@ first_is_from from row (next ∷ rows) found = by_test (nat_le from next) refl (
   where
     by_test : (b : Bool) → nat_le from next ≡ b → (first_from from rows ≡ Some row → from ≤ row) → cond b (Some next) (first_from from rows) ≡ Some row
         → from ≤ row
-    by_test true passes rest here =
-        let same : next ≡ row = same_Some next row here in
-        let low : from ≤ next = grind (arith, nat_tests) in
-        omega (arith, same, low)
-    by_test false fails rest later = rest later
+    by_test b passes rest here = grind (arith, common_steps)
 
 -- the first one, and those after it
 pub first_and_rest : (from row : ℕ) (rows : List ℕ) → Rise rows → first_from from rows ≡ Some row
@@ -96,7 +89,4 @@ first_and_rest from row (next ∷ rows) rise found = by_test (nat_le from next) 
         let kept = all_from from rows (above from (omega (arith, low))) in
         let kept_on = all_from (row + 1) rows (above (row + 1) (omega (arith, same))) in
         rw past (ap (λ others. next ∷ others) kept ∙ ap (λ first. first ∷ rows) same ∙ ap (λ others. row ∷ others) (sym kept_on))
-    by_test false fails rest later =
-        let low = first_is_from from row rows later in
-        let past : nat_le (row + 1) next ≡ false = grind (arith, nat_tests) in
-        rw past (rest later)
+    by_test false fails rest later = grind (arith, first_is_from, nat_tests)

@@ -1,8 +1,6 @@
 -- Runs through the entries of an index.
-use Rattle.std.proofs.Common.{◌≡◌, ℕ, ◌-◌, ◌≤◌, ◌<◌, ◌==◌, true}
+use Rattle.std.proofs.Common.{◌≡◌, ℕ, ◌-◌, ◌≤◌, ◌<◌, ◌==◌, true, zero, suc, List, Option, Some, None, get_or, length, ap, arith}
 use Rattle.std.proofs.lemmas.Grind.{common_steps}
-use Rattle.std.proofs.Common.{zero, suc, List, Option, Some, None, get_or, length}
-use Rattle.std.proofs.Common.{refl, ap, arith, min}
 use Rattle.std.proofs.lemmas.Bool.{eqb-true}
 use Rattle.std.proofs.lemmas.Bool.Decides.{nat_tests}
 use Rattle.std.proofs.lemmas.Option.{get_or_from_slice_get, none-some, same_Some, slice_get-get_or, slice_get_within}
@@ -21,9 +19,7 @@ abbrev pub HasLow : Option ℕ → ℕ → Type 0
 HasLow found bound = (row : ℕ) × (found ≡ Some row) × (row ≤ bound)
 
 row_of_hash : (hash : ℕ) (entry : Entry) → entry.hash ≡ hash → row_at hash entry ≡ Some entry.row
-row_of_hash hash entry is =
-    let same : (entry.hash == hash) ≡ true = grind (arith, nat_tests) in
-    rw same refl
+row_of_hash hash entry is = grind (arith, common_steps)
 
 pub head_low : (entries : List Entry) (from wanted row : ℕ) (run : Run) → IsOrdered entries → IsAhead entries from wanted run → row < 4294967296
     → Contains entries (record { hash = wanted; row = row }) → from ≤ row → HasLow (head_of entries run) row
@@ -79,28 +75,14 @@ one_of P (Some x) (Some y) row is first second = grind (arith, common_steps)
 low_left : (a b : Option ℕ) (bound : ℕ) → HasLow a bound → HasLow (lesser_of a b) bound
 low_left None b bound low = absurd (none-some low.0 low.1)
 low_left (Some x) None bound low = low
-low_left (Some x) (Some y) bound low =
-    let is : x ≡ low.0 = same_Some x low.0 low.1 in
-    let small = low.2 in
-    (min x y, refl, omega (arith, is, small))
+low_left (Some x) (Some y) bound low = grind (arith, common_steps)
 
 low_right : (a b : Option ℕ) (bound : ℕ) → HasLow b bound → HasLow (lesser_of a b) bound
 low_right None b bound low = low
 low_right (Some x) None bound low = absurd (none-some low.0 low.1)
-low_right (Some x) (Some y) bound low =
-    let is : y ≡ low.0 = same_Some y low.0 low.1 in
-    let small = low.2 in
-    (min x y, refl, omega (arith, is, small))
+low_right (Some x) (Some y) bound low = grind (arith, common_steps)
 
 pub least_low : (runs : Runs) (k bound : ℕ) → HasLow (head_of runs.entries.now (run_of runs k)) bound → HasLow (least runs) bound
-least_low runs zero bound low =
-    let entries = runs.entries.now in
-    low_left (lesser_of (head_of entries runs.first) (head_of entries runs.second)) (head_of entries runs.third) bound
-    (low_left (head_of entries runs.first) (head_of entries runs.second) bound low)
-least_low runs (suc zero) bound low =
-    let entries = runs.entries.now in
-    low_left (lesser_of (head_of entries runs.first) (head_of entries runs.second)) (head_of entries runs.third) bound
-    (low_right (head_of entries runs.first) (head_of entries runs.second) bound low)
-least_low runs (suc (suc k)) bound low =
-    let entries = runs.entries.now in
-    low_right (lesser_of (head_of entries runs.first) (head_of entries runs.second)) (head_of entries runs.third) bound low
+least_low runs zero bound low = grind (arith, low_left)
+least_low runs (suc zero) bound low = grind (arith, low_left, low_right)
+least_low runs (suc (suc k)) bound low = grind (arith, low_right)

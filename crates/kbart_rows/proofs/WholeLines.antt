@@ -124,14 +124,7 @@ data Start (s : State) (c : ℕ) : Type 0 where
   begins : step tab_separated s c ≡ step tab_separated state.InField c → step whole_lines s c ≡ step whole_lines state.InField c → Start s c
 
 start : (s : State) (c : ℕ) → IsBetween s → Start s c
-start state.StartRecord c between = grind (arith, common_steps)
-start state.AfterCr c between = grind (arith, common_steps)
-start state.StartField c between = absurd between
-start state.InField c between = absurd between
-start state.InQuoted c between = absurd between
-start state.InEscape c between = absurd between
-start state.AfterQuote c between = absurd between
-start state.InComment c between = absurd between
+start s c between = grind (arith, common_steps)
 
 same_start : (cfg : Config) (s : State) (c : ℕ) (xs : Text) → step cfg s c ≡ step cfg state.InField c
     → next_record cfg s [] [] (c ∷ xs) ≡ next_record cfg state.InField [] [] (c ∷ xs)
@@ -159,9 +152,7 @@ skipped s c xs cut whole more = rw (cut, whole) more
 begun : (s : State) (c : ℕ) (xs : Text) → Start s c → IsUnseparated (c ∷ xs)
     → AreAlike (next_record tab_separated state.StartRecord [] [] xs) (next_record whole_lines state.StartRecord [] [] xs)
     → AreAlike (next_record tab_separated s [] [] (c ∷ xs)) (next_record whole_lines s [] [] (c ∷ xs))
-begun s c xs (skips cut whole) free more = skipped s c xs cut whole more
-begun s c xs (begins cut whole) free more = rw (same_start tab_separated s c xs cut, same_start whole_lines s c xs whole)
-    (in_field_alike (c ∷ xs) [] [] [] refl (All-nil HasNoTab) (All-nil (λ b. b ≢ tab)) free)
+begun s c xs h free more = grind (arith, skipped, same_start, in_field_alike)
 
 pub lines_alike : (xs : Text) (s : State) → IsBetween s → IsUnseparated xs
     → AreAlike (next_record tab_separated s [] [] xs) (next_record whole_lines s [] [] xs)

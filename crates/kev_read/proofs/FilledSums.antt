@@ -27,12 +27,8 @@ added_there list env pair key = by_key (bytes_eq pair.key key) refl list
   where
     by_key : (b : Bool) → bytes_eq pair.key key ≡ b → (list : Bool)
         → is_there (cond list (with_member env pair.key pair.value) (with_text env pair.key pair.value)) key ≡ (is_there env key || b)
-    by_key true same true =
-        ap (is_there (with_member env pair.key pair.value)) (sym ((bytes_eq-Decides pair.key key).0 same))
-        ∙ ap is_some (with_member-own env pair.key pair.value) ∙ sym (or-true (is_there env key))
-    by_key true same false =
-        ap (is_there (with_text env pair.key pair.value)) (sym ((bytes_eq-Decides pair.key key).0 same))
-        ∙ text_there env pair.key pair.value ∙ sym (or-true (is_there env key))
+    by_key true same true = grind (arith, bytes_eq-Decides, is_some, with_member-own, or-true)
+    by_key true same false = grind (arith, bytes_eq-Decides, text_there, or-true)
     by_key false differs true = ap is_some (with_member-differs env pair.key pair.value key differs) ∙ sym (or-false (is_there env key))
     by_key false differs false = ap is_some (with_text-differs env pair.key pair.value key differs) ∙ sym (or-false (is_there env key))
 
@@ -51,8 +47,7 @@ list_text : (lists : List Text) (env : Environment) (pair : KeyValue) (key : Tex
 list_text lists env pair key list = by_list (is_list lists pair.key) refl
   where
     differs : (b : Bool) → bytes_eq pair.key key ≡ b → is_list lists pair.key ≡ false → b ≡ false
-    differs true same text = let both : is_list lists pair.key ≡ true = ap (is_list lists) ((bytes_eq-Decides pair.key key).0 same) ∙ list in cc
-    differs false is_not text = refl
+    differs b same text = grind (arith, bytes_eq-Decides)
 
     by_list : (b : Bool) → is_list lists pair.key ≡ b → text_of (cond b (with_member env pair.key pair.value) (with_text env pair.key pair.value)) key
         ≡ text_of env key
@@ -73,14 +68,11 @@ bytes_added : (list repeated : Bool) (env : Environment) (pair : KeyValue) → i
     → (list ≡ true → is_some (text_of env pair.key) ≡ false)
     → byte_count (cond list (with_member env pair.key pair.value) (with_text env pair.key pair.value)) ≡ byte_count env + adds_bytes list repeated
     (length pair.value)
-bytes_added true repeated env pair there no_text = byte_count-with_member env pair.key pair.value (no_text refl)
-bytes_added false true env pair there no_text = ap byte_count (with_text-known env pair.key pair.value there) ∙ omega arith
-bytes_added false false env pair there no_text = byte_count-with_text env pair.key pair.value there
+bytes_added list repeated env pair there no_text = grind (arith, byte_count-with_member, with_text-known, byte_count-with_text)
 
 members_added : (list : Bool) (env : Environment) (pair : KeyValue) → (list ≡ true → is_some (text_of env pair.key) ≡ false)
     → member_count (cond list (with_member env pair.key pair.value) (with_text env pair.key pair.value)) ≡ member_count env + (if list then 1 else 0)
-members_added true env pair no_text = member_count-with_member env pair.key pair.value (no_text refl)
-members_added false env pair no_text = member_count-with_text env pair.key pair.value ∙ omega arith
+members_added list env pair no_text = grind (arith, member_count-with_member, member_count-with_text)
 
 no_text_yet : (pairs : List KeyValue) (key : Text) → is_list [] key ≡ true → is_some (text_of (filled [] [] pairs) key) ≡ false
 no_text_yet pairs key list = ap is_some (lists_text [] [] pairs key list ∙ ap text_in (look_up-empty key))

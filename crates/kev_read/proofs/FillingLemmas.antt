@@ -1,11 +1,12 @@
 -- What filling an environment adds to it, and where it stops.
 use Rattle.std.proofs.Common.{◌≡◌, ◌↔◌, ◌⊎◌, ℕ, ◌+◌, ◌≤◌, ◌<◌, Bool, true, false, MatchBool, List, [], ◌∷◌, ◌++◌, length, take, drop, slice_get, Some}
-use Rattle.std.proofs.Common.{Result, Ok, Err, OnOk, IfErr, IsErrAnd, subst, refl, sym, ap, ◌∙◌, arith, length-append, append-nil, inl}
+use Rattle.std.proofs.Common.{Result, Ok, Err, OnOk, IfErr, IsErrAnd, subst, refl, sym, ap, ◌∙◌, arith, length-append, append-nil}
 use Rattle.std.proofs.Math.Logic.{⊎_elim}
 use Rattle.std.proofs.lemmas.List.{take-append-drop, drop_more}
 use Rattle.std.proofs.lemmas.Option.{slice_get-map, slice_get_within, get_or_from_slice_get}
 use Rattle.std.proofs.lemmas.List.Sums.{sum_by-cons, sum_by-append, fold_more}
 use Rattle.std.specs.Option.{option_map, option_map_or}
+use Rattle.std.proofs.lemmas.Grind.{common_steps}
 use Rattle.text_model.specs.Texts.{Text}
 use Rattle.environment_model.specs.Environment.{Environment, byte_count, member_count}
 use Rattle.environment_model.specs.Lists.{is_list}
@@ -104,8 +105,7 @@ reached_members lists old pairs new h =
 
 passes_limit : (list : Bool) (env : Environment) (pair : KeyValue) → MatchBool list (MemberIsTooLarge env pair) (TextIsTooLarge env pair)
     → (MAX_BYTES < byte_count env + length pair.value) ⊎ (MAX_MEMBERS < member_count env + 1)
-passes_limit true env pair h = h.1
-passes_limit false env pair h = inl h.1
+passes_limit list env pair h = grind (arith, common_steps)
 
 -- no pair exceeds a limit if all of them fit
 pub only_memory : {T : Type 0} (lists : List Text) (old : Environment) (pairs : List KeyValue) (new : Environment) (r : Result T VarsError)

@@ -1,8 +1,7 @@
 -- The first pair of a query, from where its key and its value end.
-use Rattle.std.proofs.Common.{◌≡◌, ◌≢◌, ◌⊎◌, inl, inr, ℕ, suc, ◌+◌, ◌-◌, ◌<◌, ◌≤◌, List, []}
+use Rattle.std.proofs.Common.{◌≡◌, ◌≢◌, ◌⊎◌, ℕ, ◌+◌, ◌-◌, ◌<◌, ◌≤◌, List, [], ◌∷◌, ◌++◌, map, length, take, drop, get_or, slice_range, refl, sym, ap, ◌∙◌}
 use Rattle.std.proofs.lemmas.Grind.{common_steps}
-use Rattle.std.proofs.Common.{◌∷◌, ◌++◌, map, length, take, drop, get_or, slice_range, refl, sym, ap, ◌∙◌, subst, arith}
-use Rattle.std.proofs.Common.{length-append, length-drop, take-append-drop}
+use Rattle.std.proofs.Common.{subst, arith, length-append, length-drop}
 use Rattle.std.proofs.Math.Logic.{⊎_elim}
 use Rattle.std.proofs.Math.Seq.{drop-cons}
 use Rattle.std.specs.Prelude.{All}
@@ -24,9 +23,7 @@ abbrev IsParted : List ℕ → List ℕ → List ℕ → Type 0
 IsParted bytes piece after = ((bytes ≡ piece) × (after ≡ [])) ⊎ (bytes ≡ piece ++ 38 ∷ after)
 
 cut_at : (bytes : List ℕ) (n b : ℕ) → n < length bytes → get_or bytes n 0 ≡ b → bytes ≡ take n bytes ++ b ∷ drop (n + 1) bytes
-cut_at bytes n b inside is =
-    let next : suc n ≡ n + 1 = omega arith in
-    sym (take-append-drop n bytes) ∙ ap (λ rest. take n bytes ++ rest) (drop-cons bytes n 0 inside ∙ (λ i. is i ∷ drop (next i) bytes))
+cut_at bytes n b inside is = grind (arith, common_steps)
 
 parted_at : (bytes : List ℕ) (n : ℕ) → n ≤ length bytes → (n < length bytes → get_or bytes n 0 ≡ 38) → IsParted bytes (take n bytes) (drop (n + 1) bytes)
 parted_at bytes n within ends = grind (arith, common_steps)
@@ -64,8 +61,7 @@ key_first bytes n some other within lacks ends =
     let long : length key ≡ n = length-take-le n bytes within in
     let not_none : n ≢ 0 = λ none. other (ap (λ k. get_or bytes k 0) (sym none) ∙ ends (omega (arith, none, some))) in
     let positive : 0 < n = omega (arith, not_none) in
-    let alone : form.split_pair key ≡ (key, []) =
-    λ i. (split_once_before_none 61 key (lacks_equals key lacks) i, split_once_after_none 61 key (lacks_equals key lacks) i) in
+    let alone : form.split_pair key ≡ (key, []) = grind (arith, split_once_before_none, lacks_equals, split_once_after_none) in
     let raw = first_raw bytes key after (omega (arith, long, positive)) (lacks_ampersand key lacks) (parted_at bytes n within ends) in
     let empty : decoded [] ≡ [] = ap utf8_lossy (decoded_nothing [] refl) ∙ utf8_lossy_empty [] refl in
     ap (map decoded_pair) (raw ∙ ap (λ pair. pair ∷ form.raw_pairs after) alone)
@@ -81,15 +77,11 @@ value_first bytes n m inside lacks equals within lacks_value ends =
     let value = take m rest in
     let after = drop (m + 1) rest in
     let whole = cut_at bytes n 61 inside equals in
-    let parted : IsParted bytes (key ++ 61 ∷ value) after =
-    ⊎_elim (λ alone. inl (whole ∙ ap (λ r. key ++ 61 ∷ r) alone.0, alone.1))
-    (λ more. inr (whole ∙ (ap (λ r. key ++ 61 ∷ r) more ∙ sym (append_assoc key (61 ∷ value) (38 ∷ after)))))
-    (parted_at rest m within ends) in
+    let parted : IsParted bytes (key ++ 61 ∷ value) after = grind (arith, append_assoc, parted_at) in
     let differs : 61 ≢ 38 = λ e. absurd (omega (arith, e)) in
     let lacks_all = All-append (λ b. b ≢ 38) key (61 ∷ value) (lacks_ampersand key lacks) (All-cons (λ b. b ≢ 38) 61 value differs lacks_value) in
     let raw = first_raw bytes (key ++ 61 ∷ value) after (omega (arith, length-append key (61 ∷ value))) lacks_all parted in
-    let both : form.split_pair (key ++ 61 ∷ value) ≡ (key, value) =
-    λ i. (split_once_before_at 61 key value (lacks_equals key lacks) i, split_once_after_at 61 key value (lacks_equals key lacks) i) in
+    let both : form.split_pair (key ++ 61 ∷ value) ≡ (key, value) = grind (arith, split_once_before_at, lacks_equals, split_once_after_at) in
     ap (map decoded_pair) (raw ∙ ap (λ pair. pair ∷ form.raw_pairs after) both)
 
 -- ---- the same in a query, from a place on

@@ -1,11 +1,10 @@
 -- The values of pairs as members of lists that have the names of the keys.
-use Rattle.std.proofs.Common.{◌≡◌, Bool, true, false, List, [], ◌∷◌, ◌++◌, Option, Some, None, is_some, bytes_eq, refl}
+use Rattle.std.proofs.Common.{◌≡◌, Bool, false, List, [], ◌∷◌, ◌++◌, Option, Some, None, is_some, bytes_eq, refl, sym, ap, ◌∙◌, append_assoc, append-nil, arith}
 use Rattle.std.proofs.lemmas.Grind.{common_steps}
-use Rattle.std.proofs.Common.{sym, ap, ◌∙◌, append_assoc, append-nil, arith}
 use Rattle.std.specs.Prelude.{fold}
 use Rattle.std.proofs.lemmas.Slice.Eq.{bytes_eq-Decides}
 use Rattle.text_model.specs.Texts.{Text}
-use Rattle.environment_model.specs.Environment.{Environment, Meaning, Several, look_up, text_in, text_of, members_in, members_of, with_member, more}
+use Rattle.environment_model.specs.Environment.{Environment, Meaning, Several, look_up, text_of, members_of, with_member, more}
 use Rattle.environment_model.proofs.Environments.{look_up-empty, look_up-same, look_up-other, with_member-empty, with_member-same, with_member-other}
 use Rattle.environment_model.proofs.NameTests.{itself}
 use Rattle.environment_model.proofs.OtherNames.{with_member-differs}
@@ -20,21 +19,12 @@ grown None t = Several (t ∷ [])
 grown (Some m) t = more m t
 
 pub with_member-own : (env : Environment) (key t : Text) → look_up (with_member env key t) key ≡ Some (grown (look_up env key) t)
-with_member-own [] key t =
-    ap (λ es. look_up es key) (with_member-empty key t)
-    ∙ look_up-same (record { name = key; meaning = Several (t ∷ []) }) [] key (itself key)
-    ∙ ap (λ found. Some (grown found t)) (sym (look_up-empty key))
+with_member-own [] key t = grind (arith, with_member-empty, look_up-same, itself, look_up-empty)
 with_member-own (e ∷ env) key t = by_name (bytes_eq e.name key) refl (with_member-own env key t)
   where
     by_name : (b : Bool) → bytes_eq e.name key ≡ b → look_up (with_member env key t) key ≡ Some (grown (look_up env key) t)
         → look_up (with_member (e ∷ env) key t) key ≡ Some (grown (look_up (e ∷ env) key) t)
-    by_name true same in_others =
-        ap (λ es. look_up es key) (with_member-same e env key t same)
-        ∙ look_up-same (record { name = e.name; meaning = more e.meaning t }) env key same
-        ∙ ap (λ found. Some (grown found t)) (sym (look_up-same e env key same))
-    by_name false other in_others =
-        ap (λ es. look_up es key) (with_member-other e env key t other) ∙ look_up-other e (with_member env key t) key other
-        ∙ in_others ∙ ap (λ found. Some (grown found t)) (sym (look_up-other e env key other))
+    by_name b same in_others = grind (arith, with_member-same, look_up-same, with_member-other, look_up-other)
 
 -- ---- all pairs
 
@@ -60,6 +50,4 @@ members_of-from env (pair ∷ pairs) key no_text =
 -- ---- from no entries
 
 pub members_of-gathered : (pairs : List KeyValue) (key : Text) → members_of (gathered pairs) key ≡ all_of pairs key
-members_of-gathered pairs key =
-    members_of-from [] pairs key (ap (λ found. is_some (text_in found)) (look_up-empty key))
-    ∙ ap (λ found. members_in found ++ all_of pairs key) (look_up-empty key)
+members_of-gathered pairs key = grind (arith, members_of-from, is_some, look_up-empty)

@@ -1,12 +1,10 @@
 -- The order of pairs by their keys, and which of them have a key.
-use Rattle.std.proofs.Common.{◌≡◌, ℕ, ◌+◌, ◌-◌, ◌≤◌, ◌<◌, ◌==◌, Bool, true, false, List, [], ◌++◌, append-nil, filter, length, take, drop, get_or}
-use Rattle.std.proofs.Common.{Option, Some, None, refl, sym, ap}
-use Rattle.std.proofs.Common.{◌∙◌, subst, arith, length-drop}
-use Rattle.std.proofs.Math.Logic.{⊎_elim}
+use Rattle.std.proofs.Common.{◌≡◌, ℕ, ◌+◌, ◌-◌, ◌≤◌, ◌<◌, ◌==◌, Bool, true, false, List, [], ◌++◌, append-nil, filter, length, take, drop, get_or, Option, Some}
+use Rattle.std.proofs.Common.{refl, sym, ap, ◌∙◌, arith, length-drop}
 use Rattle.std.proofs.lemmas.Bool.{cases_lt, eqb-true, eq-eqb}
 use Rattle.std.proofs.lemmas.Cmp.{nat_list_eq_equiv}
 use Rattle.std.proofs.lemmas.List.{get_or_default, get_or-drop, get_or-take, length-take-le, length-map, take-append-drop}
-use Rattle.std.proofs.lemmas.List.Elements.{All-from_get_or, filter-append}
+use Rattle.std.proofs.lemmas.List.Elements.{filter-append}
 use Rattle.std.proofs.lemmas.List.Folds.{Any-from_list_any, list_any_at}
 use Rattle.std.proofs.lemmas.List.FromFn.{length-range_with_len, get_or-range_with_len}
 use Rattle.std.proofs.lemmas.List.Sorted.{All-permutation, list_any-IsPermutation, searchable_from_sorted, sum_by-IsPermutation}
@@ -20,6 +18,7 @@ use Rattle.std.specs.Ordering.{is_lt, is_le, is_eq, ordering_index}
 use Rattle.std.specs.Str.{bytes_eq}
 use Rattle.std.specs.declared.cmp.Ordering.{Ordering}
 use Rattle.std.specs.declared.cmp.Ordering.TheVariants.{Less, Equal, Greater}
+use Rattle.std.proofs.lemmas.Grind.{common_steps}
 use Rattle.text_model.specs.Texts.{Text}
 use Rattle.text_model.proofs.Lists.{filter_all, filter_none}
 use Rattle.kev_read.specs.Pairs.{KeyValue}
@@ -34,8 +33,7 @@ pub key_order_from_sort : (pairs : List KeyValue) (from to : List ℕ) → from 
     → IsSortedBy (key_lt pairs) to → IsStableBy (key_lt pairs) from to → IsKeyOrder pairs to
 key_order_from_sort pairs from to all moved sorted stable =
     let count = ap length all ∙ length-range_with_len 0 (length pairs) in
-    let at : (i d : ℕ) → i < length pairs → get_or from i d ≡ i = λ i d within. ap (λ xs. get_or xs i d) all
-    ∙ get_or-range_with_len 0 (length pairs) i d within ∙ omega arith in
+    let at : (i d : ℕ) → i < length pairs → get_or from i d ≡ i = grind (arith, get_or-range_with_len) in
     record {
       sorted = sorted;
       every = λ index within.
@@ -95,9 +93,7 @@ none_past test xs i splits fails k d from below = by_value (test (get_or xs k d)
 
 -- if the first element of a list passes a test, all before the second do
 pub first_alone : (test : ℕ → Bool) (xs : List ℕ) → 0 < length xs → test (get_or xs 0 0) ≡ true → AllWithin (λ x. test x ≡ true) xs 0 1
-first_alone test xs within passes k d from below =
-    let first : k ≡ 0 = omega arith in
-    rw first (ap test (get_or_default xs 0 d 0 within) ∙ passes)
+first_alone test xs within passes k d from below = grind (arith, common_steps)
 
 -- ---- the indices of a key
 
@@ -105,23 +101,13 @@ abbrev SplitsAt : (Ordering → Bool) → List KeyValue → Text → List ℕ �
 SplitsAt test pairs key = IsPartitionPoint (λ index. test (compared_at pairs key index) ≡ true) (λ index. test (compared_at pairs key index) ≡ false)
 
 neither : (o : Ordering) → is_lt o ≡ false → is_le o ≡ true → is_eq o ≡ true
-neither Less lt le = absurd (cc)
-neither Equal lt le = refl
-neither Greater lt le = absurd (cc)
-
-equal_not_lt : (o : Ordering) → is_eq o ≡ true → is_lt o ≡ true → ⊥
-equal_not_lt Less eq lt = cc
-equal_not_lt Equal eq lt = cc
-equal_not_lt Greater eq lt = cc
+neither o lt le = grind (arith, common_steps)
 
 equal_le : (o : Ordering) → is_eq o ≡ true → is_le o ≡ false → ⊥
-equal_le Less eq le = cc
-equal_le Equal eq le = cc
-equal_le Greater eq le = cc
+equal_le o eq le = grind (arith, common_steps)
 
 passes_equal : (other : Option Text) (key : Text) → option_map_or (bytes_eq key) other false ≡ is_eq (compared other (Some key))
-passes_equal None key = refl
-passes_equal (Some other) key = nat_list_eq_equiv.symm key other ∙ sym (is_eq-compared_keys other key)
+passes_equal other key = grind (arith, nat_list_eq_equiv, is_eq-compared_keys)
 
 within_pairs : (pairs : List KeyValue) (key : Text) (index : ℕ) → is_eq (compared_at pairs key index) ≡ true → index < length pairs
 within_pairs pairs key index equal = grind (arith, slice_get_past, length-map, cases_lt)
@@ -130,14 +116,10 @@ pub has_key_equal : (pairs : List KeyValue) (key : Text) (index : ℕ) → has_k
 has_key_equal pairs key index = grind (arith, is_eq-compared_keys)
 
 lt_not_equal : (o : Ordering) → is_lt o ≡ true → is_eq o ≡ false
-lt_not_equal Less lt = refl
-lt_not_equal Equal lt = absurd (cc)
-lt_not_equal Greater lt = refl
+lt_not_equal o lt = grind (arith, common_steps)
 
 gt_not_equal : (o : Ordering) → is_le o ≡ false → is_eq o ≡ false
-gt_not_equal Less le = absurd (cc)
-gt_not_equal Equal le = absurd (cc)
-gt_not_equal Greater le = refl
+gt_not_equal o le = grind (arith, common_steps)
 
 -- the indices that a filter of the whole order keeps
 pub run_is : (pairs : List KeyValue) (order : List ℕ) (key : Text) (start count : ℕ) → start ≤ length order → count ≤ length (drop start order)
@@ -147,21 +129,10 @@ run_is pairs order key start count few fewer lt le =
     let p = has_key_at key pairs in
     let rest = drop start order in
     let left = length-drop start order in
-    let before : filter p (take start order) ≡ [] = filter_none p (take start order)
-    (All-from_get_or (λ i. p i ≡ false) (take start order) 0
-    (λ i below. let n = length-take-le start order few in
-    rw (get_or-take start order i 0 (omega arith)) (has_key_equal pairs key (get_or order i 0) ∙ lt_not_equal _ (lt.0 i 0 (omega arith) (omega arith))))) in
-    let within : filter p (take count rest) ≡ take count rest = filter_all p (take count rest)
-    (All-from_get_or (λ i. p i ≡ true) (take count rest) 0
-    (λ i below. let n = length-take-le count rest fewer in
-    rw (get_or-take count rest i 0 (omega arith), get_or-drop start order i 0)
-    (has_key_equal pairs key (get_or order (start + i) 0)
-    ∙ neither _ (lt.1 (start + i) 0 (omega arith) (omega arith))
-    (subst (λ j. is_le (compared_at pairs key j) ≡ true) (get_or-drop start order i 0) (le.0 i 0 (omega arith) (omega arith)))))) in
-    let after : filter p (drop count rest) ≡ [] = filter_none p (drop count rest)
-    (All-from_get_or (λ i. p i ≡ false) (drop count rest) 0
-    (λ i below. let n = length-drop count rest in
-    rw (get_or-drop count rest i 0) (has_key_equal pairs key (get_or rest (count + i) 0) ∙ gt_not_equal _ (le.1 (count + i) 0 (omega arith) (omega arith))))) in
+    let before : filter p (take start order) ≡ [] = grind (arith, filter_none, length-take-le, get_or-take, has_key_equal, lt_not_equal) in
+    let within : filter p (take count rest) ≡ take count rest =
+    grind (arith, filter_all, length-take-le, get_or-take, get_or-drop, has_key_equal, neither) in
+    let after : filter p (drop count rest) ≡ [] = grind (arith, filter_none, length-drop, get_or-drop, has_key_equal, gt_not_equal) in
     sym (ap (filter p) (sym (take-append-drop start order)) ∙ filter-append p (take start order) rest ∙ ap (λ xs. xs ++ filter p rest) before
     ∙ ap (filter p) (sym (take-append-drop count rest)) ∙ filter-append p (take count rest) (drop count rest)
     ∙ ap (λ xs. xs ++ filter p (drop count rest)) within ∙ ap (λ xs. take count rest ++ xs) after ∙ append-nil (take count rest))
@@ -191,10 +162,8 @@ found pairs order key start count ordered few fewer lt le index =
         let is : x ≡ index = eqb-true x index any.4 in
         let rest = length-drop start order in
         let here : get_or order (start + k) x ≡ index = sym (at_run k x below) ∙ any.3 ∙ is in
-        let not_lt : is_lt (compared_at pairs key index) ≡ false =
-        subst (λ i. is_lt (compared_at pairs key i) ≡ false) here (lt.1 (start + k) x (omega arith) (omega arith)) in
-        let is_le : is_le (compared_at pairs key index) ≡ true = subst (λ i. is_le (compared_at pairs key i) ≡ true) (get_or-drop start order k x ∙ here)
-        (le.0 k x (omega arith) below) in
+        let not_lt : is_lt (compared_at pairs key index) ≡ false = grind (arith, here) in
+        let is_le : is_le (compared_at pairs key index) ≡ true = grind (arith, get_or-drop, here, below) in
         neither _ not_lt is_le
 
     backwards : is_eq (compared_at pairs key index) ≡ true → has_index index run ≡ true
@@ -205,14 +174,10 @@ found pairs order key start count ordered few fewer lt le index =
         let within = any.2 in
         let rest = length-drop start order in
         let here : get_or order j x ≡ index = any.3 ∙ eqb-true x index any.4 in
-        let from : start ≤ j =
-        ⊎_elim (λ below. absurd (equal_not_lt _ equal (subst (λ i. is_lt (compared_at pairs key i) ≡ true) here (lt.0 j x (omega arith) below))))
-        (λ ge. ge) (cases_lt j start) in
+        let from : start ≤ j = grind (arith, common_steps) in
         let k = j - start in
         let place : start + k ≡ j = omega arith in
         let there : get_or (drop start order) k x ≡ index = get_or-drop start order k x ∙ ap (λ i. get_or order i x) place ∙ here in
-        let below : k < count =
-        ⊎_elim (λ lt. lt) (λ past. absurd (equal_le _ equal (subst (λ i. is_le (compared_at pairs key i) ≡ false) there (le.1 k x past (omega arith)))))
-        (cases_lt k count) in
+        let below : k < count = grind (arith, equal_le, there, cases_lt) in
         let l = run_length in
         list_any_at (λ other. other == index) run k x (omega arith) (eq-eqb (get_or run k x) index (get_or-take count (drop start order) k x below ∙ there))

@@ -1,15 +1,13 @@
 -- In the order of the keys, a pair whose key came before is directly after another pair with the same key.
-use Rattle.std.proofs.Common.{◌≡◌, ℕ, suc, ◌≤◌, ◌<◌, true, List, length, take, get_or, bytes_eq, refl, sym, ap, ◌∙◌}
-use Rattle.std.proofs.Common.{arith}
+use Rattle.std.proofs.Common.{◌≡◌, ℕ, suc, ◌≤◌, ◌<◌, true, List, length, take, get_or, bytes_eq, refl, sym, ap, ◌∙◌, arith}
 use Rattle.std.proofs.lemmas.List.{get_or-take, get_or-map, length-map, length-take-le}
-use Rattle.std.proofs.lemmas.List.Elements.{All-get_or}
 use Rattle.std.proofs.lemmas.Slice.Eq.{bytes_eq-Decides}
 use Rattle.std.proofs.lemmas.List.Folds.{Any-from_list_any, list_any_at}
 use Rattle.std.specs.Cmp.{both_ways}
 use Rattle.std.specs.List.{list_any}
 use Rattle.std.specs.Ordering.{is_eq, ordering_index}
 use Rattle.std.specs.declared.cmp.Ordering.{Ordering}
-use Rattle.std.specs.declared.cmp.Ordering.TheVariants.{Less, Equal, Greater}
+use Rattle.std.proofs.lemmas.Grind.{common_steps}
 use Rattle.text_model.specs.Texts.{Text}
 use Rattle.kev_read.specs.Pairs.{KeyValue, has_key}
 use Rattle.kev_read.specs.Private.KeyOrder.{IsKeyOrder, pair_at, pairs_at}
@@ -17,14 +15,10 @@ use Rattle.kev_read.proofs.KeyOrders.{compared_at, has_key_equal, rises}
 use Rattle.kev_read.proofs.PairsByKey.{no_pair, same_test}
 
 index_of_equal : (o : Ordering) → is_eq o ≡ true → ordering_index o ≡ 1
-index_of_equal Less eq = absurd (cc)
-index_of_equal Equal eq = refl
-index_of_equal Greater eq = absurd (cc)
+index_of_equal o eq = grind (arith, common_steps)
 
 equal_of_index : (o : Ordering) → ordering_index o ≡ 1 → is_eq o ≡ true
-equal_of_index Less is = absurd (omega (arith, is))
-equal_of_index Equal is = refl
-equal_of_index Greater is = absurd (omega (arith, is))
+equal_of_index o is = grind (arith, common_steps)
 
 module _ (pairs : List KeyValue) (order : List ℕ) (ordered : IsKeyOrder pairs order) where
   abbrev at : ℕ → KeyValue
@@ -32,9 +26,7 @@ module _ (pairs : List KeyValue) (order : List ℕ) (ordered : IsKeyOrder pairs 
 
   -- the test of a key at a place of the order
   key_test : (key : Text) (i : ℕ) → i < length order → has_key key (at i) ≡ is_eq (compared_at pairs key (get_or order i 0))
-  key_test key i within =
-      same_test pairs key (get_or order i 0) (All-get_or (λ index. index < length pairs) order i 0 within ordered.within)
-      ∙ has_key_equal pairs key (get_or order i 0)
+  key_test key i within = grind (arith, same_test, key, has_key_equal)
 
   at_place : (i : ℕ) → i < length order → get_or (pairs_at pairs order) i no_pair ≡ at i
   at_place i within = get_or-map (pair_at pairs) order i 0 no_pair within

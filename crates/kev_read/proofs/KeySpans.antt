@@ -1,11 +1,11 @@
 -- The values of a request in the order of their keys, and where they are in one text.
 use Rattle.std.proofs.Common.{◌≡◌, ℕ, ◌+◌, ◌*◌, ◌≤◌, List, [], ◌∷◌, ◌++◌, All, Some, length, map, take, drop, refl, sym, ap, ◌∙◌, arith, length-append}
-use Rattle.std.proofs.Common.{length-drop, slice_get, take_all}
-use Rattle.std.proofs.Math.Seq.{drop-append_seam}
-use Rattle.std.proofs.lemmas.List.{drop-append-le, drop-map, length-map, map-append, take-append-le, take-map, take_more}
+use Rattle.std.proofs.Common.{slice_get}
+use Rattle.std.proofs.lemmas.List.{drop-map, length-map, map-append, take-map, take_more}
 use Rattle.std.proofs.lemmas.List.Elements.{All-head, All-tail, All-push, All-weaker}
 use Rattle.std.proofs.lemmas.List.Sums.{sum_by_more, sum_by_more_le}
 use Rattle.std.proofs.lemmas.Option.{get_or_from_slice_get, slice_get_within}
+use Rattle.std.proofs.lemmas.Grind.{common_steps}
 use Rattle.text_model.specs.Texts.{Text}
 use Rattle.environment_model.specs.Environment.{members_of}
 use Rattle.target_vars.specs.EnvValue.{piece_at}
@@ -20,9 +20,7 @@ abbrev IsIn : Text → ℕ × ℕ → Type 0
 IsIn text at = at.0 + at.1 ≤ length text
 
 piece_stays : (text more : Text) (at : ℕ × ℕ) → IsIn text at → piece_at (text ++ more) at ≡ piece_at text at
-piece_stays text more at inside =
-    ap (take at.1) (drop-append-le at.0 text more (omega (arith, inside)))
-    ∙ take-append-le at.1 (drop at.0 text) more (omega (arith, length-drop at.0 text, inside))
+piece_stays text more at inside = grind (arith, common_steps)
 
 pieces_stay : (text more : Text) (spans : List (ℕ × ℕ)) → All (IsIn text) spans → map (piece_at (text ++ more)) spans ≡ map (piece_at text) spans
 pieces_stay text more [] inside = refl
@@ -35,15 +33,11 @@ pub value_added : (text value : Text) (spans : List (ℕ × ℕ)) (pairs : List 
     → AreSpans (text ++ value) (spans ++ (length text, length value) ∷ []) (pairs ++ pair ∷ [])
 value_added text value spans pairs pair is so_far =
     let whole = length-append text value in
-    let last : piece_at (text ++ value) (length text, length value) ≡ value =
-    ap (take (length value)) (drop-append_seam text value) ∙ take_all (length value) value (omega arith) in
+    let last : piece_at (text ++ value) (length text, length value) ≡ value = grind (arith, common_steps) in
     record {
       inside = All-push (IsIn (text ++ value)) spans (length text, length value)
           (All-weaker (IsIn text) (IsIn (text ++ value)) (λ at within. omega (arith, within, whole)) spans so_far.inside) (omega (arith, whole));
-      are = map-append (piece_at (text ++ value)) spans ((length text, length value) ∷ [])
-          ∙ ap (λ ts. ts ++ piece_at (text ++ value) (length text, length value) ∷ []) (pieces_stay text value spans so_far.inside ∙ so_far.are)
-          ∙ ap (λ t. map (λ (p : KeyValue). p.value) pairs ++ t ∷ []) (last ∙ sym is)
-          ∙ sym (map-append (λ (p : KeyValue). p.value) pairs (pair ∷ []));
+      are = grind (arith, map-append, pieces_stay, last);
     }
 
 -- there are as many spans as pairs
@@ -56,10 +50,7 @@ module _ (pairs : List KeyValue) (order : List ℕ) (text : Text) (spans : List 
   spans_of_order = span_count text spans (pairs_at pairs order) kept.values ∙ length-map order _
 
   pub few_spans : length spans ≤ MAX_PAIRS
-  few_spans =
-      let few = kept.few in
-      let count = same_count pairs order kept.ordered in
-      omega (arith, span_count text spans (pairs_at pairs order) kept.values, count, few)
+  few_spans = grind (arith, same_count, span_count)
 
   pub members_are : (key : Text) (first count : ℕ) → IsKeyRun pairs order key first count
       → members_of (gathered (pairs_at pairs order)) key ≡ map (piece_at text) (take count (drop first spans))

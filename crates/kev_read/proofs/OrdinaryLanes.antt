@@ -1,7 +1,6 @@
 -- What the lanes of a vector tell of the bytes that they were read from.
-use Rattle.std.proofs.Common.{◌≡◌, ℕ, ◌<◌, List, [], ◌∷◌, Bool, false, cond}
+use Rattle.std.proofs.Common.{◌≡◌, ℕ, ◌<◌, List, [], ◌∷◌, Bool, false, cond, length, map, replicate, refl, ap, arith, bit_or}
 use Rattle.std.proofs.lemmas.Grind.{common_steps}
-use Rattle.std.proofs.Common.{length, map, replicate, refl, ap, arith, bit_or}
 use Rattle.std.specs.Simd.Lanes.{zip2, sel_l}
 use Rattle.kev_read.specs.Private.Ordinary.{IsOrdinary, all_bits_at, is_special, special_lane}
 

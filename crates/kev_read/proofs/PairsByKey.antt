@@ -1,15 +1,13 @@
 -- The pairs of a request in the order of their keys.
-use Rattle.std.proofs.Common.{◌≡◌, ℕ, ◌+◌, ◌≤◌, ◌<◌, Bool, true, false, List, [], ◌∷◌, ◌++◌, All, filter, get_or, length, map, Some, slice_get, take, refl, sym}
-use Rattle.std.proofs.Common.{ap, ◌∙◌, append_assoc, arith}
-use Rattle.std.proofs.Common.{length-append}
-use Rattle.std.proofs.lemmas.List.{get_or-append-add, length-map, take_all}
+use Rattle.std.proofs.Common.{◌≡◌, ℕ, ◌≤◌, ◌<◌, Bool, List, [], ◌∷◌, ◌++◌, All, filter, get_or, length, map, Some, slice_get, take, refl, sym, ap, ◌∙◌, arith}
+use Rattle.std.proofs.lemmas.List.{length-map, take_all}
 use Rattle.std.proofs.lemmas.List.Elements.{All-head, All-tail}
 use Rattle.std.proofs.lemmas.List.FromFn.{length-range_with_len}
 use Rattle.std.proofs.lemmas.List.Sums.{sum_by-cons}
 use Rattle.std.proofs.lemmas.Option.{get_or_from_slice_get, slice_get-get_or, slice_get-map}
 use Rattle.std.specs.List.{range_with_len, sum_by}
-use Rattle.std.specs.Option.{option_map}
 use Rattle.std.specs.Str.{bytes_eq}
+use Rattle.std.proofs.lemmas.Grind.{common_steps}
 use Rattle.text_model.specs.Texts.{Text}
 use Rattle.text_model.proofs.Lists.{range_below, sum_by-map}
 use Rattle.kev_read.specs.Pairs.{KeyValue, all_of, has_key, value_bytes}
@@ -21,9 +19,7 @@ no_pair = record { key = []; value = [] }
 
 pub one_of_pairs : (pairs : List KeyValue) (indices : List ℕ) (n : ℕ) (pair : KeyValue) → n < length indices
     → slice_get pairs (get_or indices n 0) ≡ Some pair → slice_get (pairs_at pairs indices) n ≡ Some pair
-one_of_pairs pairs indices n pair within is =
-    slice_get-map (pair_at pairs) indices n ∙ ap (option_map (pair_at pairs)) (slice_get-get_or indices n 0 within)
-    ∙ ap Some (get_or_from_slice_get pairs (get_or indices n 0) pair no_pair is)
+one_of_pairs pairs indices n pair within is = grind (arith, slice_get-map, slice_get-get_or, get_or_from_slice_get)
 
 pub all_pairs : (pairs : List KeyValue) (indices : List ℕ) (n : ℕ) → length indices ≤ n → take n (pairs_at pairs indices) ≡ pairs_at pairs indices
 all_pairs pairs indices n past = take_all n (pairs_at pairs indices) (rw length-map past)
@@ -36,8 +32,7 @@ filter-map {X} {Y} f p (x ∷ xs) = by_test (p (f x)) refl (filter-map f p xs)
   where
     by_test : (b : Bool) → p (f x) ≡ b → filter p (map f xs) ≡ map f (filter (λ x. p (f x)) xs)
         → filter p (map f (x ∷ xs)) ≡ map f (filter (λ x. p (f x)) (x ∷ xs))
-    by_test true passes rest = rw passes (ap (λ ys. f x ∷ ys) rest)
-    by_test false fails rest = rw fails rest
+    by_test b passes rest = grind (arith, common_steps)
 
 -- two tests that agree at each item keep the same items
 filter-agree : {X : Type 0} (P : X → Type 0) (p q : X → Bool) → ((x : X) → P x → p x ≡ q x) → (xs : List X) → All P xs → filter p xs ≡ filter q xs
@@ -48,8 +43,7 @@ filter-agree {X} P p q agree (x ∷ xs) all =
     by_test (q x) refl here rest
   where
     by_test : (b : Bool) → q x ≡ b → p x ≡ q x → filter p xs ≡ filter q xs → filter p (x ∷ xs) ≡ filter q (x ∷ xs)
-    by_test true passes same rest = let passes_too : p x ≡ true = same ∙ passes in rw (passes, passes_too) (ap (λ ys. x ∷ ys) rest)
-    by_test false fails same rest = let fails_too : p x ≡ false = same ∙ fails in rw (fails, fails_too) rest
+    by_test b passes same rest = grind (arith, common_steps)
 
 sum_of_ones : (xs : List ℕ) → sum_by (λ x. 1) xs ≡ length xs
 sum_of_ones [] = refl
@@ -59,16 +53,7 @@ sum_of_ones (x ∷ xs) = omega (arith, sum_of_ones xs, sum_by-cons (λ (x : ℕ)
 
 pairs_from : (front pairs : List KeyValue) → map (pair_at (front ++ pairs)) (range_with_len (length front) (length pairs)) ≡ pairs
 pairs_from front [] = refl
-pairs_from front (pair ∷ pairs) =
-    let first : length front ≡ length front + 0 = omega arith in
-    let here : pair_at (front ++ pair ∷ pairs) (length front) ≡ pair =
-    ap (pair_at (front ++ pair ∷ pairs)) first ∙ get_or-append-add front (pair ∷ pairs) 0 no_pair in
-    let next : length (front ++ pair ∷ []) ≡ length front + 1 = length-append front (pair ∷ []) in
-    let rest = pairs_from (front ++ pair ∷ []) pairs in
-    let moved = ap (λ ps. map (pair_at ps) (range_with_len (length (front ++ pair ∷ [])) (length pairs))) (append_assoc front (pair ∷ []) pairs) in
-    let shifted = ap (λ at. map (pair_at (front ++ pair ∷ pairs)) (range_with_len at (length pairs))) next in
-    ap (λ p. p ∷ map (pair_at (front ++ pair ∷ pairs)) (range_with_len (length front + 1) (length pairs))) here
-    ∙ ap (λ ps. pair ∷ ps) (sym shifted ∙ sym moved ∙ rest)
+pairs_from front (pair ∷ pairs) = grind (arith, common_steps, pairs_from (front ++ pair ∷ []) pairs)
 
 pub in_query_order : (pairs : List KeyValue) → pairs_at pairs (range_with_len 0 (length pairs)) ≡ pairs
 in_query_order pairs = pairs_from [] pairs

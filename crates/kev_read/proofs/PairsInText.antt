@@ -1,7 +1,7 @@
 -- Pairs keep their places when bytes are appended to their text.
 use Rattle.std.proofs.Common.{◌≡◌, ℕ, ◌-◌, ◌≤◌, List, [], ◌∷◌, ◌++◌, map, length, take, drop, slice_range, refl, sym, ap, ◌∙◌}
 use Rattle.std.proofs.lemmas.Grind.{common_steps}
-use Rattle.std.proofs.Common.{arith, length-append, length-drop, take-append-drop}
+use Rattle.std.proofs.Common.{arith, length-drop, take-append-drop}
 use Rattle.std.specs.Prelude.{All}
 use Rattle.std.proofs.lemmas.List.{take-append-le, drop-append-le, map-append}
 use Rattle.std.proofs.lemmas.List.Elements.{All-head, All-tail, All-push, All-weaker}
@@ -18,9 +18,6 @@ range_stays text more i j forwards inside =
 pub part_stays : (text more : Text) (span : Span) → IsSpan text span → part_in (text ++ more) span ≡ part_in text span
 part_stays text more span is = range_stays text more span.start span.end is.forwards is.within
 
-pub span_stays : (text more : Text) (span : Span) → IsSpan text span → IsSpan (text ++ more) span
-span_stays text more span is = grind (arith, common_steps)
-
 pub place_stays : (text more : Text) (place : Place) → IsPlaced text place → IsPlaced (text ++ more) place
 place_stays text more place is = grind (arith, common_steps)
 
@@ -28,10 +25,7 @@ pub places_stay : (text more : Text) (places : List Place) → All (IsPlaced tex
 places_stay text more places are = All-weaker (IsPlaced text) (IsPlaced (text ++ more)) (λ place is. place_stays text more place is) places are
 
 pub pair_stays : (text more : Text) (place : Place) → IsPlaced text place → pair_in (text ++ more) place ≡ pair_in text place
-pair_stays text more place is =
-    let key = part_stays text more place.key is.key in
-    let value = part_stays text more place.value is.value in
-    cc
+pair_stays text more place is = grind (arith, common_steps)
 
 pub pairs_stay : (text more : Text) (places : List Place) → All (IsPlaced text) places → map (pair_in (text ++ more)) places ≡ map (pair_in text) places
 pairs_stay text more [] are = refl
@@ -49,10 +43,7 @@ range_of_query query text i j held forwards inside =
     ap (λ t. slice_range t i j) whole ∙ range_stays query more i j forwards inside
 
 pub query_within : (query text : List ℕ) → HoldsQuery query text → length query ≤ length text
-query_within query text held =
-    let more = drop (length query) text in
-    let whole : text ≡ query ++ more = sym (take-append-drop (length query) text) ∙ ap (λ front. front ++ more) held in
-    omega (arith, ap length whole, length-append query more)
+query_within query text held = grind (arith, common_steps)
 
 pub query_stays : (query text more : List ℕ) → HoldsQuery query text → HoldsQuery query (text ++ more)
 query_stays query text more held = take-append-le (length query) text more (query_within query text held) ∙ held

@@ -1,16 +1,13 @@
 -- How many bytes the values of a query have together.
-use Rattle.std.proofs.Common.{ℕ, ◌+◌, ◌*◌, ◌≤◌, ◌==◌, true, false, cond, List, [], ◌∷◌, length, map, drop, filter, sum_by, arith, length-drop}
+use Rattle.std.proofs.Common.{ℕ, ◌*◌, ◌≤◌, true, false, cond, List, [], ◌∷◌, length, map, filter, sum_by, arith, length-drop}
 use Rattle.std.proofs.lemmas.List.Sums.{sum_by-cons}
-use Rattle.std.specs.List.{position_or_len}
 use Rattle.form_urlencoded.specs.Form as form
 use Rattle.kev_read.specs.Pairs.{KeyValue, decoded_pair, pairs_of, value_bytes}
 use Rattle.kev_read.proofs.PairCount.{split_bytes}
 use Rattle.kev_read.proofs.DecodedLength.{length-decoded-le}
 
 decoded_value_bytes : (piece : List ℕ) → length (decoded_pair (form.split_pair piece)).value ≤ 3 * length piece
-decoded_value_bytes piece =
-    let at = position_or_len (λ b. b == form.equals_sign) piece + 1 in
-    omega (arith, length-decoded-le (drop at piece), length-drop at piece)
+decoded_value_bytes piece = grind (arith, length-decoded-le, length-drop)
 
 pieces_value_bytes : (pieces : List (List ℕ)) → value_bytes (map decoded_pair (map form.split_pair (filter form.is_nonempty pieces))) ≤ 3 * sum_by length pieces
 pieces_value_bytes [] = omega arith

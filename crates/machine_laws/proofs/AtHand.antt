@@ -38,14 +38,12 @@ module _ (c : Code) where
       subst (λ m. writes r (reading_at c m) ≡ false) e (denied (writes r (reading_at c (p + n))) both.1)) (cases_lt q (p + n))
     where
       denied : (t : Bool) → not t ≡ true → t ≡ false
-      denied false h = refl
-      denied true h = absurd (cc)
+      denied t h = grind (arith, common_steps)
 
   pub unwritten : (p : ℕ) (b : Body) → body_at c p ≡ Some b → keeps_element c b ≡ true → writes b.element (reading_at c p) ≡ false
   unwritten p b here k =
       let i = is_in c p b here in
       let low : b.start ≤ p = i.low in
-      let high : p < b.end = i.high in
       kept_at b.element b.start (b.end - b.start) p k low (omega arith)
 
   -- the member stays as long as the same loop, or none, runs

@@ -1,12 +1,13 @@
 -- Each run has one course, and the function that computes it finds it.
-use Rattle.std.proofs.Common.{◌≡◌, ℕ, zero, suc, ◌+◌, ◌-◌, ◌<◌, Option, Some, None, refl, ap, subst, arith, add-one, ⊎_elim}
+use Rattle.std.proofs.Common.{◌≡◌, ℕ, zero, suc, ◌+◌, ◌-◌, ◌<◌, Option, Some, None, refl, subst, arith, add-one, ⊎_elim}
 use Rattle.std.specs.Prelude.{◌↔◌}
 use Rattle.std.proofs.lemmas.Bool.{cases_lt, cases_order}
+use Rattle.std.proofs.lemmas.Grind.{common_steps}
 use Rattle.environment_model.specs.Environment.{Environment}
 use Rattle.code_model.specs.Code.{Code}
 use Rattle.machine_model.specs.States.{Frame, End, Link, NoLink, State, Running, Ended, start}
 use Rattle.machine_model.specs.Step.{StepsTo}
-use Rattle.machine_model.specs.Runs.{After, Outcome, Link as linked, NoLink as unlinked, Stuck, EndsWith, HasOutcome}
+use Rattle.machine_model.specs.Runs.{After, Outcome, EndsWith, HasOutcome}
 use Rattle.machine_model.specs.Next.{next_state, step_limit, outcome_at, Course, on_from, course_from, course_of, outcome_of}
 use Rattle.machine_model.proofs.Decides.{after_one, StepsTo-next_state, next_state-StepsTo}
 use Rattle.machine_laws.proofs.Limit.{within_limit}
@@ -45,18 +46,13 @@ module _ (c : Code) (v : Environment) where
 
   -- a running state comes before the end
   pub running_before : (k m : ℕ) (s : Frame) (b : End) → After c v k (Running s) → After c v m (Ended b) → k < m
-  running_before k m s b h g =
-      ⊎_elim (λ lt. lt) (λ le. ⊎_elim (λ lt. absurd (no_later m k (Ended b) (Running s) (λ new st. st) lt g h)) (λ le'. let e : m ≡ k = omega arith in
-      let f : Ended b ≡ Running s = after_one c v k (Ended b) (Running s) (subst (λ n. After c v n (Ended b)) e g) h in absurd (cc)) (cases_lt m k))
-      (cases_lt k m)
+  running_before k m s b h g = grind (arith, no_later, after_one, cases_lt)
 
   -- ---- courses
 
   -- the outcome of a run is that of its last state
   last_state : (k : ℕ) (o : Outcome) → EndsWith c v k o → (s : State) × After c v k s × ((new : State) → StepsTo c v s new → ⊥) × (outcome_at s ≡ o)
-  last_state k (linked t) h = (Ended (Link t), h, λ new st. st, refl)
-  last_state k unlinked h = (Ended NoLink, h, λ new st. st, refl)
-  last_state k (Stuck p) h = (Running h.0, h.1, h.3, ap Stuck h.2)
+  last_state k o h = grind (arith, common_steps)
 
   ends_with : (k : ℕ) (s : State) → After c v k s → ((new : State) → StepsTo c v s new → ⊥) → EndsWith c v k (outcome_at s)
   ends_with k (Ended (Link t)) h f = h
@@ -88,13 +84,7 @@ module _ (c : Code) (v : Environment) where
 
   -- a run has exactly the course that is computed
   pub course_decided : (k : ℕ) (o : Outcome) → EndsWith c v k o ↔ (course_of c v ≡ record { outcome = o; steps = k })
-  course_decided k o = (
-    λ h. courses_same (course_of c v) k o (one_course (course_of c v).steps k (course_of c v).outcome o course_found h),
-    λ e. subst (λ (x : Course). EndsWith c v x.steps x.outcome) e course_found,
-  )
+  course_decided k o = grind (arith, courses_same, one_course, course_found)
 
   pub outcome_decided : (o : Outcome) → HasOutcome c v o ↔ (outcome_of c v ≡ o)
-  outcome_decided o = (
-    λ h. (one_course (course_of c v).steps h.0 (course_of c v).outcome o course_found h.1).1,
-    λ e. ((course_of c v).steps, subst (EndsWith c v (course_of c v).steps) e course_found),
-  )
+  outcome_decided o = grind (arith, one_course, course_found)

@@ -1,5 +1,5 @@
 -- The least table of a code: there is at most one, and it decides whether the code is typable, and which mismatch is the first.
-use Rattle.std.proofs.Common.{◌≡◌, ℕ, ◌≤◌, List, [], ◌∷◌, length, Option, Some, None, Bool, true, false, refl, sym, ap, ◌∙◌, subst, ⊎_elim, arith}
+use Rattle.std.proofs.Common.{◌≡◌, ℕ, ◌≤◌, List, [], ◌∷◌, length, Option, Some, None, Bool, refl, sym, ap, ◌∙◌, subst, ⊎_elim, arith}
 use Rattle.std.specs.Prelude.{◌↔◌, if◌then◌else◌, option_and_then}
 use Rattle.std.specs.List.{AllByRecursion}
 use Rattle.std.proofs.lemmas.Grind.{common_steps}
@@ -52,8 +52,7 @@ all_met ks (n ∷ ns) h = by_test (all_met ks ns) (kind_le (ks n.register) n.kin
   where
     by_test : (first_unmet ks ns ≡ None → AllByRecursion (IsMet ks) ns) → (t : Bool) → kind_le (ks n.register) n.kind ≡ t
         → (if t then first_unmet ks ns else Some n.register) ≡ None → AllByRecursion (IsMet ks) (n ∷ ns)
-    by_test rest true e h = (e, rest h)
-    by_test rest false e h = absurd (cc)
+    by_test rest t e h = grind (arith, common_steps)
 
 none_unmet : (ks : Kinds) (ns : List Need) → AllByRecursion (IsMet ks) ns → first_unmet ks ns ≡ None
 none_unmet ks [] h = refl

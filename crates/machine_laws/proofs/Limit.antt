@@ -61,8 +61,7 @@ module _ (c : Code) (v : Environment) where
       let high : p < l.end = h.high in
       let low : l.start ≤ p = h.low in
       let fits : l.end ≤ length c.instrs = h.whole (omega (arith, e)) in
-      let last : InTurn l (l.end - 1) (k + (l.end - 1 - p)) =
-      record { low = omega arith; high = omega arith; turns = h.turns; few = h.few; whole = h.whole; bound = omega (arith, h.bound) } in
+      let last : InTurn l (l.end - 1) (k + (l.end - 1 - p)) = grind (arith, common_steps) in
       let over = past_body (l.end - 1) (k + (l.end - 1 - p)) l last (omega arith) in
       let m = mul-le-mul_left (member_count v + 1) fits in
       omega arith
@@ -77,17 +76,12 @@ module _ (c : Code) (v : Environment) where
   StateAtMost (Ended e) k = Unit {0}
 
   onward_on : (p k : ℕ) (s : Frame) (l : Option Loop) → IsInside l s.place → p < s.place → AtMost l p k → AtMost l s.place (k + 1)
-  onward_on p k s None i lt h = step_past (member_count v + 1) p s.place k (omega arith) lt h
-  onward_on p k s (Some l) i lt h =
-      let low : l.start ≤ p = h.low in
-      record { low = i.0; high = i.1; turns = h.turns; few = h.few; whole = h.whole; bound = omega (arith, h.bound) }
+  onward_on p k s l i lt h = grind (arith, common_steps)
 
   by_shape : (s : Frame) (i : Instruction) (m : Move) (new : State) (k : ℕ) → FrameSmall (member_count v) (byte_count v) (text_limit c v) s
       → s.place < length c.instrs → Shape s i m → Leads c s.place m new → AtMost s.loop s.place k → StateAtMost new (k + 1)
   by_shape s i _ new k small lt (ends e) led h = subst (λ x. StateAtMost x (k + 1)) (sym led) tt
-  by_shape s i _ new k small lt (onward f same kept) led h =
-      let here : IsInside s.loop f.place = subst (λ l. IsInside l f.place) same led.0.inside in
-      subst (λ x. StateAtMost x (k + 1)) (sym led.1) (subst (λ l. AtMost l f.place (k + 1)) (sym same) (onward_on s.place k f s.loop here led.0.forward h))
+  by_shape s i _ new k small lt (onward f same kept) led h = grind (arith, onward_on)
   by_shape s i _ new k small lt (enters f l r u none held into first place inside holds) led h = grind (arith, common_steps)
   by_shape s i _ new k small lt (again f l l' u was into last left s1 s2 place holds) led h =
       let t : InTurn l s.place k = subst (λ o. AtMost o s.place k) was h in
@@ -109,10 +103,7 @@ module _ (c : Code) (v : Environment) where
 
   stepped : (old new : State) (k : ℕ) → After c v k old → StateAtMost old k → StepsTo c v old new → StateAtMost new (k + 1)
       × (k + 1 ≤ (member_count v + 1) * length c.instrs)
-  stepped (Ended e) new k a h st = absurd st
-  stepped (Running s) new k a h st =
-      let lt = reads_within c s.place st.0 st.1 in
-      (by_shape s st.0 st.2 new k (small_after c v k (Running s) a) lt (shape c v s st.0 st.2 st.3) st.4 h, steps_left s.loop s.place k h lt)
+  stepped old new k a h st = grind (arith, reads_within, by_shape, small_after, shape, steps_left)
 
   pub at_most : (k : ℕ) (s : State) → After c v k s → StateAtMost s k × (k ≤ (member_count v + 1) * length c.instrs)
   unfolding After

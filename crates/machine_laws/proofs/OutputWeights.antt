@@ -1,7 +1,6 @@
 -- How many bytes an instruction prints at most: its weight, and what it prints for each byte of the current member.
-use Rattle.std.proofs.Common.{◌≡◌, ℕ, ◌+◌, ◌*◌, ◌≤◌, ◌++◌, length, Option, Some, None, false, refl, sym, ap, ◌∙◌, subst, arith}
+use Rattle.std.proofs.Common.{◌≡◌, ℕ, ◌+◌, ◌*◌, ◌≤◌, ◌++◌, length, Option, Some, None, false, refl, subst, arith, length-append}
 use Rattle.std.proofs.lemmas.Grind.{common_steps}
-use Rattle.std.proofs.Common.{length-append}
 use Rattle.std.specs.Prelude.{if◌then◌else◌, ◌==◌, option_map}
 use Rattle.text_model.specs.Texts.{Text}
 use Rattle.text_model.specs.Writing.{written}
@@ -16,8 +15,7 @@ use Rattle.machine_model.specs.States.{Frame}
 use Rattle.machine_model.specs.Step.{Move, Does, fail, emit, put_text, cut_text, later_turn}
 use Rattle.machine_model.specs.Form.{body_at}
 use Rattle.machine_model.specs.Values.{Text as TextValue}
-use Rattle.machine_model.specs.Budget.{longest_compared, fixed_bytes, separator_bytes, written_bytes, prints}
-use Rattle.machine_model.specs.Budget.{prints_element}
+use Rattle.machine_model.specs.Budget.{longest_compared, fixed_bytes, separator_bytes, written_bytes, prints, prints_element}
 use Rattle.machine_model.specs.Fitting.{body_of}
 use Rattle.machine_laws.proofs.Small.{FrameSmall, IsSmall, text_limit}
 use Rattle.machine_laws.proofs.AtHand.{at_hand}
@@ -49,11 +47,6 @@ module _ (c : Code) (v : Environment) where
   PrintsWithin s n = StepWithin c weight tight (member_count v) (byte_count v) s (length s.output) n
 
   module _ (s : Frame) (i : Instruction) (b : option_map body_of s.loop ≡ body_at c s.place) (r : reading_at c s.place ≡ Some i) where
-    -- whatever the member
-    loosely : (n : ℕ) → n ≤ length s.output + weight_of (body_at c s.place) (Some i) → PrintsWithin s n
-    loosely n le = within_weight c weight tight (member_count v) (byte_count v) s.loop (at_hand c s) s.place (length s.output) n
-        (subst (λ j. n ≤ length s.output + weight_of (body_at c s.place) j) (sym r) le)
-
     -- an instruction that is neither PUT nor CUT
     fixed : (n : ℕ) → ((e : ℕ) → prints e (Some i) ≡ false)
         → n ≤ length s.output + (fixed_bytes c (Some i) + separated (body_at c s.place) (separator_bytes c (Some i))) → PrintsWithin s n
@@ -69,9 +62,7 @@ module _ (c : Code) (v : Environment) where
       → option_map body_of s.loop ≡ body_at c s.place → reading_at c s.place ≡ Some i → Does c v s i m → PrintsWithin s (length (move_output m))
   long_move s _ _ h b r fail = within_weight c weight tight (member_count v) (byte_count v) s.loop (at_hand c s) s.place (length s.output) 0 (omega arith)
   long_move s _ _ h b r (emit n) = fixed s _ b r (length (s.output ++ literal_at c n)) (λ e. refl) (omega (arith, length-append s.output (literal_at c n)))
-  long_move s _ _ h b r (later_turn n l e f) =
-      let o : body_at c s.place ≡ Some (body_of l) = sym b ∙ ap (option_map body_of) e in
-      fixed s _ b r (length (s.output ++ literal_at c n)) (λ e. refl) (rw o (omega (arith, length-append s.output (literal_at c n))))
+  long_move s _ _ h b r (later_turn n l e f) = grind (arith, common_steps)
   long_move s _ _ h b r (put_text a m t e) =
       let x = subst (IsSmall (member_count v) (byte_count v) (text_limit c v)) e (h.registers a) in
       of_text s _ b r (length (s.output ++ written (writing_of m) t)) a t e x refl refl refl (λ e. refl)

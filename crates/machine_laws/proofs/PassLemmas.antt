@@ -1,11 +1,12 @@
 -- Passes along all edges stay at or below every closed table, so if their table is closed, it is the least.
 use Rattle.std.proofs.Common.{◌≡◌, ℕ, zero, suc, ◌-◌, ◌<◌, ◌≤◌, List, [], ◌∷◌, length, Option, Some, None, true, refl, sym, ap, ◌∙◌, subst, arith, ⊎_elim}
-use Rattle.std.specs.Prelude.{option_map, option_and_then}
+use Rattle.std.specs.Prelude.{option_map}
 use Rattle.std.specs.List.{list_all, AllByRecursion}
 use Rattle.std.proofs.Math.Path.{fun_ext}
 use Rattle.std.proofs.lemmas.Bool.{and_parts, cases_lt}
 use Rattle.std.proofs.lemmas.Option.{same_Some, slice_get_past}
-use Rattle.code_model.specs.Code.{Code, reading, reading_at}
+use Rattle.std.proofs.lemmas.Grind.{common_steps}
+use Rattle.code_model.specs.Code.{Code, reading_at}
 use Rattle.code_model.specs.declared.code.Instruction.{Instruction}
 use Rattle.machine_model.specs.declared.kind.Kind.{Kind}
 use Rattle.machine_model.specs.declared.kind.Kind.TheVariants.{Any}
@@ -27,8 +28,7 @@ listed_kinds (suc n) ks zero h = refl
 listed_kinds (suc n) ks (suc r) h = listed_kinds n (λ q. ks (suc q)) r (record { at = λ q le. h.at (suc q) (omega (arith, le)) })
 
 join_any : (k : Kind) → kind_join Any k ≡ Any
-join_any Any = refl
-join_any _ = refl
+join_any k = grind (arith, common_steps)
 
 joined_kinds : (row : Row) (ks : Kinds) (r : ℕ) → kinds_in (row_join row ks) r ≡ kind_join (kinds_in row r) (ks r)
 unfolding row_join
@@ -123,10 +123,7 @@ module _ (c : Code) (form : HasGoodForm c) (u : Table) (closed : IsClosed c u) w
   none_there (suc n) (suc p) row e = none_there n p row e
 
   first_below : AllRows IsBelowAt (first_rows c)
-  first_below zero row e =
-      let any : IsAnyFrom (register_count c) any_kinds = record { at = λ r le. refl } in
-      let same : listed (register_count c) any_kinds ≡ row = same_Some _ _ e in
-      subst (IsBelowAt 0) same (record { at = λ r le. listed_kinds (register_count c) any_kinds r any }, (any_kinds, closed.first, record { at = λ r. refl }))
+  first_below zero row e = grind (arith, same_Some, listed_kinds)
   first_below (suc p) row e = absurd (none_there (length c.instrs - 1) p row e)
 
   passes_stay_below : (n : ℕ) → AllRows IsBelowAt (passes c n)
@@ -170,33 +167,26 @@ module _ (c : Code) (rows : Rows) where
       both.1) (cases_lt p n)
 
   above_any : (k : Kind) → kind_le Any k ≡ true → k ≡ Any
-  above_any Any h = refl
-  above_any _ h = absurd (cc)
+  above_any k h = grind (arith, common_steps)
 
   pub closed_rows : is_closed c (length c.instrs) rows ≡ true → IsClosed c (table_in rows)
   closed_rows h = record { first = starts; along = along }
     where
       starts : table_in rows 0 ≡ Some any_kinds
-      starts =
-          let f = covered any_kinds (row_at rows 0) (first_closed (length c.instrs) h) in
-          f.1 ∙ ap Some (fun_ext (λ r. above_any (f.0 r) (f.2.at r)))
+      starts = grind (arith, covered, first_closed, fun_ext, above_any)
 
       along : (p : ℕ) (ks : Kinds) → table_in rows p ≡ Some ks → AllByRecursion (Holds (table_in rows)) (edges_at c p ks)
       along p ks known = ⊎_elim within past (cases_lt p (length c.instrs))
         where
           by_row : (o : Option Row) → option_map kinds_in o ≡ Some ks → list_all (is_reached rows) (edges_from c p o) ≡ true
               → AllByRecursion (Holds (table_in rows)) (edges_at c p ks)
-          by_row None e k = absurd (cc)
-          by_row (Some row) e k =
-              subst (λ x. AllByRecursion (Holds (table_in rows)) (edges_at c p x)) (same_Some _ _ e) (all_hold (edges_at c p (kinds_in row)) k)
+          by_row o e k = grind (arith, same_Some, all_hold)
 
           within : p < length c.instrs → AllByRecursion (Holds (table_in rows)) (edges_at c p ks)
           within lt = by_row (row_at rows p) known (closed_at (length c.instrs) p h lt)
 
           past : length c.instrs ≤ p → AllByRecursion (Holds (table_in rows)) (edges_at c p ks)
-          past le =
-              let r : reading_at c p ≡ None = ap (option_and_then (reading c.version)) (slice_get_past c.instrs p le) in
-              subst (λ o. AllByRecursion (Holds (table_in rows)) (for_instruction o (edges p ks (body_at c p)))) (sym r) tt
+          past le = grind (arith, slice_get_past)
 
 -- if the table that passes find is closed, it is the least table
 pub passes_least : (c : Code) → HasGoodForm c → (n : ℕ) → is_closed c (length c.instrs) (passes c n) ≡ true → IsLeast c (table_in (passes c n))

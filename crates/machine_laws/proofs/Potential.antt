@@ -4,6 +4,7 @@ use Rattle.std.proofs.Common.{◌≡◌, ℕ, suc, ◌+◌, ◌-◌, ◌*◌, �
 use Rattle.std.specs.Prelude.{option_map, sum_by}
 use Rattle.std.proofs.Math.Nat.{mul-le-mul_left}
 use Rattle.std.proofs.lemmas.List.Sums.{sum_by-cons}
+use Rattle.std.proofs.lemmas.Grind.{common_steps}
 use Rattle.text_model.specs.Texts.{Text}
 use Rattle.code_model.specs.Code.{Code}
 use Rattle.machine_model.specs.States.{Loop}
@@ -27,10 +28,7 @@ one_more x member turns past B D e w d t g g' le ld h k = let m = mul-le-mul_lef
 
 -- a loop that is over, with bounds on turns and members
 all_turns : (o a b M E turns bytes B D g : ℕ) → turns ≤ M → bytes ≤ E → g ≤ o + M * a + E * b + turns * B + bytes * D → g ≤ o + M * (a + B) + E * (b + D)
-all_turns o a b M E turns bytes B D g lt lb h =
-    let m = mul-le-mul_left B lt in
-    let n = mul-le-mul_left D lb in
-    omega arith
+all_turns o a b M E turns bytes B D g lt lb h = grind (arith, common_steps)
 
 module _ (c : Code) (w t : ℕ → ℕ) (M E : ℕ) where
   -- g was spent before place p of a loop's turn, whose member has that many bytes; the record has the turns that are over, and the bytes of their members

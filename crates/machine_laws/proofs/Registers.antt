@@ -1,11 +1,11 @@
 -- Nothing is ever known about a register that no instruction of a code may name.
-use Rattle.std.proofs.Common.{◌≡◌, ℕ, ◌<◌, ◌≤◌, ◌∷◌, List, length, Option, Some, None, refl, sym, ap, ◌∙◌, subst, arith, ⊎_elim, true}
-use Rattle.std.specs.Prelude.{if◌then◌else◌, option_and_then}
+use Rattle.std.proofs.Common.{◌≡◌, ℕ, ◌<◌, ◌≤◌, ◌∷◌, List, length, Option, Some, None, refl, sym, ◌∙◌, subst, arith, ⊎_elim, true}
+use Rattle.std.specs.Prelude.{if◌then◌else◌}
 use Rattle.std.specs.List.{AllByRecursion}
 use Rattle.std.proofs.lemmas.Grind.{common_steps}
 use Rattle.std.proofs.lemmas.Bool.{ne_eqb, cases_lt}
 use Rattle.std.proofs.lemmas.Option.{same_Some, slice_get_past}
-use Rattle.code_model.specs.Code.{Code, reading, reading_at}
+use Rattle.code_model.specs.Code.{Code}
 use Rattle.code_model.specs.Operands.{Operand, Register, operands}
 use Rattle.code_model.specs.declared.code.Instruction.{Instruction}
 use Rattle.code_model.specs.declared.code.Instruction.TheVariants.{Halt, Fail, Text as LoadText, List as LoadList, Const, Number, Undef, Empty, NoList, Differ}
@@ -88,6 +88,4 @@ module _ (c : Code) where
             (edges_any p ks (body_at c p) g.0 g.1.reads.right (element_fits p (body_at c p) refl) h)
 
         past : length c.instrs ≤ p → AllByRecursion (EdgeAny (register_count c)) (edges_at c p ks)
-        past le =
-            let r : reading_at c p ≡ None = ap (option_and_then (reading c.version)) (slice_get_past c.instrs p le) in
-            subst (λ o. AllByRecursion (EdgeAny (register_count c)) (for_instruction o (edges p ks (body_at c p)))) (sym r) tt
+        past le = grind (arith, slice_get_past)

@@ -56,9 +56,7 @@ list_ends v = list_is_safe.ends v
 
 list_prints_little : (v : Environment) (k : ℕ) (s : State) → After list_code v k s → length (output_of s) ≤ member_count v + 3 * byte_count v
 unfolding total longest_compared is_kept body_at reading
-list_prints_little v k s a =
-    let bound : length (output_of s) ≤ 0 + 1 * member_count v + 3 * byte_count v + 0 * (member_count v * byte_count v) = list_is_safe.bounded v k s a in
-    omega arith
+list_prints_little v k s a = grind (arith, list_is_safe)
 
 list_prints_uri_text : (v : Environment) (k : ℕ) (s : State) → After list_code v k s → IsUriText (output_of s)
 list_prints_uri_text v = list_is_safe.uri v

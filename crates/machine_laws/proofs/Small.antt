@@ -1,11 +1,10 @@
 -- The values in registers and loops are no larger than the environment and the comparison texts.
-use Rattle.std.proofs.Common.{◌≡◌, ℕ, zero, suc, ◌+◌, ◌≤◌, List, [], ◌∷◌, length, Option, Some, None, Bool, true, false, refl, sym, subst, arith}
-use Rattle.std.specs.Prelude.{slice_get, nat_lt, if◌then◌else◌, ◌&&◌, bytes_eq, sum_by}
+use Rattle.std.proofs.Common.{◌≡◌, ℕ, zero, suc, ◌+◌, ◌≤◌, List, [], ◌∷◌, length, Option, Some, None, Bool, true, refl, sym, subst, arith}
+use Rattle.std.specs.Prelude.{slice_get, if◌then◌else◌, bytes_eq, sum_by}
 use Rattle.std.proofs.lemmas.Grind.{common_steps}
-use Rattle.std.proofs.lemmas.Bool.{and_parts}
 use Rattle.std.proofs.lemmas.List.Sums.{sum_by-cons}
 use Rattle.text_model.specs.Texts.{Text}
-use Rattle.environment_model.specs.Environment.{Environment, Meaning, Single, Several, look_up, text_in, members_in, members_of, member_count, byte_count}
+use Rattle.environment_model.specs.Environment.{Environment, Meaning, look_up, text_in, members_in, members_of, member_count, byte_count}
 use Rattle.environment_model.specs.Environment.{meaning_bytes, meaning_members}
 use Rattle.code_model.specs.Code.{Code, Literal}
 use Rattle.code_model.specs.declared.code.Instruction.{Instruction}
@@ -13,9 +12,8 @@ use Rattle.code_model.specs.declared.code.Instruction.TheVariants.{Const}
 use Rattle.machine_model.specs.Operands.{is_compared, has_right_operands, name_at, literal_at, text_of_literal}
 use Rattle.machine_model.specs.Values.{Value, Nothing, Undefined, Text as TextValue, List as ListValue, Number as NumberValue, text_or_undefined}
 use Rattle.machine_model.specs.States.{Loop, Frame, State, Running, Ended, put}
-use Rattle.machine_model.specs.Step.{Move, Ends, MovesTo, Returns, Does, halt, fail, text, list}
-use Rattle.machine_model.specs.Step.{const, number, no_turn, enter, next_member, leave, count, Leads}
-use Rattle.machine_model.specs.Step.{StepsTo}
+use Rattle.machine_model.specs.Step.{Move, Ends, MovesTo, Returns, Does, halt, fail, text, list, const, number, no_turn, enter, next_member, leave, count}
+use Rattle.machine_model.specs.Step.{Leads, StepsTo}
 use Rattle.machine_model.specs.Runs.{After}
 use Rattle.machine_model.specs.Budget.{compared_length, longest_compared}
 
@@ -50,15 +48,6 @@ MoveSmall m e n (Returns s) = FrameSmall m e n s
 abbrev MeaningSmall : ℕ → ℕ → Option Meaning → Type 0
 MeaningSmall m e o = (length (members_in o) ≤ m) × (sum_by length (members_in o) ≤ e) × IsSmall m e e (text_or_undefined (text_in o))
 
-one_meaning : (x : Meaning) (m e : ℕ) → meaning_members x ≤ m → meaning_bytes x ≤ e → MeaningSmall m e (Some x)
-one_meaning (Single t) m e h k = (omega arith, omega arith, k)
-one_meaning (Several ts) m e h k = (h, k, tt)
-
-meaning_more : (o : Option Meaning) (m e m' e' : ℕ) → m ≤ m' → e ≤ e' → MeaningSmall m e o → MeaningSmall m' e' o
-meaning_more None m e m' e' a b h = (omega arith, omega arith, tt)
-meaning_more (Some (Single t)) m e m' e' a b h = (omega arith, omega arith, omega (arith, h.2))
-meaning_more (Some (Several ts)) m e m' e' a b h = (omega (arith, h.0), omega (arith, h.1), tt)
-
 meaning_small : (v : Environment) (name : Text) → MeaningSmall (member_count v) (byte_count v) (look_up v name)
 unfolding look_up
 meaning_small [] name = (omega arith, omega arith, tt)
@@ -68,8 +57,7 @@ meaning_small (x ∷ v) name =
   where
     by_test : MeaningSmall (member_count v) (byte_count v) (look_up v name) → (t : Bool)
         → MeaningSmall (meaning_members x.meaning + member_count v) (meaning_bytes x.meaning + byte_count v) (if t then Some x.meaning else look_up v name)
-    by_test rest true = one_meaning x.meaning _ _ (omega arith) (omega arith)
-    by_test rest false = meaning_more (look_up v name) (member_count v) (byte_count v) _ _ (omega arith) (omega arith) rest
+    by_test rest t = grind (arith, common_steps)
 
 -- ---- values from the table of literals
 
@@ -81,10 +69,7 @@ literal_small (l ∷ ls) (suc b) h = omega (arith, literal_small ls b h)
 
 const_compared : (c : Code) (a b : ℕ) → has_right_operands c (Const a b) ≡ true → is_compared (slice_get c.literals b) ≡ true
 unfolding has_right_operands
-const_compared c a b h =
-    let x = and_parts _ ((nat_lt b (length c.literals) && is_compared (slice_get c.literals b)) && true) h in
-    let y = and_parts (nat_lt b (length c.literals) && is_compared (slice_get c.literals b)) true x.1 in
-    (and_parts (nat_lt b (length c.literals)) (is_compared (slice_get c.literals b)) y.0).1
+const_compared c a b h = grind (arith, common_steps)
 
 -- ---- steps keep values small
 
@@ -102,8 +87,7 @@ module _ (c : Code) (v : Environment) where
 
   text_more : (o : Option Text) → IsSmall (member_count v) (byte_count v) (byte_count v) (text_or_undefined o)
       → IsSmall (member_count v) (byte_count v) (text_limit c v) (text_or_undefined o)
-  text_more None h = tt
-  text_more (Some t) h = omega arith
+  text_more o h = grind (arith, common_steps)
 
   small_move : (s : Frame) (i : Instruction) (m : Move) → FrameSmall (member_count v) (byte_count v) (text_limit c v) s → has_right_operands c i ≡ true
       → Does c v s i m → MoveSmall (member_count v) (byte_count v) (text_limit c v) m
@@ -120,26 +104,17 @@ module _ (c : Code) (v : Environment) where
       }
   small_move s _ _ h ok (number a b d n t e f) = record { registers = small_put s a (NumberValue n) h.registers tt; left = h.left }
   small_move s _ _ h ok (count a b ts e) = record { registers = small_put s a (NumberValue (length ts)) h.registers tt; left = h.left }
-  small_move s _ _ h ok (enter a b d t ts e lt f) =
-      let x = subst (IsSmall (member_count v) (byte_count v) (text_limit c v)) f (h.registers b) in
-      let all : length t + sum_by length ts ≤ byte_count v = rw (sum_by-cons length t ts) at x.1 in
-      record { registers = small_put s a (TextValue t) h.registers (omega (arith, all)); left = omega (arith, all) }
-  small_move s _ _ h ok (next_member l t ts e p f) =
-      let x = subst (LeftSmall (byte_count v)) e h.left in
-      let all : length t + sum_by length ts ≤ byte_count v = rw (f, sum_by-cons length t ts) at x in
-      record { registers = small_put s l.element (TextValue t) h.registers (omega (arith, all)); left = omega (arith, all) }
+  small_move s _ _ h ok (enter a b d t ts e lt f) = grind (arith, common_steps)
+  small_move s _ _ h ok (next_member l t ts e p f) = grind (arith, common_steps)
   small_move s _ _ h ok (leave l e p f) = record { registers = h.registers; left = tt }
   small_move s _ _ h ok (no_turn a b d e lt f) = record { registers = h.registers; left = h.left }
   small_move s _ _ h ok _ = record { registers = h.registers; left = h.left }
 
   small_lead : (from : ℕ) (m : Move) (new : State) → MoveSmall (member_count v) (byte_count v) (text_limit c v) m → Leads c from m new → Small new
-  small_lead from (Ends e) new k led = subst (StateSmall (member_count v) (byte_count v) (text_limit c v)) (sym led) tt
-  small_lead from (MovesTo f) new k led = subst (StateSmall (member_count v) (byte_count v) (text_limit c v)) (sym led.1) k
-  small_lead from (Returns f) new k led = subst (StateSmall (member_count v) (byte_count v) (text_limit c v)) (sym led) k
+  small_lead from m new k led = grind (arith, common_steps)
 
   small_step : (s new : State) → Small s → StepsTo c v s new → Small new
-  small_step (Ended e) new h st = absurd st
-  small_step (Running s) new h st = small_lead s.place st.2 new (small_move s st.0 st.2 h st.1.right st.3) st.4
+  small_step s new h st = grind (arith, small_lead, small_move)
 
   -- for any code
   pub small_after : (k : ℕ) (s : State) → After c v k s → Small s

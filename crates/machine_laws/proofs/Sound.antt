@@ -1,12 +1,12 @@
 -- A typable code of good form never gets stuck.
 
-use Rattle.std.proofs.Common.{◌≡◌, ℕ, ◌+◌, ◌<◌, ◌≤◌, List, [], ◌∷◌, length, Option, Some, None, Bool, true, false, refl, sym, ap, ◌∙◌, subst, arith}
-use Rattle.std.proofs.Common.{add-one, ⊎_elim}
+use Rattle.std.proofs.Common.{◌≡◌, ℕ, ◌+◌, ◌<◌, List, [], ◌∷◌, length, Option, Some, None, Bool, true, false, refl, sym, ap, ◌∙◌, subst, arith, add-one, ⊎_elim}
 use Rattle.std.specs.Prelude.{nat_lt, ◌||◌, not, option_map, bytes_eq}
 use Rattle.std.specs.List.{AllByRecursion}
-use Rattle.std.proofs.lemmas.Bool.{eqb-true, ltb-true, or_cases, false≢true, cases_lt}
+use Rattle.std.proofs.lemmas.Bool.{eqb-true, ltb-true, false≢true, cases_lt}
 use Rattle.std.proofs.lemmas.Slice.Eq.{bytes_eq-Decides}
 use Rattle.std.proofs.lemmas.Option.{same_Some}
+use Rattle.std.proofs.lemmas.Grind.{common_steps}
 use Rattle.text_model.specs.Texts.{Text}
 use Rattle.text_model.specs.Number.{leading_number}
 use Rattle.environment_model.specs.Environment.{Environment, text_of, members_of}
@@ -56,9 +56,7 @@ module _ (c : Code) (t : Table) where
         → is_next (Some op) ≡ false → Does c v s op (MovesTo (record { place = s.place + 1; registers = regs; loop = s.loop; output = out }))
         → Holds t (edge (s.place + 1) ks) → Fits ks regs → Continues v s op
     fall op ks regs out g nl ne nn d h f =
-        let more : s.place + 1 < length c.instrs =
-        ltb-true (s.place + 1) (length c.instrs)
-        (⊎_elim (λ e. e) (λ e. absurd (cc)) (or_cases (nat_lt (s.place + 1) (length c.instrs)) (ends_run op) g.placed.continues)) in
+        let more : s.place + 1 < length c.instrs = grind (arith, common_steps) in
         along v s op (edge (s.place + 1) ks) regs s.loop out d h f (omega arith) more (k.body ∙ sym (body_same c s.place op g ne nn))
 
     -- to the target of a jump
@@ -173,9 +171,7 @@ module _ (c : Code) (t : Table) where
     moves Next g n h = by_turn s.loop refl (body_at c s.place) refl k.body g.placed.next_last
       where
         more : s.place + 1 < length c.instrs
-        more =
-            ltb-true (s.place + 1) (length c.instrs)
-            (⊎_elim (λ e. e) (λ e. absurd (cc)) (or_cases (nat_lt (s.place + 1) (length c.instrs)) false g.placed.continues))
+        more = grind (arith, common_steps)
 
         by_left : (l : Loop) → s.loop ≡ Some l → body_at c s.place ≡ Some (body_of l) → s.place + 1 ≡ l.end → (ts : List Text) → l.left ≡ ts
             → Continues v s Next
@@ -187,7 +183,6 @@ module _ (c : Code) (t : Table) where
         by_left l e eo last (y ∷ ts) hl =
             let h' = subst (λ o. AllByRecursion (Holds t) (edges s.place k.kinds o Next)) eo h in
             let i = is_in c s.place (body_of l) eo in
-            let low : l.start ≤ s.place = i.low in
             let ks = put k.kinds l.element TextKind in
             let regs = put s.registers l.element (TextValue y) in
             let f = fits_put k.kinds s.registers l.element TextKind (TextValue y) k.fits refl in

@@ -7,11 +7,11 @@ use Rattle.std.specs.List.{list_all, AllByRecursion}
 use Rattle.std.proofs.Math.Path.{fun_ext}
 use Rattle.std.proofs.lemmas.Bool.{and_parts, and_from, cases_lt}
 use Rattle.std.proofs.lemmas.Option.{slice_get_past}
+use Rattle.std.proofs.lemmas.Grind.{common_steps}
 use Rattle.code_model.specs.Code.{Code, reading, reading_at, upgraded}
 use Rattle.code_model.specs.Operands.{Operand, operands}
 use Rattle.code_model.specs.declared.code.Instr.{Instr}
 use Rattle.code_model.specs.declared.code.Instruction.{Instruction}
-use Rattle.code_model.specs.declared.code.Instruction.TheVariants.{Each}
 use Rattle.machine_model.specs.declared.form.Body.{Body}
 use Rattle.machine_model.specs.Operands.{is_register, is_in_table, has_table_kind}
 use Rattle.machine_model.specs.Form.{is_next, opened, body_at, is_in_body, is_same_body, ends_body, target, goes_to, is_each, is_sep, checks}
@@ -30,8 +30,7 @@ module _ (c : Code) where
   is_next_same p = ⊎_elim (λ same. ap is_next (sym same)) (λ other. rw (other.0, other.1.2) refl) (read_at c p)
 
   opened_as : (p : ℕ) (o : Option Instruction) → opened (upgraded c) p o ≡ opened c p o
-  opened_as p (Some (Each a b d)) = rw (is_next_same (d - 1)) refl
-  opened_as p _ = refl
+  opened_as p o = grind (arith, is_next_same)
 
   opened_same : (p : ℕ) → opened (upgraded c) p (reading_at (upgraded c) p) ≡ opened c p (reading_at c p)
   opened_same p = ⊎_elim (λ same. opened_as p (reading_at (upgraded c) p) ∙ ap (opened c p) (sym same)) (λ other. rw (other.0, other.1.2) refl) (read_at c p)
@@ -76,12 +75,10 @@ module _ (c : Code) where
       })
     where
       tables_same : (os : List Operand) → list_all (is_in_table c) os ≡ true → list_all (is_in_table (upgraded c)) os ≡ true
-      tables_same [] k = refl
-      tables_same (o ∷ os) k = grind (arith, and_parts, and_from)
+      tables_same os k = grind (arith, common_steps)
 
       kinds_same : (os : List Operand) → list_all (has_table_kind c) os ≡ true → list_all (has_table_kind (upgraded c)) os ≡ true
-      kinds_same [] k = refl
-      kinds_same (o ∷ os) k = grind (arith, and_parts, and_from)
+      kinds_same os k = grind (arith, common_steps)
 
   fault_more : (p : ℕ) → fault_at c p ≡ None → fault_at (upgraded c) p ≡ None
   unfolding fault_at
@@ -92,8 +89,7 @@ module _ (c : Code) where
       by_reading f (Some i) r k = rw (reading_more c.version f i r) (passes_more p f i k)
 
       by_fields : (o : Option Instr) → fault_in c p o ≡ None → fault_in (upgraded c) p o ≡ None
-      by_fields None k = refl
-      by_fields (Some f) k = by_reading f (reading c.version f) refl k
+      by_fields o k = grind (arith, by_reading)
 
   pub form_kept : HasGoodForm c → HasGoodForm (upgraded c)
   form_kept form = record { at = λ p. fault_more p (form.at p) }
@@ -168,6 +164,3 @@ module _ (c : Code) where
         (λ p. rw (element_same p, written_same p) refl) in
         let o3 = inside_same (of_others (upgraded c) (written_at (upgraded c))) (of_others c (written_at c)) (λ p. rw (element_same p, written_same p) refl) in
         λ t. record { s0 = s0 t; s1 = s1 t; o0 = o0 t; o1 = o1 t; o2 = o2 t + o2' t; o3 = o3 t }
-
-pub upgraded_once : (c : Code) → c.version ≡ 2 → upgraded c ≡ c
-upgraded_once c e = λ t. record c { version = sym e t }

@@ -1,20 +1,18 @@
 -- A code does the same after it is upgraded to version 2.
 
-use Rattle.std.proofs.Common.{◌≡◌, ℕ, zero, suc, ◌<◌, List, [], ◌∷◌, ◌++◌, Option, Some, None, Bool, true, false, refl, sym, ◌∙◌, arith, ◌⊎◌, inl}
+use Rattle.std.proofs.Common.{◌≡◌, ℕ, zero, suc, List, [], ◌∷◌, ◌++◌, Option, Some, None, Bool, true, refl, sym, ◌∙◌, arith, ◌⊎◌, inl, inr, ⊎_elim}
 use Rattle.std.proofs.lemmas.Grind.{common_steps}
-use Rattle.std.proofs.Common.{inr, ⊎_elim}
 use Rattle.std.specs.Prelude.{slice_get, unwrap_or, nat_lt, ◌==◌, if◌then◌else◌}
-use Rattle.std.proofs.lemmas.Bool.{ltb-true, lt-ltb}
 use Rattle.text_model.specs.Texts.{Text}
 use Rattle.environment_model.specs.Environment.{Environment}
 use Rattle.code_model.specs.Code.{Code, reading, reading_at, upgraded}
 use Rattle.code_model.specs.Operands.{Operand, Register}
 use Rattle.code_model.specs.declared.code.Instr.{Instr}
 use Rattle.code_model.specs.declared.code.Instruction.{Instruction}
-use Rattle.code_model.specs.declared.code.Instruction.TheVariants.{Halt, Count}
-use Rattle.machine_model.specs.Operands.{is_register, is_right, has_right_operands, Reads}
+use Rattle.code_model.specs.declared.code.Instruction.TheVariants.{Count}
+use Rattle.machine_model.specs.Operands.{is_register, has_right_operands, Reads}
 use Rattle.machine_model.specs.States.{Frame, State, Running, Ended}
-use Rattle.machine_model.specs.Step.{Move, Ends, MovesTo, Returns, Leads, StepsTo}
+use Rattle.machine_model.specs.Step.{Move, Leads, StepsTo}
 use Rattle.machine_model.specs.Runs.{After, EndsWith, Outcome, Link, NoLink, Stuck}
 use Rattle.machine_model.specs.Next.{move_of}
 use Rattle.machine_model.proofs.Moves.{move_of-does, does-move_of}
@@ -47,15 +45,11 @@ module _ (c : Code) where
   -- ---- operands
 
   by_count : (n : ℕ) (t : Bool) → nat_lt n (if t then 64 else 16) ≡ true → nat_lt n 64 ≡ true
-  by_count n true k = k
-  by_count n false k = let lt : n < 16 = ltb-true n 16 k in lt-ltb n 64 (omega (arith, lt))
+  by_count n t k = grind (arith, common_steps)
 
   pub register_more : (o : Operand) → is_register c o ≡ true → is_register (upgraded c) o ≡ true
   register_more (Register n) k = by_count n (c.version == 2) k
   register_more _ k = refl
-
-  operand_more : (o : Operand) → is_right c o ≡ true → is_right (upgraded c) o ≡ true
-  operand_more o h = grind (arith, common_steps)
 
   right_more : (i : Instruction) → has_right_operands c i ≡ true → has_right_operands (upgraded c) i ≡ true
   unfolding has_right_operands
@@ -67,13 +61,10 @@ module _ (c : Code) where
   -- ---- steps
 
   moves_same : (v : Environment) (s : Frame) (i : Instruction) → move_of c v s i ≡ move_of (upgraded c) v s i
-  moves_same v s Halt = refl
-  moves_same v s _ = refl
+  moves_same v s i = grind (arith, common_steps)
 
   leads_same : (from : ℕ) (m : Move) (new : State) → Leads c from m new → Leads (upgraded c) from m new
-  leads_same from (Ends e) new h = h
-  leads_same from (MovesTo s) new h = (record { forward = h.0.forward; within = h.0.within; inside = h.0.inside }, h.1)
-  leads_same from (Returns s) new h = h
+  leads_same from m new h = grind (arith, common_steps)
 
   step_more : (v : Environment) (old new : State) → StepsTo c v old new → StepsTo (upgraded c) v old new
   step_more v (Ended e) new h = h

@@ -1,7 +1,7 @@
 -- Each output of a code whose link texts are URI text is URI text.
-use Rattle.std.proofs.Common.{◌≡◌, ℕ, zero, suc, [], length, true, sym, ap, subst}
-use Rattle.std.specs.Prelude.{slice_get, nat_lt, ◌&&◌}
-use Rattle.std.proofs.lemmas.Bool.{and_parts}
+use Rattle.std.proofs.Common.{arith, ◌≡◌, ℕ, zero, suc, [], true, sym, ap, subst}
+use Rattle.std.proofs.lemmas.Grind.{common_steps}
+use Rattle.std.specs.Prelude.{slice_get}
 use Rattle.text_model.specs.Texts.{Text}
 use Rattle.text_model.specs.UriText.{IsUriText, nothing}
 use Rattle.text_model.specs.Writing.{written}
@@ -12,7 +12,7 @@ use Rattle.code_model.specs.declared.code.Instruction.{Instruction}
 use Rattle.code_model.specs.declared.code.Instruction.TheVariants.{Emit, Sep}
 use Rattle.text_model.proofs.UriTexts.{IsUriText-append, written-uri}
 use Rattle.machine_model.specs.Operands.{is_link_text, has_right_operands, literal_at, writing_of}
-use Rattle.machine_model.specs.States.{Frame, Link, NoLink, State, Running, Ended}
+use Rattle.machine_model.specs.States.{Frame, Link, NoLink, State}
 use Rattle.machine_model.specs.Step.{Move, Ends, MovesTo, Returns, Does, fail, emit, put_text, cut_text, later_turn, Leads, StepsTo}
 use Rattle.machine_model.specs.Runs.{After}
 use Rattle.machine_model.specs.Safe.{IsFileCode, output_of}
@@ -32,15 +32,11 @@ lead_output c from (Returns s) new h = ap output_of h
 -- EMIT and SEP name link texts
 emit_link : (c : Code) (b : ℕ) → has_right_operands c (Emit b) ≡ true → is_link_text (slice_get c.literals b) ≡ true
 unfolding has_right_operands
-emit_link c b h =
-    let y = and_parts (nat_lt b (length c.literals) && is_link_text (slice_get c.literals b)) true h in
-    (and_parts (nat_lt b (length c.literals)) (is_link_text (slice_get c.literals b)) y.0).1
+emit_link c b h = grind (arith, common_steps)
 
 sep_link : (c : Code) (b : ℕ) → has_right_operands c (Sep b) ≡ true → is_link_text (slice_get c.literals b) ≡ true
 unfolding has_right_operands
-sep_link c b h =
-    let y = and_parts (nat_lt b (length c.literals) && is_link_text (slice_get c.literals b)) true h in
-    (and_parts (nat_lt b (length c.literals)) (is_link_text (slice_get c.literals b)) y.0).1
+sep_link c b h = grind (arith, common_steps)
 
 module _ (c : Code) (v : Environment) where
   -- a move prints only URI text
@@ -55,8 +51,7 @@ module _ (c : Code) (v : Environment) where
   uri_move s _ _ k ok h _ = h
 
   uri_step : (s new : State) → IsFileCode c → IsUriText (output_of s) → StepsTo c v s new → IsUriText (output_of new)
-  uri_step (Ended e) new k h st = absurd st
-  uri_step (Running s) new k h st = subst IsUriText (sym (lead_output c s.place st.2 new st.4)) (uri_move s st.0 st.2 k st.1.right h st.3)
+  uri_step s new k h st = grind (arith, lead_output, uri_move)
 
   -- for any code whose link texts are URI text
   pub uri_after : IsFileCode c → (k : ℕ) (s : State) → After c v k s → IsUriText (output_of s)

@@ -1,47 +1,25 @@
 -- The relations of the machine are decided by its functions, so a run has one course.
-use Rattle.std.proofs.Common.{◌≡◌, ℕ, zero, suc, length, Option, Some, None, true, refl, sym, ap, ◌∙◌, arith}
-use Rattle.std.specs.Prelude.{◌↔◌, option_and_then, nat_lt, nat_le}
+use Rattle.std.proofs.Common.{◌≡◌, ℕ, zero, suc, Option, Some, None, refl, sym, ap, ◌∙◌, arith}
+use Rattle.std.specs.Prelude.{◌↔◌, option_and_then}
 use Rattle.std.proofs.lemmas.Grind.{common_steps}
-use Rattle.std.proofs.lemmas.Bool.{lt-ltb, le-leb, ltb-true, leb-true, and_parts, and_from}
 use Rattle.std.proofs.lemmas.Option.{same_Some}
 use Rattle.environment_model.specs.Environment.{Environment}
 use Rattle.code_model.specs.Code.{Code}
 use Rattle.code_model.specs.declared.code.Instruction.{Instruction}
 use Rattle.machine_model.specs.Operands.{Reads}
-use Rattle.machine_model.specs.States.{Loop, Frame, State, Running, Ended}
-use Rattle.machine_model.specs.Step.{Move, Ends, MovesTo, Returns, IsInside, IsOnward, Leads, StepsTo}
+use Rattle.machine_model.specs.States.{Frame, State, Running, Ended}
+use Rattle.machine_model.specs.Step.{Move, Leads, StepsTo}
 use Rattle.machine_model.specs.Runs.{After}
-use Rattle.machine_model.specs.Next.{instruction_at, move_of, is_inside, is_onward, judged, next_state, state_after}
+use Rattle.machine_model.specs.Next.{instruction_at, move_of, judged, next_state, state_after}
 use Rattle.machine_model.proofs.Moves.{move_of-does, does-move_of}
 use Rattle.machine_model.proofs.Readings.{Reads-instruction_at, instruction_at-Reads}
 
-inside_test : (l : Option Loop) (p : ℕ) → IsInside l p → is_inside l p ≡ true
-inside_test None p h = refl
-inside_test (Some l) p h = and_from (nat_le l.start p) (nat_lt p l.end) (le-leb l.start p h.0) (lt-ltb p l.end h.1)
-
-inside_from : (l : Option Loop) (p : ℕ) → is_inside l p ≡ true → IsInside l p
-inside_from None p h = tt
-inside_from (Some l) p h = let parts = and_parts (nat_le l.start p) (nat_lt p l.end) h in (leb-true l.start p parts.0, ltb-true p l.end parts.1)
-
 module _ (c : Code) (from : ℕ) where
-  onward_test : (s : Frame) → IsOnward c from s → is_onward c from s ≡ true
-  onward_test s h = rw (lt-ltb from s.place h.forward, lt-ltb s.place (length c.instrs) h.within) (inside_test s.loop s.place h.inside)
-
-  onward_from : (s : Frame) → is_onward c from s ≡ true → IsOnward c from s
-  onward_from s h =
-      let forward = and_parts (nat_lt from s.place) _ h in
-      let within = and_parts (nat_lt s.place (length c.instrs)) _ forward.1 in
-      record { forward = ltb-true from s.place forward.0; within = ltb-true s.place (length c.instrs) within.0; inside = inside_from s.loop s.place within.1 }
-
   Leads-judged : (m : Move) (new : State) → Leads c from m new → judged c from m ≡ Some new
-  Leads-judged (Ends e) new h = ap Some (sym h)
-  Leads-judged (MovesTo s) new h = rw (onward_test s h.0) (ap Some (sym h.1))
-  Leads-judged (Returns s) new h = ap Some (sym h)
+  Leads-judged m new h = grind (arith, common_steps)
 
   judged-Leads : (m : Move) (new : State) → judged c from m ≡ Some new → Leads c from m new
-  judged-Leads (Ends e) new h = sym (same_Some _ _ h)
-  judged-Leads (MovesTo s) new h = grind (arith, common_steps)
-  judged-Leads (Returns s) new h = sym (same_Some _ _ h)
+  judged-Leads m new h = grind (arith, common_steps)
 
 module _ (c : Code) (v : Environment) where
   pub StepsTo-next_state : (old new : State) → StepsTo c v old new → next_state c v old ≡ Some new

@@ -3,6 +3,7 @@ use Rattle.std.proofs.Common.{◌≡◌, ℕ, zero, suc, ◌<◌, ◌≤◌, len
 use Rattle.std.specs.Prelude.{◌↔◌}
 use Rattle.std.proofs.lemmas.Bool.{cases_lt}
 use Rattle.std.proofs.lemmas.Option.{slice_get_past}
+use Rattle.std.proofs.lemmas.Grind.{common_steps}
 use Rattle.code_model.specs.Code.{Code}
 use Rattle.machine_model.specs.First.{located, or_else, first_below}
 use Rattle.machine_model.specs.Form.{fault_in, fault_at, HasGoodForm, first_form_fault}
@@ -14,8 +15,7 @@ both_none None b h = (refl, h)
 both_none (Some x) b h = absurd (cc)
 
 located_none : {X : Type 0} (p : ℕ) (o : Option X) → located p o ≡ None → o ≡ None
-located_none p None h = refl
-located_none p (Some x) h = absurd (cc)
+located_none p h h2 = grind (arith, common_steps)
 
 pub none_below : {X : Type 0} (f : ℕ → Option X) (n : ℕ) → first_below f n ≡ None → (p : ℕ) → p < n → f p ≡ None
 unfolding first_below

@@ -29,12 +29,7 @@ kind_le_trans NumberKind NumberKind NumberKind e f = refl
 kind_le_trans _ _ _ e f = cc
 
 kind_le_antisym : (k m : Kind) → kind_le k m ≡ true → kind_le m k ≡ true → k ≡ m
-kind_le_antisym Any Any e f = refl
-kind_le_antisym OptText OptText e f = refl
-kind_le_antisym TextKind TextKind e f = refl
-kind_le_antisym ListKind ListKind e f = refl
-kind_le_antisym NumberKind NumberKind e f = refl
-kind_le_antisym _ _ e f = absurd (cc)
+kind_le_antisym k m e f = grind (arith, common_steps)
 
 pub kind_le-join_left : (k m : Kind) → kind_le k (kind_join k m) ≡ true
 kind_le-join_left Any Any = refl

@@ -123,10 +123,7 @@ pub escaped_more : (whole t rest next : Text) (c : ℕ) (waits : Bool) → is_sp
     → rest ≡ encode_utf8 c ++ next
     → whole ≡ escaped (t ++ encode_utf8 c) ++ next
 escaped_more whole t rest next c true s w r = grind (arith, encode_ascii, special_is_ascii, escaped_special, escaped-append, append_assoc)
-escaped_more whole t rest next c false s w r =
-    let plain : escaped (encode_utf8 c) ≡ encode_utf8 c = escaped_plain_text (encode_utf8 c) (plain_bytes c s) in
-    let both : escaped (t ++ encode_utf8 c) ≡ escaped t ++ encode_utf8 c = escaped-append t (encode_utf8 c) ∙ ap (λ u. escaped t ++ u) plain in
-    w ∙ rw (r, both, append_assoc (escaped t) (encode_utf8 c) next) refl
+escaped_more whole t rest next c false s w r = grind (arith, escaped_plain_text, plain_bytes, escaped-append, append_assoc)
 
 -- no escaped text begins with the next character
 pub not_escaped : (whole t rest next : Text) (c : ℕ) (waits : Bool) → (is_special c ≡ waits → ⊥) → (c ≡ 92 → ⊥) → whole ≡ escaped t ++ waiting waits rest
@@ -148,10 +145,7 @@ pub not_escaped_at_end : (whole t rest : Text) (waits : Bool) → waits ≡ true
     → whole ≡ escaped u → ⊥
 not_escaped_at_end whole t (b ∷ rest) waits x l w u e = absurd (omega (arith, l))
 not_escaped_at_end whole t [] false x l w u e = cc
-not_escaped_at_end whole t [] true x l w u e =
-    let tail = escaped_rest u t (92 ∷ []) (sym e ∙ w) in
-    let following = after_backslash tail.0 [] tail.1 in
-    not_empty following.0 following.1 following.2
+not_escaped_at_end whole t [] true x l w u e = grind (arith, escaped_rest, after_backslash, not_empty)
 
 -- ---- a test whether two Booleans are equal
 

@@ -1,7 +1,8 @@
 -- The lines of rules have no error, and other lines have one first error.
 
-use Rattle.std.proofs.Common.{◌≡◌, ℕ, List, [], ◌∷◌, true, false, None, ◌⊎◌, inl, inr, is_some, is_none, ◌&&◌, ◌==◌, length, refl, ap, subst, sym, ◌∙◌, arith}
+use Rattle.std.proofs.Common.{◌≡◌, ℕ, List, [], ◌∷◌, true, false, None, ◌⊎◌, inl, inr, refl, ap, subst, sym, ◌∙◌, arith}
 use Rattle.std.proofs.lemmas.Bool.{both_ways}
+use Rattle.std.proofs.lemmas.Grind.{common_steps}
 use Rattle.text_model.specs.Texts.{Text}
 use Rattle.uri_grammar.specs.declared.parts.Part.{Part}
 use Rattle.uri_grammar.specs.declared.error.TemplateErrorKind.{TemplateErrorKind}
@@ -34,10 +35,7 @@ complete_is_sound rules s = record { whole = s; guards = tt }
 -- ---- statements that follow
 
 follows_is_statement : (b : RulesSoFar) (s : Statement) (c : RulesSoFar) → Follows b s c → IsStatement s
-follows_is_statement b (Declare name) c p = p.2
-follows_is_statement b Begin c p = tt
-follows_is_statement b (When g) c p = p.2.tokens
-follows_is_statement b (Link text) c p = tt
+follows_is_statement b s c p = grind (arith, common_steps)
 
 runs_are_statements : (b : RulesSoFar) (ss : List Statement) (c : RulesSoFar) → Runs b ss c → AreStatements ss
 runs_are_statements b [] c p = tt
@@ -47,11 +45,7 @@ pub so_far_are_statements : (b : RulesSoFar) → AreSoundSoFar b → AreStatemen
 so_far_are_statements b s = runs_are_statements no_rules (statements_so_far b) b (so_far_runs b s)
 
 follows_in_order : (b : RulesSoFar) (s : Statement) (c : RulesSoFar) → Follows b s c → is_in_order b s ≡ true
-follows_in_order b (Declare name) c p =
-    ap (λ o. is_none o && length b.whole.rules == 0) p.0 ∙ ap (λ rules. length rules == 0) p.1
-follows_in_order b Begin c p = refl
-follows_in_order b (When g) c p = ap is_some p.1
-follows_in_order b (Link text) c p = ap is_some p.in_rule
+follows_in_order b s c p = grind (arith, common_steps)
 
 -- ---- what is wrong with a line, by its statement
 
@@ -89,10 +83,7 @@ content_same tree none fault b (Link text) k other (inr p) (inl q) = absurd (non
 content_same tree none fault b (Link text) k other (inr p) (inr q) = p.3 ∙ sym q.3
 
 bad_same : OneTree → NoFault → OneFault → (b : RulesSoFar) (s : Statement) (k other : RuleErrorKind) → IsBad b s k → IsBad b s other → k ≡ other
-bad_same tree none fault b s k other (inl p) (inl q) = p.1 ∙ sym q.1
-bad_same tree none fault b s k other (inl p) (inr q) = absurd (both_ways (is_in_order b s) p.0 q.0)
-bad_same tree none fault b s k other (inr p) (inl q) = absurd (both_ways (is_in_order b s) q.0 p.0)
-bad_same tree none fault b s k other (inr p) (inr q) = content_same tree none fault b s k other p.1 q.1
+bad_same tree none fault b s k other h h2 = grind (arith, both_ways, content_same)
 
 pub bad_text_same : OneTree → NoFault → OneFault → (b : RulesSoFar) (line : Text) (k other : RuleErrorKind) → IsBadText b line k → IsBadText b line other
     → k ≡ other
@@ -124,8 +115,7 @@ pub begin_is_not_faulty : (b : RulesSoFar) (line : Text) (k : RuleErrorKind) →
 begin_is_not_faulty b line k fault e = refuted (bad_text b line k fault)
   where
     no_bad_begin : IsBad b Begin k → ⊥
-    no_bad_begin (inl p) = both_ways true p.0 refl
-    no_bad_begin (inr p) = p.1
+    no_bad_begin h = grind (arith, common_steps)
 
     refuted : IsBadText b line k → ⊥
     refuted (inl p) = p.0 Begin tt e

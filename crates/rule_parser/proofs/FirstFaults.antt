@@ -3,6 +3,7 @@
 use Rattle.std.proofs.Common.{◌≡◌, ℕ, List, [], ◌∷◌, ◌++◌, Some, None, ◌⊎◌, inl, inr, map, length, refl, ap, subst, sym, ◌∙◌, arith}
 use Rattle.std.specs.Str.Lines.{lines}
 use Rattle.std.proofs.lemmas.List.{append-nil}
+use Rattle.std.proofs.lemmas.Grind.{common_steps}
 use Rattle.text_model.specs.Texts.{Text}
 use Rattle.text_model.proofs.Lists.{same_parts}
 use Rattle.rule_parser.specs.declared.error.RuleErrorKind.{RuleErrorKind}
@@ -22,15 +23,10 @@ use Rattle.rule_parser.proofs.FaultLaws.{faulty_is_no_next, so_far_are_statement
 extends_not : OneTree → NoFault → (b c : RulesSoFar) (line : Text) (k : RuleErrorKind) (rest : List Text) → AreSoundSoFar b → AreSoundSoFar c
     → IsLineFault b line k
     → HasNext (statements_so_far b) (statements_so_far c) (line ∷ rest) → ⊥
-extends_not tree none b c line k rest s t fault n =
-    let next = continues tree b c n.next n.more s t n.continues in
-    faulty_is_no_next tree none b line k n.next next.0 fault n.is_statement (same_parts line (line_of n.next) rest n.rest n.spelled).0 next.1
+extends_not tree none b c line k rest s t fault n = grind (arith, continues, faulty_is_no_next, same_parts)
 
 nothing_next : (ss ts : List Statement) → HasNext ss ts [] → ⊥
-nothing_next ss ts n = no_lines (line_of n.next) n.rest n.spelled
-  where
-    no_lines : (x : Text) (xs : List Text) → [] ≡ x ∷ xs → ⊥
-    no_lines x xs e = cc
+nothing_next ss ts n = grind (arith, common_steps)
 
 -- while a rule has no link, no other rule can begin
 open_not_extended : OneTree → (whole : RuleSet) (guards : List Guard) (c : RulesSoFar) (rest : List Text)
@@ -75,10 +71,7 @@ abbrev open_rule : RuleSet → List Guard → RulesSoFar
 open_rule whole guards = record { whole = whole; guards = Some guards }
 
 not_complete : (whole : RuleSet) (guards : List Guard) (rules : RuleSet) → open_rule whole guards ≡ complete rules → ⊥
-not_complete whole guards rules e = not_none (ap (λ (b : RulesSoFar). b.guards) e)
-  where
-    not_none : Some guards ≡ None → ⊥
-    not_none x = cc
+not_complete whole guards rules e = grind (arith, common_steps)
 
 -- the lines of rules have no first error
 rules_have_no_fault : OneTree → NoFault → (ls : List Text) (rules : RuleSet) (k : RuleErrorKind) (at : ℕ) → IsSound rules

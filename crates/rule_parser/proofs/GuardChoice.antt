@@ -34,9 +34,7 @@ front_choice (x ∷ front) (y ∷ text) = by_case (cases_eq y x) (front_choice f
   where
     by_case : (y ≡ x) ⊎ (y ≡ x → ⊥) → ((rest : Text) × (text ≡ front ++ rest)) ⊎ ((rest : Text) → text ≢ front ++ rest)
         → ((rest : Text) × (y ∷ text ≡ x ∷ front ++ rest)) ⊎ ((rest : Text) → y ∷ text ≢ x ∷ front ++ rest)
-    by_case (inl e) (inl r) = inl (r.0, ap (λ b. b ∷ text) e ∙ ap (λ t. x ∷ t) r.1)
-    by_case (inl e) (inr n) = inr (λ rest s. n rest (cc))
-    by_case (inr d) c = inr (λ rest s. d (cc))
+    by_case h c = grind (arith, common_steps)
 
 -- a byte ends a text, or it does not
 end_choice : (c : ℕ) (text : Text) → ((front : Text) × (text ≡ front ++ c ∷ [])) ⊎ ((front : Text) → text ≢ front ++ c ∷ [])
@@ -47,11 +45,7 @@ end_choice c (b ∷ text) = by_case text (cases_eq b c) (end_choice c text)
         → ((front : Text) × (b ∷ t ≡ front ++ c ∷ [])) ⊎ ((front : Text) → b ∷ t ≢ front ++ c ∷ [])
     by_case t d (inl r) = inl (b ∷ r.0, ap (λ s. b ∷ s) r.1)
     by_case [] (inl e) (inr n) = inl ([], ap (λ x. x ∷ []) e)
-    by_case [] (inr d) (inr n) = inr refuted
-      where
-        refuted : (front : Text) → b ∷ [] ≢ front ++ c ∷ []
-        refuted [] e = d (cc)
-        refuted (x ∷ front) e = n front (cc)
+    by_case [] (inr d) (inr n) = grind (arith, common_steps)
     by_case (y ∷ t) d (inr n) = inr refuted
       where
         refuted : (front : Text) → b ∷ y ∷ t ≢ front ++ c ∷ []
@@ -90,10 +84,7 @@ special_more b t s (None, n) = (
 )
 
 no_special : (b : ℕ) (t : Text) → is_special b ≡ false → (v : Text) → 92 ∷ b ∷ t ≡ escaped v → ⊥
-no_special b t p v e =
-    let following = after_backslash v (b ∷ t) (sym e) in
-    let first : b ≡ following.0 = cc (following.2) in
-    both_ways (is_special b) p (ap is_special first ∙ following.3)
+no_special b t p v e = grind (arith, after_backslash, both_ways)
 
 no_end : (v : Text) → 92 ∷ [] ≡ escaped v → ⊥
 no_end v e = let following = after_backslash v [] (sym e) in let none : [] ≡ following.0 ∷ following.1 = following.2 in cc

@@ -2,7 +2,7 @@
 use Rattle.std.proofs.Common.{◌≡◌, ◌≢◌, ◌≤◌, [], ◌∷◌, ◌++◌, true, false, Option, Some, None, Result, Ok, Err, IfOk, length, refl, sym, codes, rules, arith}
 use Rattle.std.specs.List.{list_all}
 use Rattle.std.specs.Char.{is_ascii_digit}
-use Rattle.std.proofs.lemmas.List.{append_cancel_right}
+use Rattle.std.proofs.lemmas.Grind.{common_steps}
 use Rattle.text_model.specs.Texts.{Text}
 use Rattle.uri_grammar.specs.Names.{IsName}
 use Rattle.rule_parser.specs.declared.rule.Bound.{Bound}
@@ -17,9 +17,7 @@ use Rattle.rule_parser.proofs.TokenLemmas.{token_split, no_space, name_is_token,
 -- ---- quoted texts
 
 pub quoted_reads : (value rest e : Text) (read : Option Text) → value ≡ 34 ∷ rest → rest ≡ e ++ 34 ∷ [] → ReadsEscaped e read → ReadsQuoted value read
-quoted_reads value rest e None v r h = λ t q.
-    let tails : e ++ 34 ∷ [] ≡ escaped t ++ 34 ∷ [] = cc in
-    h t (append_cancel_right e (escaped t) (34 ∷ []) tails)
+quoted_reads value rest e None v r h = grind (arith, common_steps)
 quoted_reads value rest e (Some t) v r h = rw (v, r, h) refl
 
 pub not_quoted : (value : Text) → ((rest : Text) → value ≢ 34 ∷ rest) → (t : Text) → value ≡ quoted t → ⊥
@@ -154,13 +152,7 @@ pub no_compared_guard : (name verb value : Text) → IsToken name → IsToken ve
 no_compared_guard name verb value w v no_is no_holds no_from no_counts' g h e = refuted g (compared_tokens name verb value w v g h e)
   where
     refuted : (g : Guard) → IsCompared name verb value g → ⊥
-    refuted (guard.Has n) p = p
-    refuted (guard.Lacks n) p = p
-    refuted (guard.Given n) p = p
-    refuted (guard.Same n t) p = no_is p.0 p.1 t p.2
-    refuted (guard.Holds n t) p = no_holds p.0 p.1 t p.2
-    refuted (guard.Between n low high) p = no_from p.0 p.1 low high p.2 p.3
-    refuted (guard.Counts n low high) p = no_counts' p.0 p.1 low high p.2 p.3
+    refuted g p = grind (arith, common_steps)
 
 pub no_same : (name value : Text) → IsName name → ReadsQuoted value None → ReadsGuard (name ++ (codes " is " ++ value)) None
 no_same name value n h =

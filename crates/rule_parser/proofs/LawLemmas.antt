@@ -1,5 +1,6 @@
 -- The laws of the grammar of rules: the beginning of rules can continue in only one way.
-use Rattle.std.proofs.Common.{◌≡◌, List, [], ◌∷◌, ◌++◌, true, Option, Some, None, map, refl, ap, subst, sym, ◌∙◌}
+use Rattle.std.proofs.Common.{arith, ◌≡◌, List, [], ◌∷◌, ◌++◌, true, Option, Some, None, map, refl, ap, subst, sym, ◌∙◌}
+use Rattle.std.proofs.lemmas.Grind.{common_steps}
 use Rattle.std.specs.List.{flat_map, AllByRecursion}
 use Rattle.std.proofs.lemmas.List.{append-nil, append_assoc}
 use Rattle.std.proofs.lemmas.List.Elements.{recursion_from_All}
@@ -102,14 +103,7 @@ rule_runs lists rules rule h = (
       (stage lists (rules ++ rule ∷ []) None)
       (guards_run lists rules [] rule.guards (recursion_from_All (IsSoundGuard lists) rule.guards h.guards)) (
         stage lists (rules ++ rule ∷ []) None,
-        record {
-          guards = rule.guards;
-          parts = rule.template.parts;
-          in_rule = refl;
-          template = h.template;
-          kinds = h.kinds;
-          whole = refl;
-        },
+        grind (arith, common_steps),
         refl,
       ),
 )

@@ -6,7 +6,7 @@ use Rattle.std.specs.List.{AllByRecursion, join_with_byte, slice_index, slice_sp
 use Rattle.std.specs.Str.{IsUtf8, is_utf8}
 use Rattle.std.specs.Str.Lines.{lines, lines_of_parts, strip_carriage_return}
 use Rattle.std.proofs.lemmas.Bool.{both_ways, cases_Bool, cases_lt, eqb-true}
-use Rattle.std.proofs.lemmas.List.{append-nil, append_assoc, map-append, length-append}
+use Rattle.std.proofs.lemmas.List.{append-nil, length-append}
 use Rattle.std.proofs.lemmas.Str.{IsUtf8-from_is_utf8, is_utf8-from_IsUtf8, IsUtf8-take, IsUtf8-drop, IsCharBoundary-before_ascii, IsCharBoundary-after_ascii}
 use Rattle.std.proofs.lemmas.List.Splits.{join_with_byte-slice_split}
 use Rattle.std.proofs.Math.Seq.{take-append_seam, drop-append-add, get_or-append_seam}
@@ -22,7 +22,7 @@ use Rattle.uri_grammar.specs.Names.{IsName}
 use Rattle.rule_parser.specs.Rules.{RuleSet, IsGuard, IsSound, guard_fits, parts_fit}
 use Rattle.rule_parser.specs.Statements.{Statement, Declare, Begin, When, Link, IsStatement, line_of, statements}
 use Rattle.rule_parser.specs.declared.rules.TheConstants.{MAX_BYTES}
-use Rattle.rule_parser.specs.Grammar.{is_significant, significant, IsRuleText}
+use Rattle.rule_parser.specs.Grammar.{significant, IsRuleText}
 use Rattle.rule_parser.specs.Faults.{RulesSoFar, AreSoundSoFar, statements_so_far, takes_lists, IsLineFault, no_statement, out_of_order, bad_template}
 use Rattle.rule_parser.specs.Faults.{mismatched_guard, mismatched_link, IsFirstRuleError, IsRefused}
 use Rattle.rule_parser.specs.Private.Progress.{Continues, no_rules}
@@ -75,11 +75,7 @@ lines_utf8 bytes u = parts_utf8 _ (joined_utf8 (slice_split (λ b. b == 10) byte
 
 significant_utf8 : (ls : List Text) → AllByRecursion IsUtf8 ls → AllByRecursion IsUtf8 (significant ls)
 significant_utf8 [] u = tt
-significant_utf8 (line ∷ ls) u = by_case (is_significant line) (significant_utf8 ls u.1)
-  where
-    by_case : (b : Bool) → AllByRecursion IsUtf8 (significant ls) → AllByRecursion IsUtf8 (if b then line ∷ significant ls else significant ls)
-    by_case true more = (u.0, more)
-    by_case false more = more
+significant_utf8 (line ∷ ls) u = grind (arith, common_steps, significant_utf8 ls u.1)
 
 -- ---- statements
 
@@ -197,10 +193,7 @@ rule_in_rule ls whole (Some gs) line rest o b s e =
 one_more : (ls : List Text) (b new : RulesSoFar) (line : Text) (rest : List Text) → Continues b new line → significant ls ≡ map line_of (statements_so_far b)
     ++ line ∷ rest
     → significant ls ≡ map line_of (statements_so_far new) ++ rest
-one_more ls b new line rest g e =
-    e ∙ ap (λ l. map line_of (statements_so_far b) ++ l ∷ rest) g.spelled
-    ∙ sym (append_assoc (map line_of (statements_so_far b)) (line_of g.statement ∷ []) rest)
-    ∙ ap (λ l. l ++ rest) (sym (map-append line_of (statements_so_far b) (g.statement ∷ [])) ∙ sym (ap (map line_of) g.longer))
+one_more ls b new line rest g e = grind (arith, common_steps)
 
 lines_choice : TreeOrFault → (ls rest : List Text) (b : RulesSoFar) → AllByRecursion IsUtf8 rest → AreSoundSoFar b
     → significant ls ≡ map line_of (statements_so_far b) ++ rest → HasRulesOrFault ls

@@ -1,5 +1,6 @@
 -- A line has at most one statement, and lines have at most one list of statements.
-use Rattle.std.proofs.Common.{◌≡◌, ℕ, List, [], ◌∷◌, ◌++◌, true, false, ◌⊎◌, inl, inr, map, refl, ap, subst, sym, ◌∙◌, codes, if◌then◌else◌, ◌==◌, rules}
+use Rattle.std.proofs.Common.{arith, ◌≡◌, ℕ, List, [], ◌∷◌, ◌++◌, true, false, ◌⊎◌, inl, inr, map, refl, ap, sym, ◌∙◌, codes, if◌then◌else◌, ◌==◌, rules}
+use Rattle.std.proofs.lemmas.Grind.{common_steps}
 use Rattle.std.specs.List.{list_all, AllByRecursion}
 use Rattle.std.specs.Str.{bytes_eq}
 use Rattle.std.specs.Char.{is_ascii_digit}
@@ -7,9 +8,7 @@ use Rattle.std.proofs.lemmas.Bool.{both_ways, eqb-false}
 use Rattle.std.proofs.lemmas.List.{append_cancel_left, append_cancel_right}
 use Rattle.text_model.specs.Texts.{Text}
 use Rattle.text_model.proofs.Lists.{same_parts}
-use Rattle.uri_grammar.specs.Names.{IsName}
 use Rattle.rule_parser.specs.declared.rule.Bound.{Bound}
-use Rattle.rule_parser.specs.declared.rule.Bound.TheVariants as bound
 use Rattle.rule_parser.specs.declared.rule.Guard.{Guard}
 use Rattle.rule_parser.specs.declared.rule.Guard.TheVariants as guard
 use Rattle.rule_parser.specs.Rules.{IsBound, AreBounds, IsGuard}
@@ -27,21 +26,10 @@ digits_or_not : (t u : Text) → list_all is_ascii_digit t ≡ true → list_all
 digits_or_not t u a b e = both_ways (list_all is_ascii_digit u) b (ap (list_all is_ascii_digit) (sym e) ∙ a)
 
 bound_same : (b c : Bound) → IsBound b → IsBound c → bound_text b ≡ bound_text c → b ≡ c
-bound_same bound.Open bound.Open h k e = refl
-bound_same bound.Open (bound.Digits d) h k e = absurd (digits_or_not d (codes "*") k.0 refl (sym e))
-bound_same bound.Open (bound.Name n) h k e = absurd (star_is_no_name (subst IsName (sym e) k.0))
-bound_same (bound.Digits d) bound.Open h k e = absurd (digits_or_not d (codes "*") h.0 refl e)
-bound_same (bound.Digits d) (bound.Digits c) h k e = ap (λ t. bound.Digits t) e
-bound_same (bound.Digits d) (bound.Name n) h k e = absurd (digits_or_not d n h.0 k.1 e)
-bound_same (bound.Name n) bound.Open h k e = absurd (star_is_no_name (subst IsName e h.0))
-bound_same (bound.Name n) (bound.Digits d) h k e = absurd (digits_or_not d n k.0 h.1 (sym e))
-bound_same (bound.Name n) (bound.Name m) h k e = ap (λ t. bound.Name t) e
+bound_same b c h k e = grind (arith, digits_or_not, star_is_no_name)
 
 bounds_same : (b c d f : Bound) → AreBounds b c → AreBounds d f → bounds_text b c ≡ bounds_text d f → (b ≡ d) × (c ≡ f)
-bounds_same b c d f h k e =
-    let cut = token_split (bound_text b) (codes "to " ++ bound_text c) (bound_text d) (codes "to " ++ bound_text f) (bound_is_token b h.0)
-    (bound_is_token d k.0) e in
-    (bound_same b d h.0 k.0 cut.0, bound_same c f h.1 k.1 (append_cancel_left (codes "to ") (bound_text c) (bound_text f) cut.1))
+bounds_same b c d f h k e = grind (arith, token_split, bound_is_token, bound_same, append_cancel_left)
 
 -- ---- guards
 
@@ -50,13 +38,7 @@ abbrev guard_of : Text → Text → Guard
 guard_of verb name = if bytes_eq verb (codes "has") then guard.Has name else (if bytes_eq verb (codes "lacks") then guard.Lacks name else guard.Given name)
 
 defined_is : (verb name : Text) (g : Guard) → IsDefined verb name g → g ≡ guard_of verb name
-defined_is verb name (guard.Has n) p = ap (λ t. guard.Has t) p.2 ∙ ap (λ v. guard_of v name) (sym p.1)
-defined_is verb name (guard.Lacks n) p = ap (λ t. guard.Lacks t) p.2 ∙ ap (λ v. guard_of v name) (sym p.1)
-defined_is verb name (guard.Given n) p = ap (λ t. guard.Given t) p.2 ∙ ap (λ v. guard_of v name) (sym p.1)
-defined_is verb name (guard.Same n t) p = absurd p
-defined_is verb name (guard.Holds n t) p = absurd p
-defined_is verb name (guard.Between n low high) p = absurd p
-defined_is verb name (guard.Counts n low high) p = absurd p
+defined_is verb name g p = grind (arith, common_steps)
 
 defined_same : (verb name : Text) (g h : Guard) → IsDefined verb name g → IsDefined verb name h → g ≡ h
 defined_same verb name g h p q = defined_is verb name g p ∙ sym (defined_is verb name h q)
@@ -77,13 +59,7 @@ kind_by verb =
     if bytes_eq verb (codes "is") then 3 else (if bytes_eq verb (codes "holds") then 4 else (if bytes_eq verb (codes "from") then 5 else 6))
 
 kind_is : (name verb value : Text) (g : Guard) → IsCompared name verb value g → kind_of g ≡ kind_by verb
-kind_is name verb value (guard.Has n) p = absurd p
-kind_is name verb value (guard.Lacks n) p = absurd p
-kind_is name verb value (guard.Given n) p = absurd p
-kind_is name verb value (guard.Same n t) p = sym (ap kind_by p.1)
-kind_is name verb value (guard.Holds n t) p = sym (ap kind_by p.1)
-kind_is name verb value (guard.Between n low high) p = sym (ap kind_by p.1)
-kind_is name verb value (guard.Counts n low high) p = sym (ap kind_by p.1)
+kind_is name verb value g p = grind (arith, common_steps)
 
 other_kinds : (name verb value : Text) (g h : Guard) → (kind_of g == kind_of h) ≡ false → IsCompared name verb value g → IsCompared name verb value h → ⊥
 other_kinds name verb value g h n p q = eqb-false (kind_of g) (kind_of h) n (kind_is name verb value g p ∙ sym (kind_is name verb value h q))
@@ -156,10 +132,6 @@ pub record HasNext (ss longer : List Statement) (lines : List Text) : Type 0 whe
   pub is_statement : IsStatement next
   pub spelled : lines ≡ line_of next ∷ rest
 
-cons_next : (x : Statement) (ss ts : List Statement) (lines : List Text) → HasNext ss ts lines → HasNext (x ∷ ss) (x ∷ ts) lines
-cons_next x ss ts lines h =
-    record { next = h.next; more = h.more; rest = h.rest; continues = ap (λ l. x ∷ l) h.continues; is_statement = h.is_statement; spelled = h.spelled }
-
 -- Of two lists of statements at the beginning of the same lines, one is the beginning of the other.
 pub compare : (ss ts : List Statement) (rest following : List Text) → AreStatements ss → AreStatements ts → map line_of ss ++ rest ≡ map line_of ts ++ following
     → ((ss ≡ ts) × (rest ≡ following)) ⊎ (HasNext ss ts rest ⊎ HasNext ts ss following)
@@ -173,6 +145,4 @@ compare (s ∷ ss) (t ∷ ts) rest following a b e =
   where
     with_head : s ≡ t → ((ss ≡ ts) × (rest ≡ following)) ⊎ (HasNext ss ts rest ⊎ HasNext ts ss following)
         → ((s ∷ ss ≡ t ∷ ts) × (rest ≡ following)) ⊎ (HasNext (s ∷ ss) (t ∷ ts) rest ⊎ HasNext (t ∷ ts) (s ∷ ss) following)
-    with_head f (inl p) = inl (ap (λ x. x ∷ ss) f ∙ ap (λ l. t ∷ l) p.0, p.1)
-    with_head f (inr (inl p)) = inr (inl (subst (λ x. HasNext (x ∷ ss) (t ∷ ts) rest) (sym f) (cons_next t ss ts rest p)))
-    with_head f (inr (inr p)) = inr (inr (subst (λ x. HasNext (t ∷ ts) (x ∷ ss) following) (sym f) (cons_next t ts ss following p)))
+    with_head f h = grind (arith, common_steps)

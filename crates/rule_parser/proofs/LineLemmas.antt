@@ -1,5 +1,5 @@
 -- Lines that were read.
-use Rattle.std.proofs.Common.{◌≡◌, ℕ, ◌+◌, ◌<◌, ◌≤◌, zero, suc, List, [], ◌∷◌, ◌++◌, true, false, Option, Some, None, IfSome, Result, Ok, Err, IfOk, IfErr, Bor}
+use Rattle.std.proofs.Common.{◌≡◌, ℕ, ◌+◌, ◌<◌, ◌≤◌, zero, suc, List, [], ◌∷◌, ◌++◌, true, false, Option, Some, IfSome, Result, Ok, Err, IfOk, IfErr, Bor}
 use Rattle.std.proofs.lemmas.Grind.{common_steps}
 use Rattle.std.proofs.Common.{◌⊎◌, inl, inr, map, length, get_or, take, refl, ap, subst, sym, ◌∙◌, arith}
 use Rattle.std.proofs.lemmas.List.{append-nil, map-append, length-map, take_more, take_all}
@@ -20,8 +20,7 @@ use Rattle.rule_parser.specs.declared.rules.TheConstants.{MAX_BYTES}
 use Rattle.rule_parser.specs.Grammar.{is_significant, significant, IsRuleText}
 use Rattle.rule_parser.specs.Faults.{AreSoundSoFar, statements_so_far, statements_of_guards, IsFirstRuleError, EndsRule, IsRefused}
 use Rattle.rule_parser.specs.Private.Progress.{so_far_of, no_rules, Continues, IsNumbered, KeepsLine, IsStepFault}
-use Rattle.rule_parser.proofs.LineNumbers.{line_number, split_at, significant_around, number_is, line_fault, open_rule}
-use Rattle.rule_parser.proofs.LineNumbers.{first_fault}
+use Rattle.rule_parser.proofs.LineNumbers.{line_number, split_at, significant_around, number_is, line_fault, open_rule, first_fault}
 use Rattle.rule_parser.proofs.ReaderLemmas.{guards_from}
 
 -- ---- lines that were read
@@ -57,11 +56,7 @@ no_link_found : (ls : List Text) (whole : RuleSet) (guards : List Guard) (rule_l
     → rule_line ≡ Some at → k ≡ kind.NoLink → AreSoundSoFar (record { whole = whole; guards = guards_from rule_line guards })
     → significant ls ≡ map line_of (statements whole ++ statements_of_guards (guards_from rule_line guards)) ++ rest → EndsRule rest
     → IfSome rule_line (λ line. line ≡ line_number ls (length (statements whole))) → IsFirstRuleError ls k at
-no_link_found ls whole guards None at k rest a b s e r n = absurd (cc)
-no_link_found ls whole guards (Some l) at k rest a b s e r n =
-    let same : l ≡ at = cc in
-    subst (λ (x : RuleErrorKind). IsFirstRuleError ls x at) (sym b)
-    (subst (IsFirstRuleError ls kind.NoLink) (sym n ∙ same) (first_fault ls _ _ (open_rule ls whole guards rest s e r)))
+no_link_found ls whole guards rule_line at k rest a b s e r n = grind (arith, first_fault, open_rule)
 
 pub line_refused : (ls : List Text) (i : ℕ) (reader : Reader) (line : Text) (e : RuleError) → AreRead ls i reader → i < length ls → get_or ls i line ≡ line
     → is_significant line ≡ true → IsStepFault reader (i + 1) line e → (e ≡ NO_MEMORY) ⊎ IsFirstRuleError ls e.kind e.line

@@ -4,7 +4,6 @@ use Rattle.std.proofs.lemmas.Grind.{common_steps}
 use Rattle.std.proofs.Common.{refl, ap, subst, sym, ◌∙◌, arith}
 use Rattle.std.specs.List.{slice_index}
 use Rattle.std.proofs.lemmas.List.{length-map, length-take, append_assoc, map-append}
-use Rattle.std.proofs.lemmas.List.Elements.{filter-append}
 use Rattle.text_model.specs.Texts.{Text}
 use Rattle.rule_parser.specs.declared.error.RuleErrorKind.{RuleErrorKind}
 use Rattle.rule_parser.specs.declared.error.RuleErrorKind.TheVariants as kind
@@ -15,12 +14,6 @@ use Rattle.rule_parser.specs.Grammar.{is_significant, significant}
 use Rattle.rule_parser.specs.Faults.{RulesSoFar, AreSoundSoFar, statements_so_far, statements_of_guards, EndsRule, IsLineFault, IsFirstRuleError}
 
 -- ---- significant lines
-
-pub significant-append : (xs ys : List Text) → significant (xs ++ ys) ≡ significant xs ++ significant ys
-significant-append xs ys = filter-append is_significant xs ys
-
-pub one_significant : (x : Text) (b : Bool) → is_significant x ≡ b → significant (x ∷ []) ≡ (if b then (x ∷ []) else [])
-one_significant x b e = ap (λ (y : Bool). if y then (x ∷ []) else []) e
 
 -- the numbers of the significant lines, if the first line has this number
 abbrev pub significant_numbers : ℕ → List Text → List ℕ
@@ -41,8 +34,7 @@ number_at n (y ∷ front) rest x e = by_case (is_significant y) (number_at (n + 
     by_case : (b : Bool) → slice_index (significant_numbers (n + 1) (front ++ x ∷ rest)) (length (significant front)) ≡ n + 1 + length front
         → slice_index (if b then (n ∷ significant_numbers (n + 1) (front ++ x ∷ rest)) else significant_numbers (n + 1) (front ++ x ∷ rest))
         (length (if b then (y ∷ significant front) else significant front)) ≡ n + length (y ∷ front)
-    by_case true h = h ∙ omega arith
-    by_case false h = h ∙ omega arith
+    by_case b h = grind (arith, common_steps)
 
 -- the line at an index
 pub split_at : (ls : List Text) (i : ℕ) (line : Text) → i < length ls → get_or ls i line ≡ line → (rest : List Text) × (ls ≡ take i ls ++ line ∷ rest)
@@ -53,17 +45,12 @@ split_at (x ∷ xs) (suc i) line h e = let r = split_at xs i line (omega arith) 
 -- the lines before, one line, and the lines after
 pub significant_around : (ls front rest : List Text) (line : Text) → ls ≡ front ++ line ∷ rest → is_significant line ≡ true
     → significant ls ≡ significant front ++ line ∷ significant rest
-significant_around ls front rest line e h =
-    ap significant e ∙ significant-append front (line ∷ rest)
-    ∙ ap (λ l. significant front ++ l) (ap (λ (y : Bool). if y then (line ∷ significant rest) else significant rest) h)
+significant_around ls front rest line e h = grind (arith, common_steps)
 
 -- the number of a line after those of these statements
 number_after : (ls front following : List Text) (line : Text) (ss : List Statement) → ls ≡ front ++ line ∷ following → is_significant line ≡ true
     → significant front ≡ map line_of ss → line_number ls (length ss) ≡ length front + 1
-number_after ls front following line ss e h s =
-    let count : length (significant front) ≡ length ss = ap length s ∙ length-map ss line_of in
-    ap (λ (l : List Text). line_number l (length ss)) e ∙ sym (ap (λ (k : ℕ). line_number (front ++ line ∷ following) k) count)
-    ∙ number_at 1 front following line h ∙ omega arith
+number_after ls front following line ss e h s = grind (arith, front, length-map, number_at)
 
 -- the number of the line after those that were read
 pub number_is : (ls : List Text) (i : ℕ) (ss : List Statement) (line : Text) → i < length ls → get_or ls i line ≡ line → is_significant line ≡ true
@@ -119,13 +106,11 @@ splits_at (l ∷ ls) before line following e = by_case (is_significant l) refl b
         record { front = []; back = ls; whole = ap (λ x. x ∷ ls) same; before_it = refl; after_it = cc; is_no_comment = sym (ap is_significant same) ∙ h }
     by_case true h (x ∷ front) f next =
         let more = next front (cc) in
-        let same : l ≡ x = cc in
         record {
           front = l ∷ more.front;
           back = more.back;
           whole = ap (λ t. l ∷ t) more.whole;
-          before_it = ap (λ (b : Bool). if b then (l ∷ significant more.front) else significant more.front) h ∙ ap (λ t. l ∷ t) more.before_it
-              ∙ ap (λ y. y ∷ front) same;
+          before_it = grind (arith, common_steps);
           after_it = more.after_it;
           is_no_comment = more.is_no_comment;
         }

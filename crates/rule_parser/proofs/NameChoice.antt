@@ -1,9 +1,8 @@
 -- A text is a name or not: its bytes are read once, keeping track of what may come next.
-use Rattle.std.proofs.Common.{◌≡◌, ◌≢◌, ℕ, [], ◌∷◌, ◌++◌, Bool, true, false, ◌&&◌, ◌==◌, ◌⊎◌, inl, inr, length, fold, if◌then◌else◌, refl, ap, subst, sym, ◌∙◌}
+use Rattle.std.proofs.Common.{◌≡◌, ◌≢◌, ℕ, [], ◌∷◌, ◌++◌, Bool, true, false, ◌==◌, ◌⊎◌, inl, inr, length, fold, if◌then◌else◌, refl, ap, subst, sym, ◌∙◌, arith}
 use Rattle.std.proofs.lemmas.Grind.{common_steps}
-use Rattle.std.proofs.Common.{arith}
 use Rattle.std.specs.Prelude.{nat_le}
-use Rattle.std.proofs.lemmas.Bool.{and_parts, and_from, cases_lt, leb-true, eqb-true, both_ways, cases_Bool}
+use Rattle.std.proofs.lemmas.Bool.{and_parts, and_from, cases_lt, leb-true, eqb-true}
 use Rattle.std.proofs.lemmas.List.{append-nil, append_assoc}
 use Rattle.std.proofs.lemmas.List.Sums.{fold-append}
 use Rattle.text_model.specs.Texts.{Text, is_hexadecimal}
@@ -77,8 +76,7 @@ pub name_from : (text : Text) → is_named (after Wanting text) ≡ true → nat
 name_from text e l = (by_stage (after Wanting text) (text_at_stage text [] Wanting (λ v h. first_varchar v h)) e, leb-true (length text) 255 l)
   where
     by_stage : (stage : Stage) → IsAtStage stage text → is_named stage ≡ true → IsVarname text
-    by_stage Named h f = h
-    by_stage stage h f = absurd (let never : false ≡ true = f in cc)
+    by_stage stage h f = grind (arith, common_steps)
 
 -- ---- a name is accepted
 
@@ -88,13 +86,8 @@ varchar_ends_named v (triplet_varchar c high low h) = grind (arith, common_steps
 
 -- a varchar does not begin with a dot
 varchar_continues : (v : Text) → IsVarchar v → after Named v ≡ after Wanting v
-varchar_continues v (character_varchar c h) = ap (λ x. if x then Wanting else started_by c) no_dot
-  where
-    no_dot : (c == 46) ≡ false
-    no_dot = elim (cases_Bool (c == 46)) [ inl e ↦ absurd (both_ways (is_name_character c) (ap is_name_character (eqb-true c 46 e)) h) | inr e ↦ e ]
-varchar_continues v (triplet_varchar c high low h) =
-    let first : ((c == 37) ≡ true) × ((is_hexadecimal high && is_hexadecimal low) ≡ true) = and_parts _ _ h in
-    ap (λ b. after (step Named b) (high ∷ low ∷ [])) (eqb-true c 37 first.0) ∙ sym (ap (λ b. after (started_by b) (high ∷ low ∷ [])) (eqb-true c 37 first.0))
+varchar_continues v (character_varchar c h) = grind (arith, common_steps)
+varchar_continues v (triplet_varchar c high low h) = grind (arith, and_parts, eqb-true)
 
 name_ends_named : (name : Text) → IsVarname name → after Wanting name ≡ Named
 name_ends_named name (first_varchar v h) = varchar_ends_named v h
@@ -106,8 +99,7 @@ name_ends_named name (dotted_varchar m v h k) =
 -- ---- the choice
 
 stage_choice : (stage : Stage) → (stage ≡ Named) ⊎ (stage ≢ Named)
-stage_choice Named = inl refl
-stage_choice stage = inr (λ e. cc)
+stage_choice stage = grind (arith, common_steps)
 
 pub name_choice : (text : Text) → IsName text ⊎ (IsName text → ⊥)
 name_choice text =

@@ -1,12 +1,12 @@
 -- Texts without those that came before.
-use Rattle.std.proofs.Common.{◌≡◌, ℕ, List, [], ◌∷◌, ◌++◌, Bool, true, false, not, ◌||◌, if◌then◌else◌, inl, inr, map, Bor, length, get_or, take, ◌<◌, ◌+◌}
-use Rattle.std.proofs.Common.{refl, ap, sym, ◌∙◌}
+use Rattle.std.proofs.Common.{arith, ◌≡◌, ℕ, List, [], ◌∷◌, ◌++◌, Bool, true, false, not, ◌||◌, if◌then◌else◌, inl, inr, map, Bor, length, get_or, take, ◌<◌}
+use Rattle.std.proofs.lemmas.Grind.{common_steps}
+use Rattle.std.proofs.Common.{◌+◌, refl, ap, sym, ◌∙◌}
 use Rattle.std.specs.List.{list_any, filter}
 use Rattle.std.specs.Str.{bytes_eq}
 use Rattle.std.specs.Cmp.Lexicographic.{same_text}
 use Rattle.std.proofs.lemmas.Bool.{cases_Bool, or_left, not_from_false}
-use Rattle.std.proofs.lemmas.List.{append-nil, map-append, take_more}
-use Rattle.std.proofs.lemmas.List.Elements.{filter-append}
+use Rattle.std.proofs.lemmas.List.{map-append, take_more}
 use Rattle.std.proofs.lemmas.Map.Views.{any-filter_same}
 use Rattle.text_model.specs.Texts.{Text}
 use Rattle.environment_model.specs.Environment.{is_among}
@@ -36,14 +36,7 @@ each_once-push x (t ∷ ts) =
   where
     by_case : (a b : Bool) → bytes_eq t x ≡ b → (t ∷ filter (others t) (if a then each_once ts else each_once ts ++ x ∷ []))
         ≡ (if b || a then (t ∷ filter (others t) (each_once ts)) else (t ∷ filter (others t) (each_once ts)) ++ x ∷ [])
-    by_case true true e = refl
-    by_case true false e = refl
-    by_case false true e =
-        ap (λ l. t ∷ l) (filter-append (others t) (each_once ts) (x ∷ [])
-        ∙ ap (λ (b : Bool). filter (others t) (each_once ts) ++ (if not b then (x ∷ []) else [])) e ∙ append-nil _)
-    by_case false false e =
-        ap (λ l. t ∷ l) (filter-append (others t) (each_once ts) (x ∷ [])
-        ∙ ap (λ (b : Bool). filter (others t) (each_once ts) ++ (if not b then (x ∷ []) else [])) e)
+    by_case a b e = grind (arith, common_steps)
 
 any_lent : (x : Text) (items : List (Bor Text)) → is_among x (map (λ (y : Bor Text). y.now) items) ≡ list_any (λ (y : Bor Text). bytes_eq y.now x) items
 any_lent x [] = refl
@@ -53,10 +46,7 @@ any_lent x (y ∷ items) = ap (λ b. bytes_eq y.now x || b) (any_lent x items)
 pub once_more : (items : List (Bor Text)) (names : List Text) (x : Text) (b : Bool) → map (λ (y : Bor Text). y.now) items ≡ each_once names
     → list_any (λ (y : Bor Text). bytes_eq y.now x) items ≡ b
     → (if b then map (λ (y : Bor Text). y.now) items else map (λ (y : Bor Text). y.now) items ++ x ∷ []) ≡ each_once (names ++ x ∷ [])
-once_more items names x b e h =
-    let among : is_among x names ≡ b = sym (among_each_once x names) ∙ ap (is_among x) (sym e) ∙ any_lent x items ∙ h in
-    ap (λ (l : List Text). if b then l else l ++ x ∷ []) e ∙ ap (λ (c : Bool). if c then each_once names else each_once names ++ x ∷ []) (sym among)
-    ∙ sym (each_once-push x names)
+once_more items names x b e h = grind (arith, among_each_once, any_lent, each_once-push)
 
 pub lists_more : (items new : List (Bor Text)) (declared : List Text) (i : ℕ) (d : Text) (name : Bor Text) → i < length declared → d ≡ get_or declared i d
     → name.now ≡ d → map (λ (y : Bor Text). y.now) items ≡ each_once (list_names (take i declared))

@@ -1,9 +1,9 @@
 -- How each statement continues the rules of the lines before it, and which lines cannot.
+use Rattle.std.proofs.lemmas.Grind.{common_steps, flat_map-append}
 use Rattle.std.proofs.Common.{◌≡◌, ◌≢◌, ℕ, List, [], ◌∷◌, ◌++◌, true, false, Option, Some, None, ◌⊎◌, inl, inr, is_some, length, arith, refl, ap, subst, sym}
 use Rattle.std.proofs.Common.{codes}
 use Rattle.std.specs.Option.{option_map}
 use Rattle.std.proofs.lemmas.List.{append-nil, append_assoc, map-append, append_cancel_left}
-use Rattle.std.proofs.lemmas.Grind.{flat_map-append}
 use Rattle.std.proofs.lemmas.Bool.{eqb-true}
 use Rattle.std.proofs.lemmas.List.Elements.{All-nil, All-push}
 use Rattle.text_model.specs.Texts.{Text}
@@ -87,10 +87,7 @@ links lists rules (Some l) rule e t k s = record {
 -- ---- lines that are not those of any statement
 
 pub no_list : (name : Text) → (IsName name → ⊥) → (s : Statement) → IsStatement s → codes "list " ++ name ≡ line_of s → ⊥
-no_list name h (Declare n) k e = h (subst IsName (sym (after_token e)) k)
-  where
-    after_token : codes "list " ++ name ≡ codes "list " ++ n → name ≡ n
-    after_token f = append_cancel_left (codes "list ") name n f
+no_list name h (Declare n) k e = grind (arith, common_steps)
 no_list name h Begin k e = other_heads 108 114 _ _ refl e
 no_list name h (When g) k e = other_heads 108 119 _ _ refl e
 no_list name h (Link t) k e = other_heads 115 110 _ _ refl (same_tails 105 105 _ _ (same_tails 108 108 _ _ e))
@@ -136,8 +133,7 @@ pub link_out_of_order : (started : RulesSoFar) (text : Text) → is_some started
 link_out_of_order started text o = out_of_order started (Link text) tt o
 
 no_memory_or_not : (k : TemplateErrorKind) → (k ≡ template_kind.NoMemory) ⊎ (k ≢ template_kind.NoMemory)
-no_memory_or_not template_kind.NoMemory = inl refl
-no_memory_or_not k = inr (λ e. cc)
+no_memory_or_not k = grind (arith, common_steps)
 
 -- an error of a template, unless memory ran out
 pub template_faulty : (r : Reader) (number : ℕ) (text : Text) (t : TemplateError) (e : RuleError) → is_some (so_far_of r).guards ≡ true

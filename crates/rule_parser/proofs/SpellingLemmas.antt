@@ -1,5 +1,5 @@
 -- Texts written character by character, with a backslash before each quote and backslash.
-use Rattle.std.proofs.Common.{◌≡◌, ◌≢◌, ℕ, ◌++◌, refl, ap, sym, ◌∙◌, append_assoc}
+use Rattle.std.proofs.Common.{arith, ◌≡◌, ◌≢◌, ℕ, ◌++◌, refl, append_assoc}
 use Rattle.std.specs.Char.{encode_utf8}
 use Rattle.std.proofs.lemmas.Bool.{ne_eqb}
 use Rattle.text_model.specs.Texts.{Text}
@@ -14,6 +14,4 @@ plain_character c h k = escaped_plain_text (encode_utf8 c) (plain_bytes c (rw (n
 -- one more character
 pub escaped_step : (whole before out rest after : Text) (c : ℕ) → out ++ escaped rest ≡ whole
     → rest ≡ encode_utf8 c ++ after → before ≡ out ++ escaped (encode_utf8 c) → before ++ escaped after ≡ whole
-escaped_step whole before out rest after c so_far next appended =
-    ap (λ (t : Text). t ++ escaped after) appended ∙ append_assoc out (escaped (encode_utf8 c)) (escaped after)
-    ∙ ap (λ (t : Text). out ++ t) (sym (escaped-append (encode_utf8 c) after)) ∙ ap (λ (t : Text). out ++ escaped t) (sym next) ∙ so_far
+escaped_step whole before out rest after c so_far next appended = grind (arith, append_assoc, escaped-append)

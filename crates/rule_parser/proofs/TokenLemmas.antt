@@ -1,5 +1,5 @@
 -- Tokens: texts without a space.
-use Rattle.std.proofs.Common.{◌≡◌, ◌≢◌, ℕ, ◌<◌, List, [], ◌∷◌, ◌++◌, Bool, true, false, ◌&&◌, ◌==◌, length, get_or, refl, ap}
+use Rattle.std.proofs.Common.{arith, ◌≡◌, ◌≢◌, ℕ, ◌<◌, List, [], ◌∷◌, ◌++◌, Bool, true, false, ◌==◌, length, get_or, refl, ap}
 use Rattle.std.specs.List.{AllByRecursion, list_all}
 use Rattle.std.specs.Char.{is_ascii_digit}
 use Rattle.std.proofs.lemmas.Bool.{and_parts, eqb-false}
@@ -35,8 +35,6 @@ token_split (x ∷ xs) ys [] vs a b e = absurd (a.0 (cc))
 token_split (x ∷ xs) ys (u ∷ us) vs a b e =
     let tails : xs ++ 32 ∷ ys ≡ us ++ 32 ∷ vs = cc in
     let r : (xs ≡ us) × (ys ≡ vs) = token_split xs ys us vs a.1 b.1 tails in
-    let heads : x ≡ u = cc in
-    let fronts : xs ≡ us = r.0 in
     (cc, r.1)
 
 pub no_space : (t us vs : List ℕ) → IsToken t → t ≡ us ++ 32 ∷ vs → ⊥
@@ -64,10 +62,7 @@ IsNoNameByte x = (is_name_character x ≡ false) × ((x == 37) ≡ false) × (is
 
 varchar_lacks : (x : ℕ) → IsNoNameByte x → (v : List ℕ) → IsVarchar v → LacksByte x v
 varchar_lacks x n v (character_varchar c h) = (class_lacks is_name_character x n.0 c h, tt)
-varchar_lacks x n v (triplet_varchar c high low h) =
-    let first : ((c == 37) ≡ true) × ((is_hexadecimal high && is_hexadecimal low) ≡ true) = and_parts _ _ h in
-    let digits : (is_hexadecimal high ≡ true) × (is_hexadecimal low ≡ true) = and_parts _ _ first.1 in
-    (class_lacks (λ b. b == 37) x n.1 c first.0, (class_lacks is_hexadecimal x n.2 high digits.0, (class_lacks is_hexadecimal x n.2 low digits.1, tt)))
+varchar_lacks x n v (triplet_varchar c high low h) = grind (arith, and_parts, class_lacks)
 
 varname_lacks : (x : ℕ) → IsNoNameByte x → (name : List ℕ) → IsVarname name → LacksByte x name
 varname_lacks x n name (first_varchar v h) = varchar_lacks x n v h

@@ -6,15 +6,15 @@ use Rattle.std.proofs.lemmas.List.Elements.{All-head, All-tail}
 use Rattle.std.proofs.lemmas.Slice.Eq.{bytes_eq-Decides}
 use Rattle.std.proofs.lemmas.Bool.{ne_eqb}
 use Rattle.std.proofs.lemmas.Option.{same_Some}
+use Rattle.std.proofs.lemmas.Grind.{common_steps}
 use Rattle.text_model.specs.Texts.{Text}
-use Rattle.environment_model.specs.Environment.{Environment, Entry, Single, look_up, is_there, is_among, more, with_member}
+use Rattle.environment_model.specs.Environment.{Environment, Entry, look_up, is_there, is_among, more, with_member}
 use Rattle.environment_model.proofs.Environments.{look_up-empty, look_up-same, look_up-other, with_member-same, with_member-other}
 use Rattle.environment_model.proofs.NameTests.{itself}
 use Rattle.target_vars.specs.EnvValue.{EachNameOnce}
 use Rattle.target_vars.specs.Layout.{meaning_in, entries_from, IsPlace}
 use Rattle.target_vars.specs.declared.place.Place.{Place}
-use Rattle.target_vars.specs.declared.place.Place.TheVariants.{One, Many}
-use Rattle.target_vars.proofs.Growth.{same_part}
+use Rattle.target_vars.specs.declared.place.Place.TheVariants.{Many}
 
 -- the members of the list of each number
 abbrev Lists : Type 0
@@ -49,8 +49,7 @@ entries_from-push b m i (x ∷ ns) (q ∷ ps) n p long =
     ∙ ap (λ es. es ++ entry b (m (i + length (x ∷ ns))) n p ∷ []) (sym (entries_from-cons b m i x ns q ps))
 
 same_meaning : (b t : Text) (ms : List Text) (p : Place) → IsPlace b p → meaning_in (b ++ t) ms p ≡ meaning_in b ms p
-same_meaning b t ms (One part) is = ap Single (same_part b t part is)
-same_meaning b t ms Many is = refl
+same_meaning b t ms p is = grind (arith, common_steps)
 
 -- the same entries, after a text is appended to the buffer and the lists from a number on stay the same
 pub entries_stay : (b t : Text) (m m' : Lists) (i : ℕ) (ns : List Text) (ps : List Place) → All (IsPlace b) ps → ((j : ℕ) → i ≤ j → m' j ≡ m j)
@@ -86,8 +85,7 @@ is_there-entries b m i (n ∷ ns) (p ∷ ps) name long =
   where
     by_cases : (r : Bool) → bytes_eq n name ≡ r → is_there (entries_from b m (suc i) ns ps) name ≡ is_among name ns
         → is_there (entry b (m i) n p ∷ entries_from b m (suc i) ns ps) name ≡ is_among name (n ∷ ns)
-    by_cases true same following = ap is_some (look_up-same (entry b (m i) n p) (entries_from b m (suc i) ns ps) name same) ∙ rw same refl
-    by_cases false other following = ap is_some (look_up-other (entry b (m i) n p) (entries_from b m (suc i) ns ps) name other) ∙ following ∙ rw other refl
+    by_cases r same following = grind (arith, is_some, look_up-same, look_up-other)
 
 -- a name of a later entry is not that of the first
 not_in_front : (e : Entry) (env : Environment) (name : Text) → EachNameOnce (e ∷ env) → is_there env name ≡ true → bytes_eq e.name name ≡ false

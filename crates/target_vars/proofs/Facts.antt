@@ -1,5 +1,5 @@
 -- What the fields of an `Env` say about its value in contracts.
-use Rattle.std.proofs.Common.{◌≡◌, ℕ, ◌+◌, ◌<◌, ◌≤◌, List, ◌∷◌, ◌++◌, take, drop, insert, IsTrue, Bool, true, false, length, slice_get, get_or, Some, is_some}
+use Rattle.std.proofs.Common.{◌≡◌, ℕ, ◌+◌, ◌<◌, ◌≤◌, List, insert, IsTrue, Bool, true, false, length, slice_get, get_or, Some, is_some}
 use Rattle.std.proofs.lemmas.Grind.{common_steps}
 use Rattle.std.proofs.Common.{Result, Ok, Err, string_bytes, sym, ap, ◌∙◌, subst, arith}
 use Rattle.std.proofs.lemmas.Option.{slice_get-get_or, slice_get_within}
@@ -58,9 +58,7 @@ no_text r v name places (Ok number) laid is same at =
     ap (λ (x : EnvValue). denotes_text x.entries name) (sym is)
     ∙ ap (λ o. is_some (text_in o)) (look_up-laid (string_bytes r.buffer) r.spans.items r.names.listed r.places.items name number Many laid at.0
     (subst (λ ps. slice_get ps number ≡ Some Many) same at.1))
-no_text r v name places (Err gap) laid is same at =
-    ap (λ (x : EnvValue). denotes_text x.entries name) (sym is)
-    ∙ ap (λ o. is_some (text_in o)) (look_up-lacking (string_bytes r.buffer) r.spans.items r.names.listed r.places.items name laid at.lacks)
+no_text r v name places (Err gap) laid is same at = grind (arith, is_some, look_up-lacking, string_bytes)
 
 -- ---- the limits
 
@@ -75,10 +73,7 @@ few r v full laid is says none = grind (arith, common_steps)
 -- ---- one more span
 
 laid_insert : (spans : List Span) (place : ℕ) (s : Span) → laid_spans (insert spans place s) ≡ insert (laid_spans spans) place (at s.part)
-laid_insert spans place s =
-    map-append (λ (x : Span). at x.part) (take place spans) (s ∷ drop place spans)
-    ∙ ap (λ xs. xs ++ at s.part ∷ laid_spans (drop place spans)) (sym (take-map (λ (x : Span). at x.part) place spans))
-    ∙ ap (λ xs. take place (laid_spans spans) ++ at s.part ∷ xs) (sym (drop-map (λ (x : Span). at x.part) place spans))
+laid_insert spans place s = grind (arith, map-append, take-map, drop-map)
 
 pub span_put : (r : Inside) (v : EnvValue) (s : Span) (new : List Span) (n : ℕ) → held r ≡ v → IsPutLast r.spans.items s new
     → s.part.start ≡ length (string_bytes r.buffer) → s.part.len ≡ n

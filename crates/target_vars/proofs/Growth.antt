@@ -1,15 +1,15 @@
 -- Everything in the buffer keeps its place when a text is appended to it.
-use Rattle.std.proofs.Common.{◌≡◌, ℕ, ◌+◌, List, [], ◌∷◌, ◌++◌, map, length, take, drop, All, IsUtf8, IsCharBoundary, refl, sym, ap, ◌∙◌, subst, arith}
-use Rattle.std.proofs.Common.{drop_at, length-append, length-drop, take_all, ◌≤◌}
-use Rattle.std.proofs.lemmas.List.{take-append-le, drop-append-le}
+use Rattle.std.proofs.Common.{◌≡◌, ℕ, ◌+◌, List, [], ◌∷◌, ◌++◌, map, length, take, All, IsUtf8, IsCharBoundary, refl, sym, ap, ◌∙◌, subst, arith}
+use Rattle.std.proofs.Common.{drop_at, length-append, take_all, ◌≤◌}
+use Rattle.std.proofs.lemmas.List.{take-append-le}
 use Rattle.std.proofs.lemmas.List.Elements.{All-head, All-tail, All-weaker}
 use Rattle.std.proofs.lemmas.Str.{IsUtf8-append, IsUtf8-take, IsCharBoundary-from_take, IsCharBoundary-at_seam, IsCharBoundary-end}
+use Rattle.std.proofs.lemmas.Grind.{common_steps}
 use Rattle.text_model.specs.Texts.{Text}
 use Rattle.target_vars.specs.Layout.{part_bytes, span_bytes, IsPart, IsPiece, IsPlace}
 use Rattle.target_vars.specs.declared.place.Part.{Part}
 use Rattle.target_vars.specs.declared.place.Span.{Span}
 use Rattle.target_vars.specs.declared.place.Place.{Place}
-use Rattle.target_vars.specs.declared.place.Place.TheVariants.{One, Many}
 use Rattle.target_vars.specs.EnvValue.{piece_at}
 
 pub boundary_stays : (b t : Text) (i : ℕ) → IsUtf8 b → IsUtf8 (b ++ t) → IsCharBoundary b i → IsCharBoundary (b ++ t) i
@@ -23,8 +23,7 @@ part_stays b t p ub ut is =
     record { begins = boundary_stays b t p.start ub both is.begins; ends = boundary_stays b t (p.start + p.len) ub both is.ends }
 
 place_stays : (b t : Text) (p : Place) → IsUtf8 b → IsUtf8 t → IsPlace b p → IsPlace (b ++ t) p
-place_stays b t (One p) ub ut is = part_stays b t p ub ut is
-place_stays b t Many ub ut is = tt
+place_stays b t p ub ut is = grind (arith, part_stays)
 
 pub pieces_stay : (b t : Text) (spans : List Span) → IsUtf8 b → IsUtf8 t → All (IsPiece b) spans → All (IsPiece (b ++ t)) spans
 pieces_stay b t spans ub ut = All-weaker (IsPiece b) (IsPiece (b ++ t)) (λ s. part_stays b t s.part ub ut) spans
@@ -34,9 +33,7 @@ places_stay b t places ub ut = All-weaker (IsPlace b) (IsPlace (b ++ t)) (λ p. 
 
 -- a piece of a text stays the same if another text comes after it
 pub front_piece : (b t : Text) (at : ℕ × ℕ) → at.0 + at.1 ≤ length b → piece_at (b ++ t) at ≡ piece_at b at
-front_piece b t at within =
-    ap (take at.1) (drop-append-le at.0 b t (omega (arith, within)))
-    ∙ take-append-le at.1 (drop at.0 b) t (omega (arith, length-drop at.0 b, within))
+front_piece b t at within = grind (arith, common_steps)
 
 pub same_part : (b t : Text) (p : Part) → IsPart b p → part_bytes (b ++ t) p ≡ part_bytes b p
 same_part b t p is = front_piece b t (p.start, p.len) is.ends.0

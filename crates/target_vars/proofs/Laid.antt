@@ -47,9 +47,7 @@ look_up-laid b spans names places name k p laid named placed =
 -- the place of a name's number
 pub place_read : (names : List Text) (places : List Place) (name : Text) (k : ℕ) (p : Place) → length places ≡ length names → slice_get names k ≡ Some name
     → p ≡ get_or places k p → slice_get places k ≡ Some p
-place_read names places name k p long named read =
-    let below = slice_get_within names k name named in
-    slice_get-get_or places k p (omega arith) ∙ ap Some (sym read)
+place_read names places name k p long named read = grind (arith, slice_get_within, slice_get-get_or)
 
 -- ---- a text
 
@@ -103,10 +101,7 @@ same_texts b (s ∷ ss) = ap (λ xs. span_bytes b s ∷ xs) (same_texts b ss)
 
 laid_run : (b : Text) (spans : List Span) (first count : ℕ) → map (piece_at b) (take count (drop first (laid_spans spans)))
     ≡ map (span_bytes b) (take count (drop first spans))
-laid_run b spans first count =
-    ap (λ xs. map (piece_at b) (take count xs)) (drop-map (λ (s : Span). at s.part) first spans)
-    ∙ ap (map (piece_at b)) (take-map (λ (s : Span). at s.part) count (drop first spans))
-    ∙ same_texts b (take count (drop first spans))
+laid_run b spans first count = grind (arith, drop-map, take-map, same_texts)
 
 pub members_at : (b : Text) (spans : List Span) (names : List Text) (places : List Place) (name : Text) (k first count : ℕ) → IsLaid b spans names places
     → slice_get names k ≡ Some name → slice_get places k ≡ Some Many → AreAdjacent spans k first count

@@ -10,8 +10,7 @@ use Rattle.std.proofs.lemmas.List.Elements.{All-push, All-weaker, All-head, All-
 use Rattle.std.proofs.lemmas.Option.{slice_get_within, get_or_from_slice_get}
 use Rattle.text_model.specs.Texts.{Text}
 use Rattle.target_vars.specs.Private.NamesValue.{placed_names, branch_of, branch_at, Passes, Leads, IsForward, AreForward, IsNamePlace, AreNames, IsGap}
-use Rattle.target_vars.specs.Private.NamesValue.{Separates}
-use Rattle.target_vars.specs.Private.NamesValue.{IsForked}
+use Rattle.target_vars.specs.Private.NamesValue.{Separates, IsForked}
 use Rattle.target_vars.specs.declared.names.NamePlace.{NamePlace}
 use Rattle.target_vars.specs.declared.names.forks.Fork.{Fork}
 use Rattle.target_vars.specs.declared.names.forks.Branch.{Branch}
@@ -62,8 +61,7 @@ placed_names-push bytes name places p placed start end = grind (arith, drop_at, 
 
 -- a branch that leads forward still does when there are more forks
 more_forks : (n m at : ℕ) (branch : Branch) → n ≤ m → IsForward n at branch → IsForward m at branch
-more_forks n m at (Further next) le is = (is.0, omega (arith, is.1))
-more_forks n m at (Ends number) le is = omega (arith, is)
+more_forks n m at branch le is = grind (arith, common_steps)
 
 forward-push : (listed : List Text) (old new : List Fork) (name : Text) (gap : ℕ) (fork : Fork) → length listed ≡ length old → AreForward old
     → Separates (record { listed = listed; forks = old }) name gap fork → IsForked old name gap fork new → AreForward new
@@ -101,9 +99,7 @@ still_found listed old new name text gap fork m number last gap_ends other forke
     (more.1, record { path = more.0; passes = more.2 })
   where
     at_gap : (at : ℕ) (branch : Branch) → branch_at old text at ≡ Some branch → at ≡ gap → branch_at old text gap ≡ branch_at old name gap → branch ≡ Ends m
-    at_gap at branch is here alike =
-        let there : branch_at old text gap ≡ Some branch = subst (λ a. branch_at old text a ≡ Some branch) here is in
-        cc
+    at_gap at branch is here alike = grind (arith, common_steps)
 
     steps : (at next : ℕ) → branch_at old text at ≡ Some (Further next) → branch_at new text at ≡ Some (Further next)
     steps at next is =
@@ -139,9 +135,7 @@ all_found listed old new name gap fork each found is separates forked = λ numbe
   where
     newest : (0 < length listed) ⊎ (length listed ≤ 0) → (last : ℕ) × Leads new name last (length listed)
     newest (inl some) = let ends = is.ends some in (length old, new_found old new name gap fork ends.0 (length listed) ends.2 separates.own forked)
-    newest (inr none) =
-        let first : 0 ≡ length old = omega arith in
-        (length old, record { path = []; passes = (first, forked.last name ∙ ap Some separates.own) })
+    newest (inr none) = grind (arith, common_steps)
 
     by_cases : (number : ℕ) (text : Text) → slice_get (listed ++ name ∷ []) number ≡ Some text → (number < length listed) ⊎ (length listed ≤ number)
         → (last : ℕ) × Leads new text last number

@@ -1,8 +1,8 @@
 -- The search for a name along forks.
 
-use Rattle.std.proofs.Common.{◌≡◌, ℕ, suc, zero, ◌+◌, ◌<◌, ◌≤◌, ◌⊎◌, inl, inr, List, [], ◌∷◌, ◌++◌, Bool, true, false, length, get_or, set, slice_get}
+use Rattle.std.proofs.Common.{◌≡◌, ℕ, suc, zero, ◌+◌, ◌<◌, ◌≤◌, ◌⊎◌, List, [], ◌∷◌, ◌++◌, Bool, true, false, length, get_or, set, slice_get}
 use Rattle.std.proofs.lemmas.Grind.{common_steps}
-use Rattle.std.proofs.Common.{Some, bytes_eq, refl, sym, ap, ◌∙◌, subst, arith, length-append, ⊎_elim}
+use Rattle.std.proofs.Common.{Some, bytes_eq, refl, sym, ap, ◌∙◌, subst, arith, length-append}
 use Rattle.std.specs.Prelude.{slice_range}
 use Rattle.std.specs.Option.{option_map}
 use Rattle.std.proofs.lemmas.Bool.{cases_eq, cases_lt}
@@ -23,9 +23,7 @@ use Rattle.target_vars.specs.declared.names.forks.Branch.TheVariants.{Further, E
 
 -- there is a fork where a search continues
 pub fork_there : (forks : List Fork) (text : Text) (at : ℕ) (branch : Branch) → branch_at forks text at ≡ Some branch → at < length forks
-fork_there forks text at branch is =
-    ⊎_elim (λ below. below) (λ past. absurd (let none = ap (option_map (λ (f : Fork). branch_of f text)) (slice_get_past forks at past) in cc))
-    (cases_lt at (length forks))
+fork_there forks text at branch is = grind (arith, slice_get_past, cases_lt)
 
 pub ends_there : (path : List ℕ) (forks : List Fork) (text : Text) (from last number : ℕ) → Passes path forks text from last number
     → branch_at forks text last ≡ Some (Ends number)
@@ -34,21 +32,10 @@ ends_there (next ∷ path) forks text from last number passes = ends_there path 
 
 same_end : (path path' : List ℕ) (forks : List Fork) (text : Text) (from last last' number number' : ℕ) → Passes path forks text from last number
     → Passes path' forks text from last' number' → number ≡ number'
-same_end [] [] forks text from last last' number number' p p' =
-    let here : branch_at forks text from ≡ Some (Ends number) = subst (λ a. branch_at forks text a ≡ Some (Ends number)) (sym p.0) p.1 in
-    let there : branch_at forks text from ≡ Some (Ends number') = subst (λ a. branch_at forks text a ≡ Some (Ends number')) (sym p'.0) p'.1 in
-    cc
-same_end [] (next ∷ path') forks text from last last' number number' p p' =
-    let here : branch_at forks text from ≡ Some (Ends number) = subst (λ a. branch_at forks text a ≡ Some (Ends number)) (sym p.0) p.1 in
-    let there : branch_at forks text from ≡ Some (Further next) = p'.0 in
-    absurd (cc)
-same_end (next ∷ path) [] forks text from last last' number number' p p' =
-    let here : branch_at forks text from ≡ Some (Further next) = p.0 in
-    let there : branch_at forks text from ≡ Some (Ends number') = subst (λ a. branch_at forks text a ≡ Some (Ends number')) (sym p'.0) p'.1 in
-    absurd (cc)
+same_end [] [] forks text from last last' number number' p p' = grind (arith, common_steps)
+same_end [] (next ∷ path') forks text from last last' number number' p p' = grind (arith, common_steps)
+same_end (next ∷ path) [] forks text from last last' number number' p p' = grind (arith, common_steps)
 same_end (next ∷ path) (next' ∷ path') forks text from last last' number number' p p' =
-    let here : branch_at forks text from ≡ Some (Further next) = p.0 in
-    let there : branch_at forks text from ≡ Some (Further next') = p'.0 in
     let same : next ≡ next' = cc in
     same_end path path' forks text next last last' number number' p.1 (subst (λ a. Passes path' forks text a last' number') (sym same) p'.1)
 
@@ -157,17 +144,12 @@ forked_by forks changed name gap fork last turn is turns long kept own of_text =
         ⊎ ((branch_of turn text ≡ Further (length forks)) × (branch_of last text ≡ branch_of last name))
         → (branch_at (changed ++ fork ∷ []) text gap ≡ branch_at forks text gap)
         ⊎ ((gap ≡ gap) × (branch_at (changed ++ fork ∷ []) text gap ≡ Some (Further (length forks))) × (branch_at forks text gap ≡ branch_at forks name gap))
-    at_gap text below (inl stays) = inl (here text below ∙ ap Some stays ∙ sym (there text))
-    at_gap text below (inr both) = inr (refl, here text below ∙ ap Some both.0, there text ∙ ap Some both.1 ∙ sym (there name))
+    at_gap text below h = grind (arith, here, there)
 
     by_cases : (text : Text) (at : ℕ) → at < length forks → (gap ≡ at) ⊎ (gap ≡ at → ⊥)
         → (branch_at (changed ++ fork ∷ []) text at ≡ branch_at forks text at)
         ⊎ ((at ≡ gap) × (branch_at (changed ++ fork ∷ []) text at ≡ Some (Further (length forks))) × (branch_at forks text gap ≡ branch_at forks name gap))
-    by_cases text at below (inr other) = inl (before text at below ∙ ap (option_map (λ (f : Fork). branch_of f text)) (kept at other))
-    by_cases text at below (inl same) =
-        subst (λ a. (branch_at (changed ++ fork ∷ []) text a ≡ branch_at forks text a)
-        ⊎ ((a ≡ gap) × (branch_at (changed ++ fork ∷ []) text a ≡ Some (Further (length forks))) × (branch_at forks text gap ≡ branch_at forks name gap)))
-        same (at_gap text (omega arith) (of_text text))
+    by_cases text at below h = grind (arith, before, at_gap)
 
 pub forked_at : (forks : List Fork) (name : Text) (gap : ℕ) (fork last : Fork) → slice_get forks gap ≡ Some last
     → IsForked forks name gap fork (set forks gap (turned last name (Further (length forks))) ++ fork ∷ [])

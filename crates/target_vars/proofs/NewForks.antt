@@ -1,8 +1,7 @@
 -- The fork of a new name.
 
-use Rattle.std.proofs.Common.{◌≡◌, ℕ, ◌+◌, ◌<◌, ◌≤◌, ◌⊎◌, inl, inr, List, [], ◌∷◌, length, drop, get_or, slice_get, Some, bytes_eq}
+use Rattle.std.proofs.Common.{◌≡◌, ℕ, ◌+◌, ◌<◌, ◌≤◌, ◌⊎◌, List, [], length, drop, get_or, slice_get, Some, bytes_eq, sym, ap, ◌∙◌, arith, ⊎_elim}
 use Rattle.std.proofs.lemmas.Grind.{common_steps}
-use Rattle.std.proofs.Common.{sym, ap, ◌∙◌, subst, arith, ⊎_elim}
 use Rattle.std.specs.Prelude.{◌==◌, ◌/◌, ◌%◌, ◌^◌, slice_range}
 use Rattle.std.specs.Option.{option_map, option_map_or}
 use Rattle.std.proofs.Math.ListN.{drop_of_length-le}
@@ -23,22 +22,13 @@ use Rattle.target_vars.proofs.NameForks.{ends_there, fork_there}
 
 -- no search ends at a fork past the last one
 none_listed : (v : NamesValue) (name : Text) (gap : ℕ) → IsGap v name gap → length v.forks ≤ gap → length v.listed ≡ 0
-none_listed v name gap is past =
-    ⊎_elim
-    (λ some. let ends = is.ends some in
-    absurd (let below = fork_there v.forks name gap (Ends ends.0) (ends_there ends.2.path v.forks name 0 gap ends.0 ends.2.passes) in omega arith))
-    (λ none. omega arith)
-    (cases_lt 0 (length v.listed))
+none_listed v name gap is past = grind (arith, fork_there, ends_there, cases_lt)
 
 pub first_separates : (v : NamesValue) (name : Text) (gap : ℕ) (fork : Fork) → IsGap v name gap → length v.forks ≤ gap
     → ((text : Text) → branch_of fork text ≡ Ends 0) → Separates v name gap fork
 first_separates v name gap fork is past first =
     let none = none_listed v name gap is past in
-    record {
-      own = first name ∙ ap Ends (sym none);
-      other = λ number ends. absurd (let below = fork_there v.forks name gap (Ends number) ends in omega arith);
-      ends = λ text. (0, omega arith, first text);
-    }
+    grind (arith, fork_there)
 
 -- a fork that is read, and where the search for a name continues after it
 pub fork_read : (v : NamesValue) (forks : List Fork) (gap : ℕ) (last : Fork) → forks ≡ v.forks → gap < length forks → last ≡ get_or forks gap last
@@ -55,11 +45,7 @@ gap_branch forks name gap last branch there is = ap (option_map (λ (f : Fork). 
 -- the number with which the search ends at the gap
 gap_number : (v : NamesValue) (name : Text) (gap : ℕ) (branch : Branch) → length v.listed ≡ length v.forks → IsGap v name gap
     → branch_at v.forks name gap ≡ Some branch → (number : ℕ) × (number < length v.listed) × (branch ≡ Ends number)
-gap_number v name gap branch each is there =
-    let below = fork_there v.forks name gap branch there in
-    let ends = is.ends (omega arith) in
-    let at = ends_there ends.2.path v.forks name 0 gap ends.0 ends.2.passes in
-    (ends.0, ends.1, (let same : branch ≡ Ends ends.0 = cc in same))
+gap_number v name gap branch each is there = grind (arith, fork_there, ends_there)
 
 pub no_further : (v : NamesValue) (name : Text) (gap next : ℕ) → length v.listed ≡ length v.forks → IsGap v name gap
     → branch_at v.forks name gap ≡ Some (Further next) → ⊥
@@ -80,8 +66,7 @@ between_separates v name other gap number count fork each is there all nearest o
     let below = gap_known v name gap number each is there in
     record {
       own = own ∙ ap Ends all;
-      other = λ k at. (let same : number ≡ k = cc in
-          subst (λ n. branch_of fork (get_or v.listed n []) ≡ Ends n) same (ap (branch_of fork) (sym nearest) ∙ others));
+      other = grind (arith, common_steps);
       ends = λ text. ⊎_elim (λ to. (count, omega arith, to)) (λ to. (number, omega arith, to)) (ends text);
     }
 
@@ -94,17 +79,7 @@ code_past : (t : Text) (at : ℕ) → length t ≤ at → code_at t at ≡ 0
 code_past t at past = ap (λ o. option_map_or (λ byte. byte + 1) o 0) (slice_get_past t at past)
 
 pub same_code : (a b : Text) (at : ℕ) → (drop at a ≡ drop at b → ⊥) → code_at a at ≡ code_at b at → (at < length a) × (drop (at + 1) a ≡ drop (at + 1) b → ⊥)
-same_code a b at differ same = by_cases (cases_lt at (length a)) (cases_lt at (length b))
-  where
-    by_cases : (at < length a) ⊎ (length a ≤ at) → (at < length b) ⊎ (length b ≤ at) → (at < length a) × (drop (at + 1) a ≡ drop (at + 1) b → ⊥)
-    by_cases (inl one) (inl two) =
-        let first = code_within a at one in
-        let second = code_within b at two in
-        let byte : get_or a at 0 ≡ get_or b at 0 = omega arith in
-        (one, λ rest. differ (drop_more a at 0 one ∙ ap (λ x. x ∷ drop (at + 1) a) byte ∙ ap (λ xs. get_or b at 0 ∷ xs) rest ∙ sym (drop_more b at 0 two)))
-    by_cases (inl one) (inr past) = let first = code_within a at one in let second = code_past b at past in absurd (omega arith)
-    by_cases (inr past) (inl two) = let first = code_past a at past in let second = code_within b at two in absurd (omega arith)
-    by_cases (inr one) (inr two) = absurd (differ (drop_of_length-le a one ∙ sym (drop_of_length-le b two)))
+same_code a b at differ same = grind (arith, cases_lt, code_within, drop_more, code_past, drop_of_length-le)
 
 halved : (x bit : ℕ) → x / 2 ^ (bit + 1) ≡ x / 2 ^ bit / 2
 halved x bit = ap (λ n. x / 2 ^ n) (add-one bit) ∙ ap (λ n. x / n) (pow-suc 2 bit) ∙ sym (div-div-eq-div-mul x (2 ^ bit) 2)

@@ -1,5 +1,5 @@
 -- The spans of a list among those of all lists.
-use Rattle.std.proofs.Common.{◌≡◌, ℕ, ◌+◌, ◌<◌, ◌≤◌, List, [], ◌∷◌, ◌++◌, Bool, true, false, cond, length, take, drop, get_or, insert, All, leb, ltb, refl, sym}
+use Rattle.std.proofs.Common.{◌≡◌, ℕ, ◌<◌, ◌≤◌, List, [], ◌++◌, Bool, true, false, cond, length, take, drop, get_or, insert, All, leb, ltb, refl, sym}
 use Rattle.std.proofs.Common.{ap, ◌∙◌, subst, arith, length-drop, length-take-le, take-append-drop, append-nil, leb-true, ltb-true, ltb-false}
 use Rattle.std.specs.Prelude.{◌==◌}
 use Rattle.std.specs.List.{AllWithin, filter}
@@ -9,6 +9,7 @@ use Rattle.std.proofs.lemmas.Bool.Decides.{Decides-eqb}
 use Rattle.std.proofs.lemmas.List.{get_or-take, get_or-drop}
 use Rattle.std.proofs.lemmas.List.Elements.{All-weaker, filter-append}
 use Rattle.std.proofs.lemmas.List.Sorted.{IsNonDecreasingBy-insert}
+use Rattle.std.proofs.lemmas.Grind.{common_steps}
 use Rattle.text_model.proofs.Lists.{filter_all, filter_none}
 use Rattle.target_vars.specs.Layout.{spans_of, AreAdjacent, IsPutLast}
 use Rattle.target_vars.specs.declared.place.Span.{Span}
@@ -17,14 +18,10 @@ use Rattle.target_vars.specs.declared.place.Span.{Span}
 
 -- the elements before a place, and those from it on
 before : {X : Type 0} (P : X → Type 0) (xs : List X) (i : ℕ) → i ≤ length xs → AllWithin P xs 0 i → All P (take i xs)
-before P xs i within all k d below =
-    let size = length-take-le i xs within in
-    subst P (sym (get_or-take i xs k d (omega arith))) (all k d (omega arith) (omega arith))
+before P xs i within all k d below = grind (arith, length-take-le, get_or-take)
 
 following : {X : Type 0} (P : X → Type 0) (xs : List X) (i : ℕ) → AllWithin P xs i (length xs) → All P (drop i xs)
-following P xs i all k d below =
-    let size = length-drop i xs in
-    subst P (sym (get_or-drop i xs k d)) (all (i + k) d (omega arith) (omega arith))
+following P xs i all k d below = grind (arith, length-drop, get_or-drop)
 
 -- ---- the numbers of spans
 
@@ -87,14 +84,8 @@ put_last_is xs s place within order parted =
       in_order = IsNonDecreasingBy-insert (λ x. x.list) xs place s order within
           (λ k d below. leb-true (get_or xs k d).list n (parted.0 k d (omega arith) below))
           (λ k d from below. let gt = leb-false (get_or xs k d).list n (parted.1 k d from below) in omega arith);
-      own = filter-append (λ (x : Span). x.list == n) front (s ∷ back)
-          ∙ ap (λ ys. spans_of front n ++ ys) (ap (λ v. cond v (s ∷ spans_of back n) (spans_of back n)) (is s n refl)
-          ∙ ap (λ ys. s ∷ ys) (filter_none (λ x. x.list == n) back above))
-          ∙ ap (λ ys. ys ++ s ∷ []) (sym (append-nil (spans_of front n)) ∙ ap (λ ys. spans_of front n ++ ys) (sym (filter_none (λ x. x.list == n) back above))
-          ∙ whole n);
-      others = λ m differs. filter-append (λ (x : Span). x.list == m) front (s ∷ back)
-          ∙ ap (λ v. spans_of front m ++ cond v (s ∷ spans_of back m) (spans_of back m)) differs
-          ∙ whole m;
+      own = grind (arith, filter-append, cond, is, filter_none, above, append-nil);
+      others = grind (arith, common_steps);
     }
 
 -- a list whose number is greater than those of all spans has no spans

@@ -1,9 +1,8 @@
 -- The code points of UTF-8 are its characters.
-use Rattle.std.proofs.Common.{◌≡◌, ℕ, ◌+◌, ◌/◌, ◌%◌, ◌≤◌, List, [], ◌∷◌, ◌++◌, length, take, drop, map, Bool, true, false, cond, refl, ap, ◌∙◌, arith}
+use Rattle.std.proofs.Common.{◌≡◌, ℕ, ◌+◌, ◌%◌, ◌≤◌, List, [], ◌∷◌, ◌++◌, length, take, map, true, false, cond, refl, ap, ◌∙◌, arith}
 use Rattle.std.specs.Prelude.{nat_lt, encode_utf8_all}
 use Rattle.std.specs.Char.{encode_utf8}
-use Rattle.std.specs.List.{prefix_len}
-use Rattle.std.specs.List.{take-map}
+use Rattle.std.specs.List.{prefix_len, take-map}
 use Rattle.std.proofs.Math.Dec.{eqb}
 use Rattle.std.proofs.Math.Seq.{take-append_seam, drop-append_seam}
 use Rattle.std.proofs.lemmas.List.Folds.{prefix_len-append}
@@ -38,17 +37,7 @@ following_three x y z = ap (λ b. cond b (1 + prefix_len is_continuation ((128 +
 
 encode_utf8-character : (c : ℕ) → IsCharacter (encode_utf8 c)
 unfolding encode_utf8
-encode_utf8-character c = by_tests (nat_lt c 128) (nat_lt c 2048) (nat_lt c 65536) refl
-  where
-    by_tests : (x y z : Bool) → nat_lt c 128 ≡ x
-        → IsCharacter (cond x (c ∷ [])
-        (cond y ((192 + c / 64) ∷ (128 + c % 64) ∷ [])
-        (cond z ((224 + c / 4096) ∷ (128 + c / 64 % 64) ∷ (128 + c % 64) ∷ [])
-        ((240 + c / 262144) ∷ (128 + c / 4096 % 64) ∷ (128 + c / 64 % 64) ∷ (128 + c % 64) ∷ []))))
-    by_tests true y z e = character c [] (ascii c e) refl
-    by_tests false true z e = character (192 + c / 64) _ (leading (192 + c / 64) (omega arith)) (following_one c)
-    by_tests false false true e = character (224 + c / 4096) _ (leading (224 + c / 4096) (omega arith)) (following_two (c / 64) c)
-    by_tests false false false e = character (240 + c / 262144) _ (leading (240 + c / 262144) (omega arith)) (following_three (c / 4096) (c / 64) c)
+encode_utf8-character c = grind (arith, cond, character, ascii, leading, following_one, following_two, following_three)
 
 -- the text does not begin with a byte that continues a character before it
 begins_anew : Text → Type 0
@@ -65,21 +54,10 @@ encode_utf8_all-anew (c ∷ cs) = new_character (encode_utf8 c) (encode_utf8_all
 
 run_through : (rest t : Text) → prefix_len is_continuation rest ≡ length rest → begins_anew t → prefix_len is_continuation (rest ++ t) ≡ length rest
 unfolding begins_anew
-run_through rest t r a =
-    prefix_len-append is_continuation rest t
-    ∙ (ap (λ k. cond (eqb k (length rest)) (length rest + prefix_len is_continuation t) k) r ∙ either (eqb (length rest) (length rest)) (length rest)
-    (prefix_len is_continuation t) a)
-  where
-    either : (x : Bool) (m n : ℕ) → n ≡ 0 → cond x (m + n) m ≡ m
-    either true m n e = omega arith
-    either false m n e = refl
+run_through rest t r a = grind (arith, prefix_len-append, cond, eqb)
 
 next_character : (bs t : Text) → IsCharacter bs → begins_anew t → code_points (bs ++ t) ≡ bs ∷ code_points t
-next_character _ t (character b rest h r) a =
-    code_points-next b (rest ++ t)
-    ∙ (ap (λ n. (b ∷ take n (rest ++ t)) ∷ code_points (drop n (rest ++ t))) (run_through rest t r a)
-    ∙ (ap (λ x. (b ∷ x) ∷ code_points (drop (length rest) (rest ++ t))) (take-append_seam rest t)
-    ∙ ap (λ x. (b ∷ rest) ∷ code_points x) (drop-append_seam rest t)))
+next_character _ t (character b rest h r) a = grind (arith, code_points-next, run_through, take-append_seam, drop-append_seam)
 
 pub code_points-encode_utf8_all : (cs : List ℕ) → code_points (encode_utf8_all cs) ≡ map encode_utf8 cs
 unfolding code_points

@@ -1,10 +1,11 @@
 -- The items of a text: where the first one ends, and the text of the first n of them.
 use Rattle.std.proofs.Common.{◌≡◌, ℕ, zero, suc, ◌+◌, ◌≤◌, List, [], ◌∷◌, ◌++◌, length, take, drop, Bool, cond, sym, true, false, refl, ap, ◌∙◌, subst, arith}
-use Rattle.std.proofs.Common.{add-one, append_assoc, length-append}
+use Rattle.std.proofs.Common.{length-append}
 use Rattle.std.specs.Prelude.{if◌then◌else◌}
 use Rattle.std.specs.List.{prefix_len}
 use Rattle.std.proofs.lemmas.Bool.{cond-true, cond-false}
 use Rattle.std.proofs.lemmas.List.{take_all}
+use Rattle.std.proofs.lemmas.Grind.{common_steps}
 use Rattle.text_model.specs.Texts.{Text}
 use Rattle.text_model.specs.Cut.{is_continuation, with_byte, code_points, are_triplet, with_triplets, items, joined, cut}
 use Rattle.text_model.specs.declared.writing.Writing.{Writing}
@@ -13,13 +14,7 @@ use Rattle.text_model.specs.declared.writing.Writing.TheVariants.{U, UR}
 -- ---- the items of a text joined are the text
 
 joined-with_byte : (b : ℕ) (points : List Text) → joined (with_byte b points) ≡ b ∷ joined points
-joined-with_byte b [] = refl
-joined-with_byte b ([] ∷ points) = refl
-joined-with_byte b ((next ∷ t) ∷ points) = by_test (is_continuation next)
-  where
-    by_test : (x : Bool) → joined (if x then ((b ∷ next ∷ t) ∷ points) else ((b ∷ []) ∷ (next ∷ t) ∷ points)) ≡ b ∷ joined ((next ∷ t) ∷ points)
-    by_test true = refl
-    by_test false = refl
+joined-with_byte b points = grind (arith, common_steps)
 
 pub joined-code_points : (t : Text) → joined (code_points t) ≡ t
 unfolding code_points
@@ -31,12 +26,7 @@ unfolding with_triplets
 joined-with_triplets [] = refl
 joined-with_triplets (p ∷ []) = refl
 joined-with_triplets (p ∷ q ∷ []) = refl
-joined-with_triplets (p ∷ q ∷ r ∷ points) = by_test (are_triplet p q r) (joined-with_triplets points) (joined-with_triplets (q ∷ r ∷ points))
-  where
-    by_test : (x : Bool) → joined (with_triplets points) ≡ joined points → joined (with_triplets (q ∷ r ∷ points)) ≡ joined (q ∷ r ∷ points)
-        → joined (if x then ((p ++ q ++ r) ∷ with_triplets points) else (p ∷ with_triplets (q ∷ r ∷ points))) ≡ p ++ (q ++ (r ++ joined points))
-    by_test true i j = ap (λ x. (p ++ q ++ r) ++ x) i ∙ (append_assoc (p ++ q) r (joined points) ∙ append_assoc p q (r ++ joined points))
-    by_test false i j = ap (λ x. p ++ x) j
+joined-with_triplets (p ∷ q ∷ r ∷ points) = grind (arith, common_steps, joined-with_triplets points, joined-with_triplets (q ∷ r ∷ points)) steps 400000
 
 pub joined-items : (w : Writing) (t : Text) → joined (items w t) ≡ t
 joined-items U t = joined-code_points t
@@ -68,10 +58,7 @@ cut-nothing w (b ∷ t) n e = absurd (omega arith)
 
 -- an item at the beginning is the first of the cut
 pub cut-item : (w : Writing) (t front rest : Text) (n : ℕ) → items w t ≡ front ∷ items w rest → cut w t (n + 1) ≡ front ++ cut w rest n
-cut-item w t front rest n e = ap (λ x. joined (take (n + 1) x)) e ∙ first n
-  where
-    first : (m : ℕ) → joined (take (m + 1) (front ∷ items w rest)) ≡ front ++ joined (take m (items w rest))
-    first m = rw add-one refl
+cut-item w t front rest n e = grind (arith, common_steps)
 
 -- ---- where the first item ends
 

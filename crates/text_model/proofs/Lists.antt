@@ -1,18 +1,18 @@
 -- Lists: what several crates use and the library lacks.
 use Rattle.std.proofs.Common.{◌≡◌, ◌⊎◌, ℕ, zero, suc, ◌+◌, ◌<◌, ◌≤◌, Bool, true, false, not, cond, Bor, Some, None, inl, inr, refl, sym, ap}
-use Rattle.std.proofs.Common.{All, List, [], arith, drop, filter, get_or, length, map, nat_lt, slice_get, sum_by, take, unwrap_or, ◌++◌, ◌∙◌, ◌∷◌}
-use Rattle.std.proofs.Common.{append-nil}
+use Rattle.std.proofs.Common.{All, List, [], arith, drop, filter, get_or, length, map, slice_get, sum_by, take, unwrap_or, ◌++◌, ◌∙◌, ◌∷◌}
 use Rattle.std.proofs.Math.Logic.{⊎_elim}
 use Rattle.std.proofs.lemmas.Bool.{ltb-false}
 use Rattle.std.proofs.lemmas.Bool.Decides.{Decides-by_and}
-use Rattle.std.proofs.lemmas.List.{drop_all, map-append, take_all, take_more}
-use Rattle.std.proofs.lemmas.List.Elements.{All-from_get_or, All-head, All-tail}
+use Rattle.std.proofs.lemmas.List.{map-append, take_all, take_more}
+use Rattle.std.proofs.lemmas.List.Elements.{All-head, All-tail}
 use Rattle.std.proofs.lemmas.List.Folds.{find-append}
 use Rattle.std.proofs.lemmas.List.FromFn.{get_or-range_with_len, length-range_with_len}
 use Rattle.std.proofs.lemmas.List.Sums.{prefix_len-le-length, sum_by-cons}
 use Rattle.std.proofs.lemmas.Option.{none-some, same_Some}
 use Rattle.std.specs.List.{AllByRecursion, before_first, find, list_all, position, position_or_len, range_with_len}
 use Rattle.std.specs.Option.{option_or}
+use Rattle.std.proofs.lemmas.Grind.{common_steps}
 use Rattle.text_model.specs.Texts.{Text, texts_of}
 
 -- ---- equal lists
@@ -25,10 +25,7 @@ pub same_halves : {X : Type 0} (f g xs ys : List X) → length f ≡ length g �
 same_halves [] [] xs ys l e = (refl, e)
 same_halves [] (b ∷ g) xs ys l e = absurd (omega arith)
 same_halves (a ∷ f) [] xs ys l e = absurd (omega arith)
-same_halves (a ∷ f) (b ∷ g) xs ys l e =
-    let head : a ≡ b = cc in
-    let rest = same_halves f g xs ys (omega arith) (cc) in
-    (let same : f ≡ g = rest.0 in cc, rest.1)
+same_halves (a ∷ f) (b ∷ g) xs ys l e = grind (arith, common_steps, same_halves f g xs ys (omega arith) (cc))
 
 -- ---- facts about each element
 
@@ -38,11 +35,7 @@ all_append P (x ∷ xs) ys h k = (h.0, all_append P xs ys h.1 k)
 
 pub all_filter : {X : Type 0} (P : X → Type 0) (test : X → Bool) (xs : List X) → AllByRecursion P xs → AllByRecursion P (filter test xs)
 all_filter P test [] all = tt
-all_filter P test (x ∷ xs) all = by_test (test x) (all_filter P test xs all.1)
-  where
-    by_test : (b : Bool) → AllByRecursion P (filter test xs) → AllByRecursion P (cond b (x ∷ filter test xs) (filter test xs))
-    by_test true rest = (all.0, rest)
-    by_test false rest = rest
+all_filter P test (x ∷ xs) all = grind (arith, common_steps, all_filter P test xs all.1)
 
 pub All-from_list_all : {X : Type 0} (test : X → Bool) (xs : List X) → list_all test xs ≡ true → All (λ x. test x ≡ true) xs
 All-from_list_all test xs e = (Decides-by_and test (λ x. test x ≡ true) (list_all test) (λ _. (λ x. x, λ x. x)) refl (λ _ _. refl) xs).0 e
@@ -75,9 +68,7 @@ range_more first (suc n) =
     ∙ ap (λ at. first ∷ (range_with_len (first + 1) n ++ at ∷ [])) start
 
 pub range_below : (n : ℕ) → All (λ index. index < n) (range_with_len 0 n)
-range_below n =
-    All-from_get_or (λ index. index < n) (range_with_len 0 n) 0
-    (λ index below. let l = length-range_with_len 0 n in let is = get_or-range_with_len 0 n index 0 (omega arith) in omega arith)
+range_below n = grind (arith, length-range_with_len, get_or-range_with_len)
 
 -- ---- sums
 
@@ -111,9 +102,7 @@ past_end (x ∷ xs) (suc i) none = omega (arith, past_end xs i none)
 
 -- a list after a call that was lent its slice
 pub written_back : {X : Type 0} (new old : List X) (len : ℕ) → length old ≡ len → length new ≡ length old → take len (new ++ drop (length new) old) ≡ new
-written_back new old len long same =
-    ap (λ rest. take len (new ++ rest)) (drop_all (length new) old (omega (arith, same))) ∙ ap (take len) (append-nil new)
-    ∙ take_all len new (omega (arith, same, long))
+written_back new old len long same = grind (arith, common_steps)
 
 -- ---- the first element that passes a test
 
@@ -121,27 +110,13 @@ pub index_within : {X : Type 0} (test : X → Bool) (xs : List X) → position_o
 index_within test xs = prefix_len-le-length (λ x. not (test x)) xs
 
 pub index_or_length : {X : Type 0} (test : X → Bool) (xs : List X) → unwrap_or (position test xs) (length xs) ≡ position_or_len test xs
-index_or_length test xs = by_test (nat_lt (position_or_len test xs) (length xs)) refl
-  where
-    by_test : (b : Bool) → nat_lt (position_or_len test xs) (length xs) ≡ b
-        → unwrap_or (cond b (Some (position_or_len test xs)) None) (length xs) ≡ position_or_len test xs
-    by_test true e = refl
-    by_test false e = omega (arith, ltb-false _ _ e, index_within test xs)
+index_or_length test xs = grind (arith, unwrap_or, cond, ltb-false, index_within)
 
 pub position-some : {X : Type 0} (test : X → Bool) (xs : List X) (i : ℕ) → position test xs ≡ Some i → i ≡ position_or_len test xs
-position-some test xs i = by_test (nat_lt (position_or_len test xs) (length xs))
-  where
-    by_test : (b : Bool) → cond b (Some (position_or_len test xs)) None ≡ Some i → i ≡ position_or_len test xs
-    by_test true h = cc
-    by_test false h = cc
+position-some test xs i = grind (arith, common_steps)
 
 pub position-none : {X : Type 0} (test : X → Bool) (xs : List X) → position test xs ≡ None → length xs ≤ position_or_len test xs
-position-none test xs = by_test (nat_lt (position_or_len test xs) (length xs)) refl
-  where
-    by_test : (b : Bool) → nat_lt (position_or_len test xs) (length xs) ≡ b → cond b (Some (position_or_len test xs)) None ≡ None
-        → length xs ≤ position_or_len test xs
-    by_test true e h = absurd (cc)
-    by_test false e h = ltb-false _ _ e
+position-none test xs = grind (arith, common_steps)
 
 pub before_first-none : {X : Type 0} (test : X → Bool) (xs : List X) → position test xs ≡ None → before_first test xs ≡ xs
 before_first-none test xs none = take_all (position_or_len test xs) xs (position-none test xs none)
@@ -166,5 +141,4 @@ find_here test (x ∷ xs) (suc i) d within none passes = here (test x.now) (λ i
   where
     here : (b : Bool) → (find test (texts_of (take i xs)) ≡ None → find test (texts_of xs) ≡ Some (get_or xs i d).now)
         → cond b (Some x.now) (find test (texts_of (take i xs))) ≡ None → cond b (Some x.now) (find test (texts_of xs)) ≡ Some (get_or xs i d).now
-    here true later is = absurd (none-some x.now (sym is))
-    here false later is = later is
+    here b later is = grind (arith, common_steps)

@@ -1,7 +1,8 @@
 -- A text is URI text exactly if encoding it by UR changes nothing.
 use Rattle.std.proofs.Common.{◌≡◌, ◌≢◌, ℕ, [], ◌∷◌, ◌++◌, true, false, refl, sym, ap, ◌∙◌, subst, append_assoc, append-nil, arith}
 use Rattle.std.specs.Prelude.{◌↔◌}
-use Rattle.std.proofs.lemmas.Bool.{both_ways, ne_eqb}
+use Rattle.std.proofs.lemmas.Bool.{both_ways}
+use Rattle.std.proofs.lemmas.Grind.{common_steps}
 use Rattle.text_model.specs.Texts.{Text, begins_with_triplet, is_hexadecimal, is_unreserved, is_reserved}
 use Rattle.text_model.specs.Writing.{written_byte, is_unreserved_or_reserved, written_ur}
 use Rattle.text_model.specs.UriText.{IsUriText, nothing, and_character, and_triplet}
@@ -14,9 +15,7 @@ unfolding is_unreserved is_reserved
 not_percent b h e = both_ways (is_unreserved_or_reserved b) (subst (λ (k : ℕ). is_unreserved_or_reserved k ≡ false) (sym e) refl) h
 
 no_triplet : (b : ℕ) (t : Text) → b ≢ 37 → begins_with_triplet (b ∷ t) ≡ false
-no_triplet b [] h = refl
-no_triplet b (c ∷ []) h = refl
-no_triplet b (c ∷ d ∷ t) h = rw (ne_eqb b 37 h) refl
+no_triplet b t h = grind (arith, common_steps)
 
 -- ---- URI text is copied
 
@@ -30,14 +29,8 @@ copied_triplet high low t h k = written_ur-triplet (37 ∷ high ∷ low ∷ t) (
 
 copied : (front t : Text) → IsUriText front → written_ur (front ++ t) ≡ front ++ written_ur t
 copied _ t nothing = refl
-copied _ t (and_character front b u h) =
-    ap written_ur (append_assoc front (b ∷ []) t)
-    ∙ (copied front (b ∷ t) u
-    ∙ (ap (λ x. front ++ x) (copied_character b t h) ∙ sym (append_assoc front (b ∷ []) (written_ur t))))
-copied _ t (and_triplet front high low u h k) =
-    ap written_ur (append_assoc front (37 ∷ high ∷ low ∷ []) t)
-    ∙ (copied front (37 ∷ high ∷ low ∷ t) u
-    ∙ (ap (λ x. front ++ x) (copied_triplet high low t h k) ∙ sym (append_assoc front (37 ∷ high ∷ low ∷ []) (written_ur t))))
+copied _ t (and_character front b u h) = grind (arith, append_assoc, copied_character, copied front (b ∷ t) u)
+copied _ t (and_triplet front high low u h k) = grind (arith, append_assoc, copied_triplet, copied front (37 ∷ high ∷ low ∷ t) u)
 
 -- ---- both ways
 

@@ -1,7 +1,8 @@
 -- URI texts joined are URI text, and encoded text is URI text.
-use Rattle.std.proofs.Common.{◌≡◌, ℕ, ◌+◌, ◌/◌, ◌%◌, ◌<◌, [], ◌∷◌, ◌++◌, Bool, true, false, ◌&&◌, ◌==◌, refl, sym, subst, arith, append_assoc, append-nil}
-use Rattle.std.specs.Prelude.{nat_lt, if◌then◌else◌}
-use Rattle.std.proofs.lemmas.Bool.{and_parts, agree_below_at, eqb-true}
+use Rattle.std.proofs.Common.{◌≡◌, ℕ, ◌/◌, [], ◌∷◌, ◌++◌, Bool, true, false, ◌&&◌, ◌==◌, refl, sym, subst, arith, append_assoc, append-nil}
+use Rattle.std.specs.Prelude.{if◌then◌else◌}
+use Rattle.std.proofs.lemmas.Bool.{and_parts, eqb-true}
+use Rattle.std.proofs.lemmas.Grind.{common_steps}
 use Rattle.text_model.specs.Texts.{Text, is_unreserved, is_hexadecimal, is_triplet}
 use Rattle.text_model.specs.Writing.{hexadecimal_digit, triplet_of, written_byte, is_unreserved_or_reserved, written_u, written_ur, written}
 use Rattle.text_model.specs.UriText.{IsUriText, nothing, and_character, and_triplet}
@@ -26,9 +27,7 @@ IsUriText-triplet b high low e =
     subst (λ x. IsUriText (x ∷ high ∷ low ∷ [])) (sym (eqb-true b 37 percent.0)) (and_triplet [] high low nothing digits.0 digits.1)
 
 hexadecimal_digit-hexadecimal : (n : ℕ) → is_hexadecimal (hexadecimal_digit n) ≡ true
-hexadecimal_digit-hexadecimal n =
-    let lt : n % 16 < 16 = omega arith in
-    agree_below_at (λ m. is_hexadecimal (if nat_lt m 10 then 48 + m else 55 + m)) (λ m. true) 16 (n % 16) refl lt
+hexadecimal_digit-hexadecimal n = grind (arith, common_steps)
 
 pub triplet_of-uri : (b : ℕ) → IsUriText (triplet_of b)
 triplet_of-uri b =

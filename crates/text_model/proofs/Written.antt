@@ -1,8 +1,8 @@
 -- The encoded text, piece by piece, and its length.
-use Rattle.std.proofs.Common.{◌≡◌, ℕ, ◌+◌, ◌*◌, ◌<◌, ◌≤◌, [], ◌∷◌, ◌++◌, length, get_or, take, drop, Bool, true, false, refl, sym, arith}
-use Rattle.std.proofs.Common.{append-nil, length-append}
+use Rattle.std.proofs.Common.{◌≡◌, ℕ, ◌*◌, ◌<◌, ◌≤◌, [], ◌∷◌, ◌++◌, length, get_or, take, drop, Bool, true, false, refl, sym, arith, append-nil, length-append}
 use Rattle.std.specs.Prelude.{if◌then◌else◌}
 use Rattle.std.proofs.lemmas.Bool.{cond-true, cond-false}
+use Rattle.std.proofs.lemmas.Grind.{common_steps}
 use Rattle.text_model.specs.Texts.{Text, is_unreserved, is_triplet, begins_with_triplet}
 use Rattle.text_model.specs.Writing.{written_byte, is_unreserved_or_reserved, written_u, written_ur, written}
 use Rattle.text_model.specs.declared.writing.Writing.{Writing}
@@ -48,25 +48,13 @@ pub length-written_ur : (t : Text) → length (written_ur t) ≤ 3 * length t
 unfolding written_ur
 length-written_ur [] = omega arith
 length-written_ur (b ∷ []) = length-written_byte (is_unreserved_or_reserved b) b
-length-written_ur (b ∷ c ∷ []) =
-    omega (
-      arith,
-      length-append (written_byte (is_unreserved_or_reserved b) b) (written_byte (is_unreserved_or_reserved c) c),
-      length-written_byte (is_unreserved_or_reserved b) b,
-      length-written_byte (is_unreserved_or_reserved c) c,
-    )
+length-written_ur (b ∷ c ∷ []) = grind (arith, common_steps)
 length-written_ur (b ∷ high ∷ low ∷ t) = by_test (is_triplet b high low) (length-written_ur t) (length-written_ur (high ∷ low ∷ t))
   where
     by_test : (x : Bool) → length (written_ur t) ≤ 3 * length t → length (written_ur (high ∷ low ∷ t)) ≤ 3 * length (high ∷ low ∷ t)
         → length (if x then (b ∷ high ∷ low ∷ written_ur t) else (written_byte (is_unreserved_or_reserved b) b ++ written_ur (high ∷ low ∷ t)))
         ≤ 3 * length (b ∷ high ∷ low ∷ t)
-    by_test true i j = omega (arith, i)
-    by_test false i j = omega (
-      arith,
-      j,
-      length-append (written_byte (is_unreserved_or_reserved b) b) (written_ur (high ∷ low ∷ t)),
-      length-written_byte (is_unreserved_or_reserved b) b,
-    )
+    by_test x i j = grind (arith, common_steps)
 
 pub length-written : (w : Writing) (t : Text) → length (written w t) ≤ 3 * length t
 length-written U t = length-written_u t

@@ -4,6 +4,7 @@ use Rattle.std.proofs.Common.{◌≡◌, ◌≢◌, ℕ, zero, suc, ◌+◌, ◌
 use Rattle.std.proofs.Common.{refl, ap, ◌∙◌, sym, arith, append_assoc, take-append-drop, length-append, length-drop, ◌==◌, Option, Some, None}
 use Rattle.std.proofs.lemmas.Bool.{cases_Bool, eqb-true, eq-eqb, both_ways}
 use Rattle.std.proofs.lemmas.List.Elements.{All-nil, All-cons}
+use Rattle.std.proofs.lemmas.Grind.{common_steps}
 use Rattle.uri_grammar.specs.Characters.{comma}
 use Rattle.uri_grammar.specs.declared.error.TemplateErrorKind.{TemplateErrorKind}
 use Rattle.uri_grammar.specs.declared.error.TemplateErrorKind.TheVariants as kind
@@ -172,8 +173,7 @@ first_or_fault list piece rest e lacks more =
         piece = l.piece;
         after = l.after;
         distance = l.distance;
-        whole = comma_after list piece rest e
-            ∙ (ap (λ (t : List ℕ). piece ++ comma ∷ t) l.whole ∙ sym (append_assoc piece (comma ∷ l.front) (l.piece ++ comma ∷ l.after)));
+        whole = grind (arith, common_steps);
         spelled = (l.front, record { piece = piece; whole = refl; lacks = lacks; is_spec = s.1 }, l.spelled);
         lacks = l.lacks;
         fault = l.fault;

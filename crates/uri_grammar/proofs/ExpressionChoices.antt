@@ -5,6 +5,7 @@ use Rattle.std.proofs.Common.{append_assoc, append-nil, length-append, encode_ut
 use Rattle.std.specs.Str.{IsUtf8, chars}
 use Rattle.std.proofs.lemmas.Str.{encodes-chars}
 use Rattle.std.proofs.lemmas.Bool.{cases_Bool}
+use Rattle.std.proofs.lemmas.Grind.{common_steps}
 use Rattle.text_model.specs.Texts.{Text}
 use Rattle.text_model.specs.Writing.{written_ur}
 use Rattle.uri_grammar.specs.Characters.{open_brace, close_brace}
@@ -119,8 +120,7 @@ parts_or_fault (suc n) front (c ∷ cs) parts l s ends =
     (none_or_some (literal_item_len (c ∷ cs)))
   where
     started : (raw after cs : List ℕ) → cs ≡ raw ++ after → literal_item_len after ≡ 0 → 0 < literal_item_len cs → 0 < length raw
-    started [] after cs e z some = absurd (omega (arith, ap literal_item_len e, z, some))
-    started (x ∷ raw) after cs e z some = omega arith
+    started raw after cs e z some = grind (arith, common_steps)
 
 short_text_or_fault : (text : Text) → IsUtf8 text → length text ≤ MAX_BYTES → ((parts : List Part) × IsTemplate text parts)
     ⊎ ((k : TemplateErrorKind) × (at : ℕ) × IsRefusedTemplate text k at)

@@ -1,10 +1,9 @@
 -- Operators and bodies: what the reader needs to know of them, and that a body is at most one expression.
-use Rattle.std.proofs.Common.{◌≡◌, ℕ, ◌+◌, Bool, true, false, ⊎_elim, inl, inr, List, [], ◌∷◌, ◌++◌, length, drop, refl, ap, ◌∙◌, sym, subst, arith}
+use Rattle.std.proofs.Common.{◌≡◌, ℕ, ◌+◌, Bool, true, false, ⊎_elim, inl, inr, List, [], ◌∷◌, length, drop, refl, ap, ◌∙◌, sym, subst, arith}
 use Rattle.std.proofs.lemmas.Grind.{common_steps}
 use Rattle.std.proofs.Common.{◌==◌, nat_eq}
 use Rattle.std.specs.List.{list_any}
 use Rattle.std.proofs.lemmas.Bool.{cases_Bool, cond-true, cond-false, or_from, false≢true}
-use Rattle.std.proofs.lemmas.List.{append_cancel_left}
 use Rattle.uri_grammar.specs.declared.error.TemplateError.{TemplateError}
 use Rattle.uri_grammar.specs.declared.error.TemplateErrorKind.{TemplateErrorKind}
 use Rattle.uri_grammar.specs.declared.parts.Op.{Op}
@@ -52,26 +51,8 @@ operator_of-HasOperator body h = has_operator body h
 
 -- ---- one operator
 
-operator_of-none : (cs : List ℕ) → begins_with_operator cs ≡ false → operator_of cs ≡ operator.Simple
-operator_of-none [] h = refl
-operator_of-none (c ∷ cs) h = grind (arith, common_steps)
-
-operator_of-this : (body : List ℕ) (o : Op) (list : List ℕ) → body ≡ operator_text o ++ list → (o ≡ operator.Simple → begins_with_operator body ≡ false)
-    → operator_of body ≡ o
-operator_of-this body operator.Simple list e h = operator_of-none body (h refl)
-operator_of-this body operator.Plus list e h = ap operator_of e
-operator_of-this body operator.Hash list e h = ap operator_of e
-operator_of-this body operator.Dot list e h = ap operator_of e
-operator_of-this body operator.Slash list e h = ap operator_of e
-operator_of-this body operator.Semicolon list e h = ap operator_of e
-operator_of-this body operator.Question list e h = ap operator_of e
-operator_of-this body operator.Ampersand list e h = ap operator_of e
-
 pub operator_same : (body : List ℕ) (o p : Op) (l m : List ℕ) → HasOperator body o l → HasOperator body p m → (o ≡ p) × (l ≡ m)
-operator_same body o p l m h k =
-    let same : o ≡ p = sym (operator_of-this body o l h.whole h.chosen) ∙ operator_of-this body p m k.whole k.chosen in
-    let texts : operator_text o ++ l ≡ operator_text o ++ m = sym h.whole ∙ (k.whole ∙ ap (λ (q : Op). operator_text q ++ m) (sym same)) in
-    (same, append_cancel_left (operator_text o) l m texts)
+operator_same body o p l m h k = grind (arith, common_steps)
 
 -- ---- errors of bodies
 
@@ -85,7 +66,6 @@ body_fault body o list e is f =
     ⊎_elim
     (λ m. inl (ap (λ (x : TemplateError). moved x (length (operator_text o))) m))
     (λ g.
-    let place : length (operator_text o) + e.at ≡ moved_place e.kind e.at (length (operator_text o)) =
-    omega (arith, spec_moves g.piece e.kind g.distance e.at (length (operator_text o)) g.fault) in
+    let place : length (operator_text o) + e.at ≡ moved_place e.kind e.at (length (operator_text o)) = grind (arith, common_steps) in
     inr (subst (λ (n : ℕ). IsBodyFault body e.kind n) place (bad_list body o list e.kind e.at is g)))
     f

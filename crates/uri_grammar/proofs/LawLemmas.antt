@@ -1,8 +1,9 @@
 -- A text has one tree or one first error, and not both.
 
-use Rattle.std.proofs.Common.{◌≡◌, ◌≢◌, ℕ, List, [], ◌∷◌, ◌++◌, length, refl, ap, ◌∙◌, sym, subst, arith, append-nil, length-append}
+use Rattle.std.proofs.Common.{◌≡◌, ◌≢◌, ℕ, List, [], ◌∷◌, ◌++◌, length, refl, ap, ◌∙◌, sym, subst, arith, length-append}
 use Rattle.std.proofs.lemmas.Bool.{both_ways}
 use Rattle.std.proofs.lemmas.List.Elements.{All-nil}
+use Rattle.std.proofs.lemmas.Grind.{common_steps}
 use Rattle.uri_grammar.specs.Characters.{comma}
 use Rattle.uri_grammar.specs.declared.error.TemplateErrorKind.{TemplateErrorKind}
 use Rattle.uri_grammar.specs.declared.parts.Op.{Op}
@@ -66,15 +67,13 @@ no_empty_list (s ∷ ss) h =
 list_no_fault : (list other : List ℕ) (ss : List Spec) (k : TemplateErrorKind) (d : ℕ) → list ≡ other → SpellsSpecs (list ++ comma ∷ []) ss
     → IsListFault other k d → ⊥
 list_no_fault list other ss k d e h f =
-    let text : (list ++ comma ∷ []) ++ [] ≡ f.front ++ (f.piece ++ comma ∷ f.after) =
-    append-nil (list ++ comma ∷ []) ∙ (ap (λ (t : List ℕ). t ++ comma ∷ []) e ∙ f.whole) in
+    let text : (list ++ comma ∷ []) ++ [] ≡ f.front ++ (f.piece ++ comma ∷ f.after) = grind (arith, common_steps) in
     no_cut f.piece f.after (specs_same ss f.specs (list ++ comma ∷ []) f.front [] (f.piece ++ comma ∷ f.after) h f.spelled nothing_no_spec
     (fault_no_spec (f.piece ++ comma ∷ f.after) f.piece f.after k f.distance refl f.lacks f.fault) text).2
 
 list_one_fault : (list other : List ℕ) (k l : TemplateErrorKind) (d e : ℕ) → list ≡ other → IsListFault list k d → IsListFault other l e → (k ≡ l) × (d ≡ e)
 list_one_fault list other k l d e same f g =
-    let commas : f.front ++ (f.piece ++ comma ∷ f.after) ≡ g.front ++ (g.piece ++ comma ∷ g.after) =
-    sym f.whole ∙ (ap (λ (t : List ℕ). t ++ comma ∷ []) same ∙ g.whole) in
+    let commas : f.front ++ (f.piece ++ comma ∷ f.after) ≡ g.front ++ (g.piece ++ comma ∷ g.after) = grind (arith, common_steps) in
     let none = fault_no_spec (f.piece ++ comma ∷ f.after) f.piece f.after k f.distance refl f.lacks f.fault in
     let no_other = fault_no_spec (g.piece ++ comma ∷ g.after) g.piece g.after l g.distance refl g.lacks g.fault in
     let fronts = specs_same f.specs g.specs f.front g.front (f.piece ++ comma ∷ f.after) (g.piece ++ comma ∷ g.after) f.spelled g.spelled none no_other

@@ -1,5 +1,5 @@
 -- Literals as a run of items, and how a literal grows by one item.
-use Rattle.std.proofs.Common.{◌≡◌, ℕ, ◌+◌, true, false, List, [], ◌∷◌, ◌++◌, drop, take, refl, ◌∙◌, sym, subst, arith, ◌==◌, ◌&&◌}
+use Rattle.std.proofs.Common.{◌≡◌, ℕ, ◌+◌, true, false, List, [], ◌∷◌, ◌++◌, drop, take, refl, arith, ◌==◌, ◌&&◌}
 use Rattle.std.specs.Prelude.{if◌then◌else◌}
 use Rattle.std.proofs.lemmas.Grind.{common_steps}
 use Rattle.std.proofs.Math.Seq.{take-add}
@@ -15,9 +15,7 @@ percent_first c high low t = eqb-true c 37 (and_parts (c == 37) (is_hexadecimal 
 
 literal_item_len-triplet : (c high low : ℕ) (x : List ℕ) → is_triplet c high low ≡ true → literal_item_len (c ∷ high ∷ low ∷ x) ≡ 3
 unfolding is_literal_character
-literal_item_len-triplet c high low x t =
-    let percent : is_literal_character c ≡ false = subst (λ (k : ℕ). is_literal_character k ≡ false) (sym (percent_first c high low t)) refl in
-    cond-false (is_literal_character c) _ _ percent ∙ cond-true (begins_with_triplet (c ∷ high ∷ low ∷ x)) _ _ t
+literal_item_len-triplet c high low x t = grind (arith, percent_first, cond-false, cond-true)
 
 pub AreLiterals-run : (cs : List ℕ) → AreLiterals cs → Run literal_item_len cs
 AreLiterals-run cs no_literals = no_item
@@ -29,9 +27,7 @@ AreLiterals-run cs (literal_triplet c d e rest t more) =
 -- there is no literal at the beginning exactly if its length is 0
 pub no_literal-length : (cs : List ℕ) → begins_with_literal cs ≡ false → literal_item_len cs ≡ 0
 no_literal-length [] h = refl
-no_literal-length (c ∷ cs) h =
-    let none = or_parts (is_literal_character c) (begins_with_triplet (c ∷ cs)) h in
-    cond-false (is_literal_character c) _ _ none.0 ∙ cond-false (begins_with_triplet (c ∷ cs)) _ _ none.1
+no_literal-length (c ∷ cs) h = grind (arith, or_parts, cond-false)
 
 pub no_length-literal : (cs : List ℕ) → literal_item_len cs ≡ 0 → begins_with_literal cs ≡ false
 no_length-literal [] h = refl

@@ -1,18 +1,17 @@
 -- Names as a run of items, how a name grows, and that a name is ASCII and URI text.
 use Rattle.std.proofs.Common.{◌≡◌, ℕ, ◌+◌, ◌<◌, ◌≤◌, true, false, ⊎_elim, suc, List, [], ◌∷◌, ◌++◌, length, drop, take, refl, ap, ◌∙◌, sym, subst, arith}
 use Rattle.std.proofs.lemmas.Grind.{common_steps}
-use Rattle.std.proofs.Common.{append_assoc, append-nil, length-append, ◌==◌, ◌&&◌, encode_utf8_all}
+use Rattle.std.proofs.Common.{append_assoc, append-nil, length-append, ◌==◌, encode_utf8_all}
 use Rattle.std.proofs.Math.Seq.{take-add, take-length}
-use Rattle.std.proofs.lemmas.Bool.{cases_Bool, cond-true, cond-false, eqb-true, ne_eqb, both_ways, false_from_ne_true, and_parts}
+use Rattle.std.proofs.lemmas.Bool.{cases_Bool, cond-true, cond-false, eqb-true, ne_eqb, both_ways, false_from_ne_true}
 use Rattle.std.proofs.lemmas.Bool.Decides.{nat_tests}
 use Rattle.std.proofs.lemmas.List.{length-take-le}
 use Rattle.std.proofs.lemmas.Str.{encode_ascii, encodes-append}
-use Rattle.text_model.specs.Texts.{begins_with_triplet, is_hexadecimal, is_unreserved}
+use Rattle.text_model.specs.Texts.{begins_with_triplet, is_unreserved}
 use Rattle.text_model.specs.Writing.{is_unreserved_or_reserved}
 use Rattle.text_model.specs.UriText.{IsUriText}
 use Rattle.text_model.proofs.UriTexts.{IsUriText-append, IsUriText-character, IsUriText-triplet}
 use Rattle.text_model.proofs.Lists.{same_halves}
-use Rattle.text_model.proofs.UriAscii.{hexadecimal_below}
 use Rattle.uri_grammar.specs.Private.Lengths.{varchar_len, next_len}
 use Rattle.uri_grammar.specs.Names.{is_name_character, IsVarchar, character_varchar, triplet_varchar, IsVarname, first_varchar, next_varchar, dotted_varchar}
 use Rattle.uri_grammar.specs.Names.{BeginsWithVarname}
@@ -22,14 +21,11 @@ use Rattle.uri_grammar.proofs.LiteralLemmas.{percent_first}
 -- ---- varchars
 
 length-varchar : (v : List ℕ) → IsVarchar v → 0 < length v
-length-varchar v (character_varchar c w) = omega arith
-length-varchar v (triplet_varchar c d e t) = omega arith
+length-varchar v h = grind (arith, common_steps)
 
 varchar_len-varchar : (v x : List ℕ) → IsVarchar v → varchar_len (v ++ x) ≡ length v
 varchar_len-varchar v x (character_varchar c w) = cond-true (is_name_character c) _ _ w
-varchar_len-varchar v x (triplet_varchar c d e t) =
-    let percent : is_name_character c ≡ false = subst (λ (k : ℕ). is_name_character k ≡ false) (sym (percent_first c d e t)) refl in
-    cond-false (is_name_character c) _ _ percent ∙ cond-true (begins_with_triplet (c ∷ d ∷ e ∷ x)) _ _ t
+varchar_len-varchar v x (triplet_varchar c d e t) = grind (arith, percent_first, cond-false, cond-true)
 
 no_dot : (c : ℕ) → is_name_character c ≡ true → (c == 46) ≡ false
 no_dot c w =
@@ -37,9 +33,7 @@ no_dot c w =
 
 next_len-varchar : (v x : List ℕ) → IsVarchar v → next_len (v ++ x) ≡ length v
 next_len-varchar v x (character_varchar c w) = cond-false (c == 46) _ _ (no_dot c w) ∙ varchar_len-varchar (c ∷ []) x (character_varchar c w)
-next_len-varchar v x (triplet_varchar c d e t) =
-    let percent : (c == 46) ≡ false = subst (λ (k : ℕ). (k == 46) ≡ false) (sym (percent_first c d e t)) refl in
-    cond-false (c == 46) _ _ percent ∙ varchar_len-varchar (c ∷ d ∷ e ∷ []) x (triplet_varchar c d e t)
+next_len-varchar v x (triplet_varchar c d e t) = grind (arith, percent_first, cond-false, varchar_len-varchar)
 
 next_len-dotted : (v x : List ℕ) → IsVarchar v → next_len (46 ∷ v ++ x) ≡ suc (length v)
 next_len-dotted v x h = grind (arith, varchar_len-varchar, length-varchar, ne_eqb, cond-false)
@@ -87,9 +81,7 @@ length-varname name (dotted_varchar n v h k) = omega (arith, length-append n (46
 -- a text begins with at most one longest name
 pub longest_same : (cs name after other following : List ℕ) → BeginsWithVarname cs name after → BeginsWithVarname cs other following
     → (name ≡ other) × (after ≡ following)
-longest_same cs name after other following h k =
-    let size : length name ≡ length other = omega (arith, h.longest other following k.whole k.is_varname, k.longest name after h.whole h.is_varname) in
-    same_halves name other after following size (sym h.whole ∙ k.whole)
+longest_same cs name after other following h k = grind (arith, same_halves)
 
 -- a name that cannot continue is the longest
 pub ended_varname : (cs name after : List ℕ) → cs ≡ name ++ after → IsVarname name → next_len after ≡ 0 → BeginsWithVarname cs name after
@@ -128,18 +120,11 @@ IsVarname-more cs len n h e l = rw (e, take-add) (IsVarname-next (take len cs) (
 
 -- ---- a name as text
 
-character_ascii : (c : ℕ) → is_name_character c ≡ true → c < 128
-character_ascii c w = grind (arith, nat_tests, w)
-
 pub encodes_ascii : (c : ℕ) (cs : List ℕ) → c < 128 → encode_utf8_all cs ≡ cs → encode_utf8_all (c ∷ cs) ≡ c ∷ cs
 encodes_ascii c cs l e = ap (λ (t : List ℕ). t ++ encode_utf8_all cs) (encode_ascii c l) ∙ ap (λ (t : List ℕ). c ∷ t) e
 
 encodes-varchar : (v : List ℕ) → IsVarchar v → encode_utf8_all v ≡ v
-encodes-varchar v (character_varchar c w) = encodes_ascii c [] (character_ascii c w) refl
-encodes-varchar v (triplet_varchar c d e t) =
-    let digits = and_parts (is_hexadecimal d) (is_hexadecimal e) (and_parts (c == 37) (is_hexadecimal d && is_hexadecimal e) t).1 in
-    let percent : c < 128 = omega (arith, percent_first c d e t) in
-    encodes_ascii c (d ∷ e ∷ []) percent (encodes_ascii d (e ∷ []) (hexadecimal_below d digits.0) (encodes_ascii e [] (hexadecimal_below e digits.1) refl))
+encodes-varchar v h = grind (arith, common_steps)
 
 -- a name is ASCII, so its characters are its bytes
 pub encodes-varname : (name : List ℕ) → IsVarname name → encode_utf8_all name ≡ name

@@ -70,13 +70,10 @@ max_length-tests (d ∷ ds) = refl
 
 none_by : (ds : List ℕ) (digits small : Bool) → list_all is_ascii_digit ds ≡ digits → nat_le (value_from 0 ds) MAX_PREFIX ≡ small
     → tests ds digits small ≡ false → number_of ds ≡ None
-none_by ds digits small d s e =
-    cond-false (is_max_length ds) _ _
-    (max_length-tests ds ∙ (ap (λ (t : Bool). tests ds t (nat_le (value_from 0 ds) MAX_PREFIX)) d ∙ (ap (tests ds digits) s ∙ e)))
+none_by ds digits small d s e = grind (arith, cond-false, max_length-tests, tests, digits)
 
 never : (x y z : Bool) → (y && z) ≡ false → (x && (y && z)) ≡ false
-never true y z e = e
-never false y z e = refl
+never x y z e = grind (arith, common_steps)
 
 pub too_large : (ds : List ℕ) (i n d : ℕ) → HasRead ds i n → i < length ds → d ≡ get_or ds i d → MAX_PREFIX < 10 * n + (d - 48) → number_of ds ≡ None
 unfolding tests

@@ -3,8 +3,8 @@
 use Rattle.std.proofs.Common.{◌≡◌, ◌≢◌, ℕ, ◌+◌, ◌<◌, ◌≤◌, ⊎_elim, List, [], ◌∷◌, ◌++◌, length, refl, ap, ◌∙◌, sym, subst, arith, append-nil, encode_utf8_all}
 use Rattle.std.proofs.lemmas.Str.{encodes_same}
 use Rattle.std.proofs.lemmas.List.Elements.{All-nil}
+use Rattle.std.proofs.lemmas.Grind.{common_steps}
 use Rattle.text_model.specs.Texts.{Text}
-use Rattle.text_model.specs.Writing.{written_ur}
 use Rattle.uri_grammar.specs.Characters.{open_brace, close_brace}
 use Rattle.uri_grammar.specs.declared.error.TemplateErrorKind.{TemplateErrorKind}
 use Rattle.uri_grammar.specs.declared.parts.Op.{Op}
@@ -61,10 +61,7 @@ fault_no_part cs k d (bad_expression xs more k' d' l lack f) = record {
 }
 
 length-fault : (cs : List ℕ) (k : TemplateErrorKind) (d : ℕ) → IsPartFault cs k d → 0 < length cs
-length-fault cs k d (bad_literal c xs l b) = omega arith
-length-fault cs k d (unclosed xs lack) = omega arith
-length-fault cs k d (empty_expression more) = omega arith
-length-fault cs k d (bad_expression xs more k' d' l lack f) = omega arith
+length-fault cs k d h = grind (arith, common_steps)
 
 not_nothing : (xs : List ℕ) → 0 < length xs → [] ≡ xs → ⊥
 not_nothing xs l e = omega (arith, ap length e)
@@ -140,8 +137,6 @@ spelled_same (Literal w ∷ ps) (Literal v ∷ qs) front other rest following s 
     let heads = run_same literal_item_len b.raw d.raw (s.0 ++ rest) (t.0 ++ following) (AreLiterals-run b.raw b.are_literals)
     (AreLiterals-run d.raw d.are_literals) (sym b.whole ∙ (e ∙ d.whole)) (spelled_front ps s.0 rest s.3 s.2 k) (spelled_front qs t.0 following t.3 t.2 m) in
     let tails = spelled_same ps qs s.0 t.0 rest following s.3 t.3 k m heads.1 in
-    let written : w ≡ v = b.is_written ∙ (ap (λ (x : List ℕ). written_ur (encode_utf8_all x)) heads.0 ∙ sym d.is_written) in
-    let parts : ps ≡ qs = tails.0 in
     (cc, s.1.whole ∙ (ap (λ (x : List ℕ). x ++ s.0) heads.0 ∙ (ap (λ (x : List ℕ). t.1.raw ++ x) tails.1 ∙ sym t.1.whole)), tails.2)
 spelled_same (Literal w ∷ ps) (Expression o specs ∷ qs) front other rest following s t k m e =
     absurd (no_literal_here (front ++ rest) w (s.0 ++ rest) (literals_before front w s.0 rest s.1)
@@ -156,8 +151,6 @@ spelled_same (Expression o specs ∷ ps) (Expression p others ∷ qs) front othe
     (after_brace (b.body ++ close_brace ∷ (s.0 ++ rest)) (d.body ++ close_brace ∷ (t.0 ++ following)) (sym b.whole ∙ (e ∙ d.whole))) in
     let bodies = body_same d.body o p specs others (subst (λ (x : List ℕ). IsBody x o specs) cut.0 b.is_body) d.is_body in
     let tails = spelled_same ps qs s.0 t.0 rest following s.2 t.2 k m cut.1 in
-    let first : o ≡ p = bodies.0 in
-    let second : specs ≡ others = bodies.1 in
     let parts : ps ≡ qs = tails.0 in (
       cc,
       s.1.whole ∙ (ap (λ (x : List ℕ). open_brace ∷ x ++ close_brace ∷ s.0) cut.0

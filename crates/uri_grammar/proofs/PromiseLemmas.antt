@@ -1,6 +1,7 @@
 -- What holds for every tree of the grammar.
-use Rattle.std.proofs.Common.{ℕ, ◌<◌, List, [], ◌∷◌, ◌++◌, length, ap, sym, subst, arith, length-append, All, encode_utf8_all}
+use Rattle.std.proofs.Common.{ℕ, ◌<◌, List, [], ◌∷◌, ◌++◌, length, sym, subst, arith, All, encode_utf8_all}
 use Rattle.std.proofs.lemmas.List.Elements.{All-nil, All-cons}
+use Rattle.std.proofs.lemmas.Grind.{common_steps}
 use Rattle.text_model.specs.Texts.{Text}
 use Rattle.text_model.specs.UriText.{IsUriText}
 use Rattle.text_model.proofs.UriTexts.{written_ur-uri}
@@ -25,8 +26,7 @@ sound_specs [] cs h = All-nil IsSoundSpec
 sound_specs (s ∷ ss) cs h = All-cons IsSoundSpec s ss (sound_spec h.1.piece s h.1.is_spec) (sound_specs ss h.0 h.2)
 
 some_spec : (specs : List Spec) (list : List ℕ) → SpellsSpecs (list ++ comma ∷ []) specs → 0 < length specs
-some_spec [] list h = absurd (omega (arith, ap length h, length-append list (comma ∷ [])))
-some_spec (s ∷ ss) list h = omega arith
+some_spec specs list h = grind (arith, common_steps)
 
 sound_parts : (parts : List Part) (cs : List ℕ) → Spells cs parts → All IsSoundPart parts
 sound_parts [] cs h = All-nil IsSoundPart

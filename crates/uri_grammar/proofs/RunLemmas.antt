@@ -1,6 +1,7 @@
 -- Texts that are split in only one way: at the first place of a character, and after a run of items.
 use Rattle.std.proofs.Common.{◌≡◌, ◌≢◌, ℕ, ◌<◌, ◌≤◌, List, [], ◌∷◌, ◌++◌, length, refl, ap, ◌∙◌, sym, subst, arith, append_assoc, append-nil, length-append}
 use Rattle.std.proofs.lemmas.List.Elements.{All-head, All-tail}
+use Rattle.std.proofs.lemmas.Grind.{common_steps}
 use Rattle.text_model.proofs.Lists.{same_halves}
 use Rattle.uri_grammar.specs.Specs.{Lacks}
 
@@ -10,7 +11,6 @@ split_same c [] [] a b h k e = (refl, cc)
 split_same c [] (y ∷ ys) a b h k e = absurd (All-head (λ x. x ≢ c) y ys k (let same : y ≡ c = cc in same))
 split_same c (x ∷ xs) [] a b h k e = absurd (All-head (λ x. x ≢ c) x xs h (let same : x ≡ c = cc in same))
 split_same c (x ∷ xs) (y ∷ ys) a b h k e =
-    let head : x ≡ y = cc in
     let tail : xs ++ c ∷ a ≡ ys ++ c ∷ b = cc in
     let rest = split_same c xs ys a b (All-tail (λ z. z ≢ c) x xs h) (All-tail (λ z. z ≢ c) y ys k) tail in
     (let same : xs ≡ ys = rest.0 in cc, rest.1)
@@ -29,9 +29,7 @@ pub data Run (item : List ℕ → ℕ) : List ℕ → Type 0 where
 
 pub item-Run : (item : List ℕ → ℕ) (xs x : List ℕ) → Run item xs → 0 < length xs → 0 < item (xs ++ x)
 item-Run item xs x no_item l = absurd (omega arith)
-item-Run item xs x (next_item front rest pos is more) l =
-    let whole : item ((front ++ rest) ++ x) ≡ length front = ap item (append_assoc front rest x) ∙ is (rest ++ x) in
-    omega (arith, whole, pos)
+item-Run item xs x (next_item front rest pos is more) l = grind (arith, common_steps)
 
 -- a run of items that no item follows is the longest, and so the only one
 pub run_same : (item : List ℕ → ℕ) (xs ys a b : List ℕ) → Run item xs → Run item ys → xs ++ a ≡ ys ++ b → item a ≡ 0 → item b ≡ 0 → (xs ≡ ys) × (a ≡ b)

@@ -111,9 +111,7 @@ no_name cs z name after h = omega (arith, z, ap varchar_len h.begins.whole, varc
 pub long_name : (cs name after : List ℕ) → BeginsWithVarname cs name after → MAX_NAME_BYTES < length name → (other following : List ℕ)
     → IsNamed cs other following
     → ⊥
-long_name cs name after h l other following k =
-    let short : length other ≤ MAX_NAME_BYTES = k.short in
-    omega (arith, short, l, ap length (longest_same cs name after other following h k.begins).0)
+long_name cs name after h l other following k = grind (arith, common_steps)
 
 pub bad_follower : (cs name after : List ℕ) → BeginsWithVarname cs name after → 0 < length after → begins_with_modifier after ≡ false
     → (other following : List ℕ)
@@ -131,14 +129,10 @@ named_same cs name after other following h k = longest_same cs name after other 
 -- ---- specs
 
 spec_named : (cs : List ℕ) (spec : Spec) (h : IsSpec cs spec) → IsNamed cs spec.name h.after
-spec_named cs spec h =
-    let ends = modifier_ends h.after spec.cut spec.explode h.modified in
-    record { begins = ended_varname cs spec.name h.after h.whole h.is_name.0 ends.0; short = h.is_name.1; follows = ends.1 }
+spec_named cs spec h = grind (arith, modifier_ends, ended_varname)
 
 spec_by_fields : (s t : Spec) → s.name ≡ t.name → s.cut ≡ t.cut → s.explode ≡ t.explode → s ≡ t
-spec_by_fields s t p q r =
-    let make : List ℕ → ℕ → Bool → Spec = λ n c x. record { name = n; cut = c; explode = x } in
-    ap (λ (n : List ℕ). make n s.cut s.explode) p ∙ (ap (λ (c : ℕ). make t.name c s.explode) q ∙ ap (λ (x : Bool). make t.name t.cut x) r)
+spec_by_fields s t p q r = grind (arith, common_steps)
 
 pub spec_same : (cs : List ℕ) (s t : Spec) → IsSpec cs s → IsSpec cs t → s ≡ t
 spec_same cs s t h k =
@@ -198,11 +192,9 @@ pub specs_step : (list rest piece : List ℕ) (done len : ℕ) (ss : List Spec) 
     → SpellsSpecs (take done (list ++ comma ∷ [])) ss → SpellsSpecs (take (done + (len + 1)) (list ++ comma ∷ [])) (ss ++ s ∷ [])
 specs_step list rest piece done len ss s w r p within lacks cut is h =
     let size : length (take len rest) ≡ len = length-take-le len rest within in
-    let front : take (len + 1) (take len rest ++ comma ∷ cut.0) ≡ take len rest ++ comma ∷ [] =
-    ap (λ (n : ℕ). take (n + 1) (take len rest ++ comma ∷ cut.0)) (sym size) ∙ take-append-add (take len rest) (comma ∷ cut.0) 1 in
+    let front : take (len + 1) (take len rest ++ comma ∷ cut.0) ≡ take len rest ++ comma ∷ [] = grind (arith, size, take-append-add) in
     let all : take (done + (len + 1)) (list ++ comma ∷ []) ≡ take done (list ++ comma ∷ []) ++ (take len rest ++ comma ∷ []) =
-    take-add done (len + 1) (list ++ comma ∷ []) ∙ ap (λ (t : List ℕ). take done (list ++ comma ∷ []) ++ t)
-    (ap (λ (t : List ℕ). take (len + 1) t) (following list rest done len w r cut.0 cut.1) ∙ front) in
+    grind (arith, take-add, following, front) in
     subst (λ (t : List ℕ). SpellsSpecs t (ss ++ s ∷ [])) (sym all)
     (SpellsSpecs-more ss (take done (list ++ comma ∷ [])) (take len rest) s h lacks (subst (λ (t : List ℕ). IsSpec t s) p is))
 
@@ -218,8 +210,7 @@ specs_fault list rest piece done len ss e w r p lacks cut h f =
     ⊎_elim
     (λ m. inl (ap (λ (x : TemplateError). moved x done) m))
     (λ g.
-    let place : moved_place e.kind e.at done ≡ length (take done (list ++ comma ∷ [])) + e.at = spec_moves piece e.kind e.at e.at done g
-    ∙ omega (arith, size) in
+    let place : moved_place e.kind e.at done ≡ length (take done (list ++ comma ∷ [])) + e.at = grind (arith, spec_moves, size) in
     inr (record {
       front = take done (list ++ comma ∷ []);
       specs = ss;

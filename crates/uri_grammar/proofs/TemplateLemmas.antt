@@ -1,5 +1,5 @@
 -- Parts one after another: what the reader needs to know of expressions, parts and their errors.
-use Rattle.std.proofs.Common.{◌≡◌, ℕ, ◌+◌, ◌<◌, ◌≤◌, ⊎_elim, inl, inr, suc, List, [], ◌∷◌, ◌++◌, length, get_or, drop, take, refl, ap, ◌∙◌, sym, subst, arith}
+use Rattle.std.proofs.Common.{◌≡◌, ℕ, ◌+◌, ◌<◌, ◌≤◌, ⊎_elim, inl, inr, List, [], ◌∷◌, ◌++◌, length, get_or, drop, take, refl, ap, ◌∙◌, sym, subst, arith}
 use Rattle.std.proofs.lemmas.Grind.{common_steps}
 use Rattle.std.proofs.Common.{append_assoc, append-nil, take-append-drop, true, false, ◌==◌, encode_utf8_all}
 use Rattle.std.proofs.Math.Seq.{take-add, take-append-add}
@@ -75,12 +75,10 @@ Spells-expression front cs (Expression op specs ∷ parts) part s h =
     (s.0 ++ cs, expression_before front op specs s.0 cs s.1, Spells-expression s.0 cs parts part s.2 h)
 
 EndsWithNoLiteral-second : (p part : Part) → EndsWithNoLiteral (part ∷ []) → EndsWithNoLiteral (p ∷ part ∷ [])
-EndsWithNoLiteral-second (Literal w) part h = h
-EndsWithNoLiteral-second (Expression op specs) part h = h
+EndsWithNoLiteral-second p part h = grind (arith, common_steps)
 
 EndsWithNoLiteral-skip : (p q : Part) (parts : List Part) → EndsWithNoLiteral (q ∷ parts) → EndsWithNoLiteral (p ∷ q ∷ parts)
-EndsWithNoLiteral-skip (Literal w) q parts h = h
-EndsWithNoLiteral-skip (Expression op specs) q parts h = h
+EndsWithNoLiteral-skip p q parts h = grind (arith, common_steps)
 
 pub EndsWithNoLiteral-expression : (parts : List Part) (part : Part) (cs : List ℕ) → IsExpression cs part → EndsWithNoLiteral (parts ++ part ∷ [])
 EndsWithNoLiteral-expression [] (Literal w) cs h = absurd h
@@ -96,8 +94,7 @@ length-take_within n xs l = length-take-le n xs (omega arith)
 -- the text up to the brace at a place, and what follows it
 braced : (cs inner : List ℕ) (end : ℕ) → begins_with_brace cs ≡ true → inner ≡ drop 1 cs → end < length inner → get_or inner end 0 ≡ close_brace
     → cs ≡ open_brace ∷ take end inner ++ close_brace ∷ drop (end + 1) inner
-braced [] inner end b e l h = cc
-braced (c ∷ cs) inner end b e l h = grind (arith, common_steps)
+braced cs inner end b e l h = grind (arith, common_steps)
 
 pub IsExpression-braced : (cs inner : List ℕ) (end : ℕ) (op : Op) (specs : List Spec) → begins_with_brace cs ≡ true → inner ≡ drop 1 cs → end < length inner
     → get_or inner end 0 ≡ close_brace → Lacks close_brace (take end inner) → IsBody (take end inner) op specs
@@ -109,9 +106,7 @@ IsExpression-braced cs inner end op specs b e l h lacks ok =
   where
     front : (cs body rest : List ℕ) (end : ℕ) → length body ≡ end → cs ≡ open_brace ∷ body ++ close_brace ∷ rest
         → take (end + 2) cs ≡ open_brace ∷ body ++ close_brace ∷ []
-    front cs body rest end size whole =
-        let n : end + 2 ≡ suc (length body + 1) = omega arith in
-        rw (whole, n) (ap (λ x. open_brace ∷ x) (take-append-add body (close_brace ∷ rest) 1))
+    front cs body rest end size whole = grind (arith, take-append-add)
 
 -- ---- one step of reading
 
@@ -130,10 +125,7 @@ Spells-more_expression cs done len part parts parts' h e s =
 -- ---- errors
 
 part_moves : (cs : List ℕ) (k : TemplateErrorKind) (d at n : ℕ) → IsPartFault cs k d → moved_place k at n ≡ at + n
-part_moves cs k d at n (bad_literal c xs l b) = refl
-part_moves cs k d at n (unclosed xs l) = refl
-part_moves cs k d at n (empty_expression xs) = refl
-part_moves cs k d at n (bad_expression body rest k' d' l lack f) = body_moves body k d' at n f
+part_moves cs k d at n h = grind (arith, body_moves)
 
 pub IsPartFault-body : (cs inner : List ℕ) (end : ℕ) (e : TemplateError) → begins_with_brace cs ≡ true → inner ≡ drop 1 cs → end < length inner → 0 < end
     → get_or inner end 0 ≡ close_brace → Lacks close_brace (take end inner) → IsFault e (IsBodyFault (take end inner)) → IsFault (moved e 1) (IsPartFault cs)

@@ -1,11 +1,11 @@
 -- The first bytes of a text and the letters with which they are compared, in either case.
-use Rattle.std.proofs.Common.{◌≡◌, ◌<◌, Bool, true, false, ◌↔◌, map, length, take, refl, ap, arith}
-use Rattle.std.specs.Bool.{Decides, IsTrue}
+use Rattle.std.proofs.Common.{◌≡◌, ◌<◌, Bool, false, ◌↔◌, map, length, arith}
+use Rattle.std.specs.Bool.{IsTrue}
 use Rattle.std.specs.Char.{to_ascii_lowercase}
 use Rattle.std.specs.Str.{str_eq_ignore_ascii_case}
 use Rattle.std.proofs.lemmas.Bool.Decides.{same_from_decides}
-use Rattle.std.proofs.lemmas.List.{length-map, take_all}
 use Rattle.std.proofs.lemmas.Slice.Eq.{bytes_eq-Decides}
+use Rattle.std.proofs.lemmas.Grind.{common_steps}
 use Rattle.text_model.specs.Texts.{Text}
 use Rattle.uri_text.specs.AnyCase.{begins_in_any_case}
 
@@ -15,17 +15,4 @@ front_decides r front beginning h = same_from_decides r (str_eq_ignore_ascii_cas
 
 -- a text that is shorter
 pub short_differs : (text beginning : Text) → length text < length beginning → begins_in_any_case text beginning ≡ false
-short_differs text beginning short = by_test (begins_in_any_case text beginning) (bytes_eq-Decides _ _)
-  where
-    by_test : (x : Bool) → Decides x (map to_ascii_lowercase (take (length beginning) text) ≡ map to_ascii_lowercase beginning) → x ≡ false
-    by_test true d =
-        let same = ap length (d.0 refl) in
-        absurd (omega (
-          arith,
-          same,
-          short,
-          length-map (take (length beginning) text) to_ascii_lowercase,
-          length-map beginning to_ascii_lowercase,
-          ap length (take_all (length beginning) text (omega (arith, short))),
-        ))
-    by_test false d = refl
+short_differs text beginning short = grind (arith, common_steps)

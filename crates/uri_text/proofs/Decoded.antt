@@ -1,11 +1,11 @@
 -- Percent-decoding an encoded text.
-use Rattle.std.proofs.Common.{◌≡◌, ◌≢◌, ℕ, ◌+◌, ◌*◌, ◌<◌, [], ◌∷◌, ◌++◌, Bool, true, false, ◌&&◌, ◌==◌, refl, sym, ap, ◌∙◌, arith, append-nil}
+use Rattle.std.proofs.Common.{◌≡◌, ◌≢◌, ℕ, ◌<◌, [], ◌∷◌, ◌++◌, Bool, true, false, refl, sym, ap, ◌∙◌, arith, append-nil}
 use Rattle.std.specs.Prelude.{All, if◌then◌else◌}
 use Rattle.std.specs.Char.{digit_value}
 use Rattle.std.proofs.lemmas.Bool.{and_parts, eqb-true, cond-false}
 use Rattle.std.proofs.lemmas.List.Elements.{All-head, All-tail}
 use Rattle.std.proofs.lemmas.Bool.Decides.{nat_tests}
-use Rattle.percent_encoding.specs.Percent.{percent_decode, is_escape}
+use Rattle.percent_encoding.specs.Percent.{percent_decode}
 use Rattle.percent_encoding.proofs.PercentLemmas.{percent_decode-nil, percent_decode_escape, percent_decode_not_percent, percent_decode-percent_encode_byte}
 use Rattle.text_model.specs.Texts.{Text, is_unreserved, is_triplet, is_hexadecimal}
 use Rattle.text_model.specs.Writing.{written_byte, is_unreserved_or_reserved, written_u, written_ur}
@@ -49,11 +49,7 @@ alone_ur b small = ap percent_decode (sym (append-nil (written_byte (is_unreserv
 -- bytes that are not a triplet are decoded byte by byte
 kept_first : (b high low : ℕ) (t : Text) → is_triplet b high low ≡ false → percent_decode (b ∷ high ∷ low ∷ t) ≡ b ∷ percent_decode (high ∷ low ∷ t)
 unfolding percent_decode
-kept_first b high low t e = cond-false (is_escape b high low) _ _ (grouped (b == 37) (is_hexadecimal high) (is_hexadecimal low) ∙ e)
-  where
-    grouped : (x y z : Bool) → ((x && y) && z) ≡ (x && (y && z))
-    grouped true y z = refl
-    grouped false y z = refl
+kept_first b high low t e = grind (arith, cond-false)
 
 pub decoded_ur : (t : Text) → AreBytes t → percent_decode (written_ur t) ≡ percent_decode t
 unfolding written_ur percent_decode
@@ -70,11 +66,6 @@ decoded_ur (b ∷ high ∷ low ∷ t) h =
         ≡ percent_decode (high ∷ low ∷ t)
         → percent_decode (if x then (b ∷ high ∷ low ∷ written_ur t) else (written_byte (is_unreserved_or_reserved b) b ++ written_ur (high ∷ low ∷ t)))
         ≡ percent_decode (b ∷ high ∷ low ∷ t)
-    by_test true e i j =
-        let parts = and_parts (b == 37) (is_hexadecimal high && is_hexadecimal low) e in
-        let digits = and_parts (is_hexadecimal high) (is_hexadecimal low) parts.1 in
-        let escaped = λ (rest : Text). percent_decode_escape b high low rest (eqb-true b 37 parts.0) (hexadecimal_value high digits.0)
-        (hexadecimal_value low digits.1) in
-        escaped (written_ur t) ∙ (ap (λ x. (16 * digit_value high + digit_value low) ∷ x) i ∙ sym (escaped t))
+    by_test true e i j = grind (arith, and_parts, percent_decode_escape, eqb-true, hexadecimal_value)
     by_test false e i j = decoded_ur_byte b (written_ur (high ∷ low ∷ t)) (first_byte b (high ∷ low ∷ t) h)
         ∙ (ap (λ x. b ∷ x) j ∙ sym (kept_first b high low t e))

@@ -1,6 +1,6 @@
 -- The item at the beginning of a text.
 use Rattle.std.proofs.Common.{◌≡◌, ℕ, suc, ◌+◌, ◌<◌, ◌-◌, ◌≤◌, ◌⊎◌, inl, inr, append_assoc, append-nil, List, [], ◌∷◌, ◌++◌, length, take, drop, Bool, true}
-use Rattle.std.proofs.Common.{false, cond, ◌&&◌, ◌==◌, not, add-one, refl, sym, ap, ◌∙◌, arith}
+use Rattle.std.proofs.Common.{false, cond, ◌&&◌, not, add-one, refl, ap, ◌∙◌, arith}
 use Rattle.std.specs.Prelude.{if◌then◌else◌}
 use Rattle.std.specs.List.{prefix_len}
 use Rattle.std.proofs.lemmas.Bool.{and_parts, not-true}
@@ -8,6 +8,7 @@ use Rattle.std.proofs.lemmas.Bool.Decides.{nat_tests}
 use Rattle.std.proofs.Math.Seq.{take-add}
 use Rattle.std.proofs.lemmas.List.{drop-drop, length-drop}
 use Rattle.std.proofs.lemmas.List.Sums.{prefix_len-le-length}
+use Rattle.std.proofs.lemmas.Grind.{common_steps}
 use Rattle.text_model.specs.Texts.{Text, is_hexadecimal, is_triplet}
 use Rattle.text_model.specs.Cut.{is_continuation, code_points, with_triplets, items, cut}
 use Rattle.text_model.proofs.Cuts.{code_points-next, begins_with_triplet_points, with_triplets-first, with_triplets-triplet, cut-item, cut-nothing}
@@ -18,8 +19,7 @@ hexadecimal_alone : (b : ℕ) → is_hexadecimal b ≡ true → is_continuation 
 hexadecimal_alone b h = grind (arith, nat_tests)
 
 run_alone : (t : Text) → continues t ≡ false → prefix_len is_continuation t ≡ 0
-run_alone [] e = refl
-run_alone (c ∷ t) e = ap (λ x. cond x (1 + prefix_len is_continuation t) 0) e
+run_alone t e = grind (arith, common_steps)
 
 -- a byte that is not continued is a code point
 code_points-alone : (b : ℕ) (t : Text) → continues t ≡ false → code_points (b ∷ t) ≡ (b ∷ []) ∷ code_points t
@@ -35,13 +35,10 @@ code_points-longer b (c ∷ t) e =
     (c, take k t, code_points (drop k t), code_points-next b (c ∷ t) ∙ ap (λ n. (b ∷ take n (c ∷ t)) ∷ code_points (drop n (c ∷ t))) more)
 
 long_first : (b c : ℕ) (front : Text) (points : List Text) → begins_with_triplet_points (b ∷ c ∷ front) points ≡ false
-long_first b c front [] = refl
-long_first b c front (q ∷ []) = refl
-long_first b c front (q ∷ r ∷ points) = refl
+long_first b c front points = grind (arith, common_steps)
 
 long_second : (b c d : ℕ) (front : Text) (points : List Text) → begins_with_triplet_points (b ∷ []) ((c ∷ d ∷ front) ∷ points) ≡ false
-long_second b c d front [] = refl
-long_second b c d front (r ∷ points) = refl
+long_second b c d front points = grind (arith, common_steps)
 
 -- whether the third code point is a single byte
 by_third : (b c d : ℕ) (t : Text) (x : Bool) → continues t ≡ x → (is_triplet b c d && not (continues t)) ≡ false
@@ -49,13 +46,7 @@ by_third : (b c d : ℕ) (t : Text) (x : Bool) → continues t ≡ x → (is_tri
 by_third b c d t true e h =
     let longer = code_points-longer d t e in
     ap (λ points. begins_with_triplet_points (b ∷ []) ((c ∷ []) ∷ points)) longer.3
-by_third b c d t false e h =
-    let alone = ap (λ points. begins_with_triplet_points (b ∷ []) ((c ∷ []) ∷ points)) (code_points-alone d t e) in
-    alone ∙ by_rest (is_triplet b c d) (rw e at h)
-  where
-    by_rest : (y : Bool) → (y && true) ≡ false → y ≡ false
-    by_rest true g = g
-    by_rest false g = refl
+by_third b c d t false e h = grind (arith, begins_with_triplet_points, code_points-alone)
 
 by_second : (b c : ℕ) (t : Text) (x : Bool) → continues t ≡ x → begins_with_triplet_item (b ∷ c ∷ t) ≡ false
     → begins_with_triplet_points (b ∷ []) (code_points (c ∷ t)) ≡ false
@@ -85,13 +76,7 @@ other_item b t h = ap with_triplets (code_points-next b t) ∙ with_triplets-fir
 -- a triplet at the beginning is the first item
 triplet_item : (b high low : ℕ) (t : Text) → begins_with_triplet_item (b ∷ high ∷ low ∷ t) ≡ true
     → with_triplets (code_points (b ∷ high ∷ low ∷ t)) ≡ (b ∷ high ∷ low ∷ []) ∷ with_triplets (code_points t)
-triplet_item b high low t h =
-    let parts = and_parts (is_triplet b high low) (not (continues t)) h in
-    let digits = and_parts (is_hexadecimal high) (is_hexadecimal low) ((and_parts (b == 37) (is_hexadecimal high && is_hexadecimal low) parts.0).1) in
-    let third = code_points-alone low t (not-true (continues t) parts.1) in
-    let second = code_points-alone high (low ∷ t) (hexadecimal_alone low digits.1) ∙ ap (λ x. (high ∷ []) ∷ x) third in
-    let first = code_points-alone b (high ∷ low ∷ t) (hexadecimal_alone high digits.0) ∙ ap (λ x. (b ∷ []) ∷ x) second in
-    ap with_triplets first ∙ with_triplets-triplet (b ∷ []) (high ∷ []) (low ∷ []) (code_points t) parts.0
+triplet_item b high low t h = grind (arith, and_parts, not, code_points-alone, not-true, hexadecimal_alone, with_triplets-triplet)
 
 pub first_item : (triplets : Bool) (t : Text) → 0 < length t
     → items (writing_of triplets) t ≡ take (item_length triplets t) t ∷ items (writing_of triplets) (drop (item_length triplets t) t)
@@ -102,57 +87,30 @@ first_item true (b ∷ t) l = by_test (begins_with_triplet_item (b ∷ t)) refl
     by_test : (x : Bool) → begins_with_triplet_item (b ∷ t) ≡ x
         → with_triplets (code_points (b ∷ t)) ≡ take (if x then 3 else code_point_length (b ∷ t)) (b ∷ t) ∷ with_triplets
         (code_points (drop (if x then 3 else code_point_length (b ∷ t)) (b ∷ t)))
-    by_test true h = whole t h
-      where
-        whole : (r : Text) → begins_with_triplet_item (b ∷ r) ≡ true → with_triplets (code_points (b ∷ r))
-            ≡ take 3 (b ∷ r) ∷ with_triplets (code_points (drop 3 (b ∷ r)))
-        whole [] g = absurd (cc)
-        whole (c ∷ []) g = absurd (cc)
-        whole (c ∷ d ∷ r) g = triplet_item b c d r g
+    by_test true h = grind (arith, triplet_item)
     by_test false h = rw add-one (other_item b t h)
 
 code_point_length-within : (t : Text) → code_point_length t ≤ length t
-code_point_length-within [] = omega arith
-code_point_length-within (b ∷ t) = omega (arith, prefix_len-le-length is_continuation t)
+code_point_length-within t = grind (arith, prefix_len-le-length)
 
 triplet_item-within : (t : Text) → begins_with_triplet_item t ≡ true → 3 ≤ length t
-triplet_item-within [] g = absurd (cc)
-triplet_item-within (b ∷ []) g = absurd (cc)
-triplet_item-within (b ∷ c ∷ []) g = absurd (cc)
-triplet_item-within (b ∷ c ∷ d ∷ t) g = omega arith
+triplet_item-within t g = grind (arith, common_steps)
 
 -- an item ends within its text
 pub item_length-within : (triplets : Bool) (t : Text) → item_length triplets t ≤ length t
 item_length-within false t = code_point_length-within t
-item_length-within true t = by_test (begins_with_triplet_item t) refl
-  where
-    by_test : (x : Bool) → begins_with_triplet_item t ≡ x → (if x then 3 else code_point_length t) ≤ length t
-    by_test true h = triplet_item-within t h
-    by_test false h = code_point_length-within t
+item_length-within true t = grind (arith, triplet_item-within, code_point_length-within)
 
 -- one more item belongs to the cut
 pub next_item : (triplets : Bool) (t : Text) (taken left : ℕ) → taken < length t → 0 < left
     → take taken t ++ cut (writing_of triplets) (drop taken t) left
     ≡ take (taken + item_length triplets (drop taken t)) t ++ cut (writing_of triplets) (drop (taken + item_length triplets (drop taken t)) t) (left - 1)
-next_item triplets t taken left inside some =
-    let w = writing_of triplets in
-    let k = item_length triplets (drop taken t) in
-    let more : 0 < length (drop taken t) = omega (arith, length-drop taken t) in
-    let back : left - 1 + 1 ≡ left = omega arith in
-    let item : cut w (drop taken t) (left - 1 + 1) ≡ take k (drop taken t) ++ cut w (drop k (drop taken t)) (left - 1) =
-    cut-item w (drop taken t) (take k (drop taken t)) (drop k (drop taken t)) (left - 1) (first_item triplets (drop taken t) more) in
-    ap (λ n. take taken t ++ cut w (drop taken t) n) (sym back)
-    ∙ (ap (λ x. take taken t ++ x) item
-    ∙ (sym (append_assoc (take taken t) (take k (drop taken t)) (cut w (drop k (drop taken t)) (left - 1)))
-    ∙ (ap (λ x. x ++ cut w (drop k (drop taken t)) (left - 1)) (sym (take-add taken k t))
-    ∙ ap (λ x. take (taken + k) t ++ cut w x (left - 1)) (drop-drop k taken t))))
+next_item triplets t taken left inside some = grind (arith, length-drop, cut-item, first_item, append_assoc, take-add, drop-drop)
 
 -- the cut is complete if no more items are needed, or no text is left
 pub all_taken : (triplets : Bool) (t : Text) (taken left : ℕ) → (left ≡ 0) ⊎ (length t ≤ taken)
     → take taken t ++ cut (writing_of triplets) (drop taken t) left ≡ take taken t
 all_taken triplets t taken left (inl none) = ap (λ n. take taken t ++ cut (writing_of triplets) (drop taken t) n) none ∙ append-nil (take taken t)
-all_taken triplets t taken left (inr long) =
-    let none : length (drop taken t) ≡ 0 = omega (arith, length-drop taken t) in
-    ap (λ x. take taken t ++ x) (cut-nothing (writing_of triplets) (drop taken t) left none) ∙ append-nil (take taken t)
+all_taken triplets t taken left (inr long) = grind (arith, length-drop, cut-nothing, append-nil)
 
 pub ruleset lengths = (item_length-within)

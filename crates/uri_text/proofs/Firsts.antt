@@ -25,9 +25,7 @@ written_u-first (b ∷ t) some = refl
 -- ---- UR
 
 no_triplet : (b : ℕ) (t : Text) → is_unreserved_or_reserved b ≡ true → begins_with_triplet (b ∷ t) ≡ false
-no_triplet b [] stays = refl
-no_triplet b (c ∷ []) stays = refl
-no_triplet b (c ∷ d ∷ t) stays = rw (ne_eqb b 37 (not_percent b stays)) refl
+no_triplet b t stays = grind (arith, ne_eqb, not_percent)
 
 hexadecimal_stays : (b : ℕ) → is_hexadecimal b ≡ true → is_unreserved_or_reserved b ≡ true
 unfolding is_unreserved
@@ -35,9 +33,7 @@ hexadecimal_stays b h = grind (arith, nat_tests)
 
 -- a digit after a `%` is copied
 digit_copied : (b : ℕ) (t : Text) → is_hexadecimal b ≡ true → written_ur (b ∷ t) ≡ b ∷ written_ur t
-digit_copied b t h =
-    let stays = hexadecimal_stays b h in
-    written_ur-byte (b ∷ t) (no_triplet b t stays) (omega arith) ∙ ap (λ x. written_byte x b ++ written_ur t) stays
+digit_copied b t h = grind (arith, hexadecimal_stays, written_ur-byte, no_triplet)
 
 -- the first byte is copied if it may stay, or if a triplet begins with it
 written_ur-first : (t : Text) → 0 < length t

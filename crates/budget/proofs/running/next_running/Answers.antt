@@ -1,9 +1,6 @@
-use Rattle.std.proofs.Common.{sym, ◌∙◌, arith}
+use Rattle.std.proofs.Common.{sym, ◌∙◌}
 use Rattle.budget.proofs.Walk.{running_on, running_off, running_opened}
 use Rattle.budget.proofs.running.next_running.Goals as goal
-
-pub overflow_add-place : goal.overflow_add-place
-overflow_add-place c = omega (arith, c.requires.is_code.header.instrs)
 
 pub returns-in-Some : goal.returns-in-Some
 returns-in-Some c =

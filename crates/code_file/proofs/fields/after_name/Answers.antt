@@ -1,6 +1,7 @@
 use Rattle.std.proofs.Common.{sym, subst, arith}
 use Rattle.std.proofs.lemmas.List.{nil_from_length}
 use Rattle.std.proofs.lemmas.Result.{err_from_is_err_and}
+use Rattle.std.proofs.lemmas.Grind.{common_steps}
 use Rattle.code_model.specs.Code.{Name}
 use Rattle.code_file.specs.Fault.{IsNameFault, in_kind, no_length, bad_length, no_text, bad_text}
 use Rattle.code_file.proofs.FieldLemmas.{name_head, name_spelled}
@@ -46,11 +47,7 @@ returns-in-None-clause-good c =
     let name : Name = record { list = c.in_ok-_list._list; text = c.split_at.result.0.now } in
     let len = c.is_name_length.ensures.0 c.if-not-is_name_length.false in (
       name,
-      record {
-        some = omega (arith, len.0, c.split_at.ensures.front_len);
-        short = omega (arith, len.1, c.split_at.ensures.front_len);
-        visible = c.in-None.ensures.none;
-      },
+      grind (arith, common_steps),
       name_spelled _ _ _ _ _ _ (name_head _ _ _ _ c.in_ok-_list.ensures.spells c.in-Some.ensures.cases.0)
           c.split_at.ensures.front c.split_at.ensures.back c.split_at.ensures.front_len,
     )

@@ -1,11 +1,7 @@
 use Rattle.std.proofs.Common.{◌≡◌, ◌+◌, ◌*◌, arith, ap, ◌∙◌}
 use Rattle.code_file.specs.Grammar.{number}
-use Rattle.code_file.proofs.LiteralLaws.{number_back}
 use Rattle.code_file.proofs.FileLemmas.{number_of_bytes}
 use Rattle.code_file.proofs.laws.number_has_two_bytes.Goals as goal
-
-pub returns-clause-number : goal.returns-clause-number
-returns-clause-number c n small = let h = number_back n small in omega (arith, h)
 
 pub returns-clause-bytes : goal.returns-clause-bytes
 returns-clause-bytes c high low h l =

@@ -1,4 +1,5 @@
-use Rattle.std.proofs.Common.{◌++◌, List, ℕ, sym, ap, ◌∙◌, subst}
+use Rattle.std.proofs.Common.{arith, ◌++◌, List, ℕ, sym, ap, ◌∙◌, subst}
+use Rattle.std.proofs.lemmas.Grind.{common_steps}
 use Rattle.code_file.specs.Grammar.{magic, number}
 use Rattle.code_file.specs.Fault.{IsFieldFault, bad_magic, no_counts, bad_counts}
 use Rattle.code_file.proofs.tables.split_header.Goals as goal
@@ -10,12 +11,7 @@ pub returns-then-rest-lt6-clause-fault : goal.returns-then-rest-lt6-clause-fault
 returns-then-rest-lt6-clause-fault c =
     subst (IsFieldFault c.args.bytes.now) (sym c.cut_short.ensures)
     (no_counts
-    (record {
-      version = c.in-Some.version;
-      rest = c.in-Some.rest.now;
-      known = c.in-Some.ensures.some.0;
-      spells = c.in-Some.ensures.some.1;
-    })
+    (grind (arith, common_steps))
     c.if-rest-lt6.true)
 
 pub returns-in-Some-fault-clause-fault : goal.returns-in-Some-fault-clause-fault

@@ -1,5 +1,4 @@
 use Rattle.std.proofs.Common.{◌≡◌, [], drop, length, sym, ap, ◌∙◌, arith, rules}
-use Rattle.std.proofs.lemmas.Grind.{common_steps}
 use Rattle.std.proofs.lemmas.Bool.{eqb-true}
 use Rattle.std.proofs.lemmas.List.{drop-drop, nil_from_length}
 use Rattle.kbart_rows.specs.Lines.{cells_in}
@@ -16,6 +15,3 @@ returns-then-is_empty c =
 
 pub loop-preserved : goal.loop-preserved
 loop-preserved c = (search rules, c.split_cell.ensures.rest ∙ ap (drop 1) c.loop.invariant.1 ∙ drop-drop 1 c.loop.counter (cells_in c.args.line.now))
-
-pub returns : goal.returns
-returns c = grind (arith, common_steps)

@@ -1,4 +1,4 @@
-use Rattle.std.proofs.Common.{◌≡◌, ℕ, ◌+◌, ◌-◌, ◌∷◌, ◌++◌, ◌<◌, length, take, drop, slice_index, slice_range, sym, ap, ◌∙◌, arith}
+use Rattle.std.proofs.Common.{◌≡◌, ℕ, ◌+◌, ◌∷◌, ◌++◌, ◌<◌, length, take, drop, slice_index, slice_range, sym, ap, ◌∙◌, arith}
 use Rattle.std.proofs.lemmas.Grind.{common_steps}
 use Rattle.std.proofs.lemmas.List.{drop_more, take-append-drop}
 use Rattle.std.proofs.lemmas.Str.{IsCharBoundary-after_ascii}
@@ -13,9 +13,7 @@ parted line at within is =
     sym (take-append-drop at line) ∙ ap (λ rest. take at line ++ rest) (drop_more line at 0 within ∙ ap (λ b. b ∷ drop (at + 1) line) is)
 
 front_is : (line cell : Text) (at : ℕ) → cell ≡ slice_range line 0 at → cell ≡ take at line
-front_is line cell at is =
-    let same : at - 0 ≡ at = omega arith in
-    is ∙ ap (λ n. take n line) same
+front_is line cell at is = grind (arith, common_steps)
 
 pub range_from-requires : goal.range_from-requires
 range_from-requires c =
@@ -37,6 +35,3 @@ returns-clause-cell c =
     let lacks = rw same at c.in_ok-end.ensures.lacks in
     rw (front_is line c.range.result.now end c.range.ensures.value, c.range_from.ensures.value)
     (ap cells_in parts ∙ first_cell (take end line) (drop (end + 1) line) lacks)
-
-pub returns-clause-parts : goal.returns-clause-parts
-returns-clause-parts c = grind (arith, common_steps)

@@ -12,8 +12,7 @@ use Rattle.kbart_rows.proofs.cells.split_cell.Goals as goal
 rest : (line : Text) (found : Option (Bor Text × Bor Text)) (other : Bor Text × Bor Text) → other.1.now ≡ []
     → IfSome found (λ p. cells_in line ≡ p.0.now ∷ cells_in p.1.now) → IfNone found (cells_in line ≡ []) → cells_in (unwrap_or found other).1.now
     ≡ drop 1 (cells_in line)
-rest line None other empty some none = ap cells_in empty ∙ no_cells ∙ sym (ap (drop 1) none)
-rest line (Some parts) other empty some none = sym (ap (drop 1) some)
+rest line found other empty some none = grind (arith, no_cells)
 
 take_whole : (cell others : Text) → take (length cell) (cell ++ others) ≡ cell
 take_whole cell others = grind (arith, common_steps)

@@ -2,7 +2,6 @@ use Rattle.std.proofs.Common.{sym, ap, ◌∙◌, arith, rules, Some, if◌then�
 use Rattle.std.specs.HashMap.{get_by_text}
 use Rattle.std.specs.Option.{unwrap_or}
 use Rattle.std.specs.Str.{bytes_eq}
-use Rattle.kbart_rows.specs.Cells.{column_of}
 use Rattle.kbart_rows.specs.Lines.{cells_in}
 use Rattle.kbart_rows.proofs.FirstColumns.{item_at, all_passed, column_entered}
 use Rattle.kbart_rows.proofs.columns.columns_of.Goals as goal
@@ -13,7 +12,6 @@ loop-name-preserved c =
     let column = c.loop-name.column in
     let inv = c.loop-name.invariant in
     let at = item_at header column c.in-Some.name.now (cells_in c.in-Some.others.now) (sym c.in-Some.ensures.cell ∙ inv.1) in
-    let inside = at.inside in
     let shorter = c.in-Some.ensures.shorter in (
       search rules,
       at.after,
@@ -26,6 +24,4 @@ loop-name-preserved c =
     )
 
 pub returns-clause-columns : goal.returns-clause-columns
-returns-clause-columns c = λ name.
-    let inv = c.loop-name.invariant in
-    inv.5 name ∙ ap (λ names. column_of names name) (all_passed (cells_in c.args.header.now) c.loop-name.column (sym c.in_default.ensures.none ∙ inv.1))
+returns-clause-columns c = grind (arith, c.loop-name.invariant, all_passed, c.in_default.ensures.none)

@@ -1,8 +1,7 @@
-use Rattle.std.proofs.Common.{◌≡◌, ◌∙◌, ◌+◌, ◌++◌, ◌*◌, ◌≤◌, [], List, ap, arith, drop, get_or, length, subst, sym}
+use Rattle.std.proofs.Common.{◌≡◌, ◌∙◌, ◌+◌, ◌++◌, [], List, ap, arith, drop, get_or, subst, sym}
 use Rattle.std.proofs.lemmas.List.{get_or-drop, length-drop}
 use Rattle.kbart_rows.specs.Identifiers.{identifier_in}
 use Rattle.kbart_rows.specs.Lines.{cells_in}
-use Rattle.kbart_rows.specs.Private.Index.{AreSmall}
 use Rattle.kbart_rows.specs.declared.index.Entry.{Entry}
 use Rattle.kbart_rows.proofs.EntryLemmas.{HasSoFar, entries_for, few_more, has_more, small_more}
 use Rattle.kbart_rows.proofs.MatchLemmas.{has_within}
@@ -18,8 +17,7 @@ loop-row-preserved c =
     let old = c.loop-row.entries.items in
     let cells = cells_in c.line-line.result.now in
     let next : row + 1 ≡ 1 + row = omega arith in
-    let at : cells ≡ get_or (drop 1 lines) row [] = c.line-line.ensures.cells
-    ∙ ap (λ (place : _). get_or lines place []) next ∙ sym (get_or-drop 1 lines row []) in
+    let at : cells ≡ get_or (drop 1 lines) row [] = grind (arith, c.line-line.ensures.cells, next, get_or-drop) in
     let test = c.loop-row-test.true in
     let end = c.len-row-end.ensures in
     let few = c.requires.few in
@@ -29,17 +27,9 @@ loop-row-preserved c =
     record {
       has = subst (HasSoFar keys print online (drop 1 lines) (row + 1)) (sym grown)
           (has_more keys print online (drop 1 lines) row cells old at c.loop-row.invariant.has);
-      few = subst (λ (entries : List Entry). length entries ≤ 2 * (row + 1)) (sym grown)
-          (few_more keys row (identifier_in cells print) (identifier_in cells online) old c.loop-row.invariant.few);
-      small = subst AreSmall (sym grown)
-          (small_more keys row (identifier_in cells print) (identifier_in cells online) old (omega (arith, test, end, few)) c.loop-row.invariant.small);
+      few = grind (arith, grown, few_more, c.loop-row.invariant.few);
+      small = grind (arith, grown, small_more, test, end, few, c.loop-row.invariant.small);
     }
 
 pub returns-clause-has : goal.returns-clause-has
-returns-clause-has c = λ row id has.
-    let rows = drop 1 c.args.lines.now in
-    let within = has_within c.args.print c.args.online rows id row has in
-    let size = length-drop 1 c.args.lines.now in
-    let test = c.loop-row-test.false in
-    let end = c.len-row-end.ensures in
-    c.loop-row.invariant.has row id (omega (arith, within, size, test, end)) has
+returns-clause-has c = grind (arith, has_within, length-drop, c.loop-row-test.false, c.len-row-end.ensures, c.loop-row.invariant.has)

@@ -1,8 +1,8 @@
 use Rattle.std.proofs.Common.{◌≡◌, ◌-◌, ◌≤◌, ◌<◌, List, true, false, ap, arith, drop, get_or, length, nat_lt, rules, take}
 use Rattle.std.proofs.lemmas.Bool.Decides.{nat_tests}
-use Rattle.std.proofs.lemmas.List.{length-drop, length-take-le}
 use Rattle.std.proofs.lemmas.List.Sorted.{IsNonDecreasingBy-drop, IsNonDecreasingBy-take, IsPartitionPoint-from_clause, IsPartitionedBy-ltb}
 use Rattle.std.specs.List.Sorted.{IsPartitionPoint}
+use Rattle.std.proofs.lemmas.Grind.{common_steps}
 use Rattle.kbart_rows.specs.Private.Index.{entry_key}
 use Rattle.kbart_rows.specs.declared.index.Entry.{Entry}
 use Rattle.kbart_rows.proofs.IndexLemmas.{at_mid}
@@ -21,10 +21,7 @@ parts c =
     (IsNonDecreasingBy-drop entry_key c.args.start c.args.entries.now c.requires.order))) (λ a r f' called. search rules)
 
 size : (c : goal.After-partition_point) → length (mid c) ≡ c.args.end - c.args.start
-size c =
-    let rest = length-drop c.args.start c.args.entries.now in
-    let within = c.requires.within in
-    length-take-le (c.args.end - c.args.start) (drop c.args.start c.args.entries.now) (omega (arith, rest, within))
+size c = grind (arith, common_steps)
 
 pub returns-clause-before : goal.returns-clause-before
 returns-clause-before c = λ k d above below.

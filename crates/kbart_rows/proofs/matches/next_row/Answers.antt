@@ -1,11 +1,10 @@
-use Rattle.std.proofs.Common.{◌≡◌, ℕ, ◌∙◌, ◌+◌, ◌≤◌, true, false, Some, arith, sym}
+use Rattle.std.proofs.Common.{◌≡◌, ℕ, ◌∙◌, ◌+◌, ◌≤◌, true, false, Some, arith, sym, List, length}
 use Rattle.std.proofs.lemmas.Grind.{common_steps}
 use Rattle.std.proofs.lemmas.Option.{none-some, same_Some}
 use Rattle.kbart_rows.specs.Cells.{Holdings}
 use Rattle.kbart_rows.specs.Private.Runs.{AreReady, least, matches}
 use Rattle.kbart_rows.specs.declared.runs.Runs.{Runs}
 use Rattle.text_model.specs.Texts.{Text}
-use Rattle.std.proofs.Common.{List, length}
 use Rattle.kbart_rows.proofs.MatchLemmas.{first_match, least_small, less_left, match_reached, match_within, none_in, ready_passed}
 use Rattle.kbart_rows.proofs.matches.next_row.Goals as goal
 

@@ -1,7 +1,7 @@
 use Rattle.std.proofs.Common.{◌≡◌, ◌+◌, ◌<◌, ◌++◌, ◌∷◌, [], drop, get_or, length, map, take, sym, ap, ◌∙◌, arith}
 use Rattle.std.proofs.lemmas.List.{get_or-drop, length-drop, map_more}
 use Rattle.kbart_rows.specs.Lines.{cells_in}
-use Rattle.kbart_rows.specs.Private.Kept.{bytes_of, counted_bytes}
+use Rattle.kbart_rows.specs.Private.Kept.{bytes_of}
 use Rattle.kbart_rows.proofs.RowSums.{firsts_count}
 use Rattle.kbart_rows.proofs.sums.sums_of.Goals as goal
 
@@ -13,10 +13,8 @@ loop-row-preserved c =
     let rows = drop 1 lines in
     let next : row + 1 ≡ 1 + row = omega arith in
     let inside : row < length rows = omega (arith, c.loop-row-test.true, c.len-rows.ensures, length-drop 1 lines) in
-    let at : cells_in c.line.result.now ≡ get_or rows row [] = c.line.ensures.cells
-    ∙ ap (λ (place : _). get_or lines place []) next ∙ sym (get_or-drop 1 lines row []) in
-    let sum : c.sum_of.result ≡ bytes_of header (get_or rows row []) = c.sum_of.ensures
-    ∙ ap (λ (counts : _). counted_bytes counts (cells_in c.line.result.now)) c.requires.firsts
-    ∙ firsts_count header (cells_in c.line.result.now) ∙ ap (bytes_of header) at in
+    let at : cells_in c.line.result.now ≡ get_or rows row [] = grind (arith, c.line.ensures.cells, next, get_or-drop) in
+    let sum : c.sum_of.result ≡ bytes_of header (get_or rows row []) =
+    grind (arith, c.sum_of.ensures, c.requires.firsts, firsts_count, at) in
     c.in_ok-push.ensures.items ∙ ap (λ (sums : _). sums ++ c.sum_of.result ∷ []) c.loop-row.invariant
     ∙ ap (λ (n : _). map (bytes_of header) (take row rows) ++ n ∷ []) sum ∙ sym (map_more (bytes_of header) rows row [] inside)

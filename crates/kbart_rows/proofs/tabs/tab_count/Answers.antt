@@ -1,4 +1,4 @@
-use Rattle.std.proofs.Common.{◌≡◌, ◌==◌, ◌+◌, ◌≤◌, ℕ, cond, count_by, length, map, take, sym, ap, ◌∙◌, arith}
+use Rattle.std.proofs.Common.{◌≡◌, ◌==◌, ◌+◌, ◌≤◌, ℕ, cond, count_by, length, map, take, ap, arith}
 use Rattle.std.proofs.lemmas.List.{length-take-le}
 use Rattle.std.proofs.lemmas.List.Sums.{count_by-le-length, sum_by-append}
 use Rattle.std.proofs.lemmas.Simd.{ones-mask_l}
@@ -14,10 +14,7 @@ tabs text = count_by (λ b. b == tab) text
 
 -- 16 bytes more
 tabs_more : (line : Text) (at : ℕ) → tabs (take (at + 16) line) ≡ tabs (take at line) + count_ones (mask_l (map (λ b. b == tab) (chunk at 16 line)))
-tabs_more line at =
-    ap (count_by (λ b. b == tab)) (take-add at 16 line)
-    ∙ sum_by-append (λ b. cond (b == tab) 1 0) (take at line) (chunk at 16 line)
-    ∙ ap (λ n. count_by (λ b. b == tab) (take at line) + n) (sym (ones-mask_l (λ b. b == tab) (chunk at 16 line)))
+tabs_more line at = grind (arith, count_by, take-add, sum_by-append, cond, ones-mask_l)
 
 few_tabs : (text : Text) → tabs text ≤ length text
 few_tabs text = count_by-le-length (λ b. b == tab) text

@@ -1,4 +1,4 @@
-use Rattle.std.proofs.Common.{◌≡◌, ◌++◌, rules, subst, sym, ap, ◌∙◌, arith}
+use Rattle.std.proofs.Common.{rules, subst, sym, ◌∙◌, arith}
 use Rattle.std.specs.Prelude.{IsUtf8}
 use Rattle.std.proofs.lemmas.Grind.{common_steps}
 use Rattle.std.proofs.lemmas.Str.{utf8_lossy-IsUtf8}
@@ -15,10 +15,7 @@ returns-then-are_utf8-clause-utf8 c =
     subst IsUtf8 (sym (utf8_lossy-IsUtf8 (form.decode c.args.input.now) utf8)) utf8
 
 pub returns-then-are_utf8-clause-ok : goal.returns-then-are_utf8-clause-ok
-returns-then-are_utf8-clause-ok c =
-    let bytes = form.decode c.args.input.now in
-    let all : c.append_decoded.new.out.items ≡ c.args.out.now.items ++ bytes = search rules in
-    all ∙ ap (λ x. c.args.out.now.items ++ x) (sym (utf8_lossy-IsUtf8 bytes (appended_utf8 c)))
+returns-then-are_utf8-clause-ok c = grind (arith, utf8_lossy-IsUtf8, appended_utf8)
 
 pub returns-clause-utf8 : goal.returns-clause-utf8
 returns-clause-utf8 c =

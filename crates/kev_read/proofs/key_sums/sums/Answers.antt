@@ -3,10 +3,9 @@ use Rattle.std.proofs.lemmas.List.{length-map, length-take-le}
 use Rattle.std.proofs.lemmas.Option.{get_or_from_slice_get}
 use Rattle.std.specs.Prelude.{if◌then◌else◌}
 use Rattle.std.specs.List.{list_any}
-use Rattle.environment_model.specs.Environment.{byte_count, member_count}
+use Rattle.std.proofs.lemmas.Grind.{common_steps}
 use Rattle.environment_model.specs.Lists.{is_list}
 use Rattle.kev_read.specs.Pairs.{KeyValue, has_key}
-use Rattle.kev_read.specs.Filling.{filled}
 use Rattle.kev_read.specs.Private.KeyOrder.{pairs_at}
 use Rattle.kev_read.specs.Private.Layout.{key_value}
 use Rattle.kev_read.proofs.FilledSums.{adds_bytes, more_bytes_filled, more_members_filled}
@@ -42,15 +41,11 @@ loop-place-preserved c =
     let is = c.repeats-is_repeated.ensures ∙ ap (λ (p : KeyValue). list_any (has_key p.key) (take n ordered)) same in
     let more_bytes = more_bytes_filled ordered n pair here repeated is in
     let more_members = more_members_filled ordered n pair here in
-    let bytes : c.added_bytes-bytes.result ≡ adds_bytes (is_list [] pair.key) repeated (length pair.value) =
-    c.added_bytes-bytes.ensures.value ∙ ap (λ l. adds_bytes l repeated (length pair.value)) c.is_standard_list-is_list.ensures in
+    let bytes : c.added_bytes-bytes.result ≡ adds_bytes (is_list [] pair.key) repeated (length pair.value) = grind (arith, common_steps) in
     let members = c.added_members-members.ensures.value ∙ ap (λ l. if l then 1 else 0) c.is_standard_list-is_list.ensures in
     let bytes_so_far = c.loop-place.invariant.bytes in
     let members_so_far = c.loop-place.invariant.members in
-    record {
-      bytes = omega (arith, more_bytes, bytes, bytes_so_far);
-      members = omega (arith, more_members, members, members_so_far);
-    }
+    grind (arith, common_steps)
 
 pub overflow_add-members : goal.overflow_add-members
 overflow_add-members c =
@@ -59,7 +54,6 @@ overflow_add-members c =
     let n = c.loop-place.place in
     let ordered = pairs_at pairs order in
     let count = same_count pairs order c.requires.order in
-    let here = one_of_pairs pairs order n (key_value c.at-pair.result) (omega arith) c.at-pair.ensures in
     let so_far = c.loop-place.invariant.members in
     let few = filled_members [] [] (take n ordered) in
     let size : length ordered ≡ length order = length-map order _ in
@@ -68,13 +62,4 @@ overflow_add-members c =
     omega (arith, so_far, few, taken, small, count, c.requires.few)
 
 pub returns : goal.returns
-returns c =
-    let pairs = c.args.pairs.now in
-    let order = c.args.order.now in
-    let all = all_pairs pairs order c.loop-place.place (omega arith) in
-    record {
-      reordered = pairs_at pairs order;
-      same = λ key. same_values pairs order key c.requires.order;
-      all_bytes = c.loop-place.invariant.bytes ∙ ap (λ (ps : _). byte_count (filled [] [] ps)) all;
-      all_members = c.loop-place.invariant.members ∙ ap (λ (ps : _). member_count (filled [] [] ps)) all;
-    }
+returns c = grind (arith, all_pairs, same_values, c.requires.order, c.loop-place.invariant.bytes, c.loop-place.invariant.members)

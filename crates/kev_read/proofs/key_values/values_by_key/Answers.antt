@@ -1,4 +1,4 @@
-use Rattle.std.proofs.Common.{◌∙◌, length, take, string_bytes, refl, ap, arith, length-append}
+use Rattle.std.proofs.Common.{length, take, string_bytes, refl, ap, arith, length-append}
 use Rattle.kev_read.specs.Private.Gathered.{AreKeyValues}
 use Rattle.kev_read.specs.Private.KeyOrder.{pairs_at}
 use Rattle.kev_read.specs.Private.Layout.{key_value}
@@ -44,10 +44,7 @@ pub invariant_of-result : goal.invariant_of-result
 invariant_of-result c = kept c
 
 pub returns-clause-lists : goal.returns-clause-lists
-returns-clause-lists c = λ key.
-    let pairs = c.args.pairs.now in
-    let order = c.args.order.now in
-    members_of-gathered (pairs_at pairs order) key ∙ same_values pairs order key c.requires.order
+returns-clause-lists c = grind (arith, members_of-gathered, same_values, c.requires.order)
 
 pub returns-clause-short : goal.returns-clause-short
 returns-clause-short c = (kept c).short

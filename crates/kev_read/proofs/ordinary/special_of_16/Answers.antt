@@ -14,8 +14,6 @@ returns c =
     let encodes = zip2 bit_or c.equal_to-3.result c.equal_to-4.result in
     let special = zip2 bit_or (zip2 bit_or separates encodes) lanes in
     let are : special ≡ map special_lane lanes =
-    (λ i. zip2 bit_or (zip2 bit_or (zip2 bit_or (c.equal_to.ensures i) (c.equal_to-2.ensures i))
-    (zip2 bit_or (c.equal_to-3.ensures i) (c.equal_to-4.ensures i))) lanes)
-    ∙ special_lanes lanes in
+    grind (arith, bit_or, c.equal_to.ensures, c.equal_to-2.ensures, c.equal_to-3.ensures, c.equal_to-4.ensures, special_lanes) in
     let long : length special ≡ 16 = ap length are ∙ (length-map lanes special_lane ∙ length-chunk c.args.place 16 c.args.bytes.now c.requires) in
     top_bitmask special 16 long (omega arith) ∙ (ap (λ v. mask_l (map is_set v)) are ∙ ap mask_l (map-map is_set special_lane lanes))

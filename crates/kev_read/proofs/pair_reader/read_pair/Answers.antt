@@ -1,12 +1,10 @@
 use Rattle.std.proofs.Common.{◌≡◌, ◌+◌, ◌-◌, ◌<◌, get_or, length, drop, take, sym, ap, ◌∙◌, subst, arith, rules}
-use Rattle.std.proofs.Common.{length-drop}
+use Rattle.std.proofs.lemmas.Grind.{common_steps}
 use Rattle.kev_read.specs.Private.Layout.{part_in}
 use Rattle.kev_read.specs.Private.Reading.{IsFirstPair}
 use Rattle.kev_read.proofs.FirstPairs.{pair_of_both, pair_of_key}
 use Rattle.kev_read.proofs.PairsInText.{part_stays}
 use Rattle.kev_read.proofs.pair_reader.read_pair.Goals as goal
-use Rattle.kev_read.proofs.pair_reader.read_pair.Goals.{then-key_end-query-via-then-key_end-query}
-use Rattle.kev_read.proofs.pair_reader.read_pair.Goals.{then-key_end-query-via-else-key_end-query+then-query-key_end-eq38}
 
 pub returns-then-key_end-query-clause-first : goal.returns-then-key_end-query-clause-first
 returns-then-key_end-query-clause-first c =
@@ -15,11 +13,7 @@ returns-then-key_end-query-clause-first c =
     let n = c.key_part-key_len.result.0 in
     let back = c.split_at.ensures.back in
     let text = c.read_part.new.text.items in
-    let ends : start + n < length query → get_or query (start + n) 0 ≡ 38 =
-    elim c.then-key_end-query.branch [
-      | then-key_end-query-via-then-key_end-query w ↦ λ inside. absurd (omega (arith, inside, w.if-key_end-query.true))
-      | then-key_end-query-via-else-key_end-query+then-query-key_end-eq38 w ↦ λ inside. w.if-query-key_end-eq38.true
-    ] in
+    let ends : start + n < length query → get_or query (start + n) 0 ≡ 38 = grind (arith, common_steps) in
     let first = pair_of_key query start n c.requires.within c.requires.some (rw back at c.key_part-key_len.ensures.within)
     (rw back at c.key_part-key_len.ensures.lacks) ends in
     let none : start + n - (start + n) ≡ 0 = omega arith in
@@ -35,8 +29,6 @@ returns-clause-first c =
     let m = c.value_part-value_len.result.0 in
     let back = c.split_at.ensures.back in
     let back_value = c.split_at-2.ensures.back in
-    let long = length-drop start query in
-    let long_value = length-drop (start + n + 1) query in
     let inside : start + n < length query = search rules in
     let equals : get_or query (start + n) 0 ≡ 61 = search rules in
     let ends : start + n + 1 + m < length query → get_or query (start + n + 1 + m) 0 ≡ 38 = search rules in

@@ -1,4 +1,4 @@
-use Rattle.std.proofs.Common.{◌≡◌, [], ◌∷◌, ◌++◌, map, drop, sym, ap, ◌∙◌, subst}
+use Rattle.std.proofs.Common.{arith, ◌≡◌, [], ◌∷◌, ◌++◌, map, drop, sym, ap, ◌∙◌, subst}
 use Rattle.std.proofs.lemmas.List.{append_assoc, append-nil, drop_all}
 use Rattle.form_urlencoded.specs.Form.{raw_pairs}
 use Rattle.form_urlencoded.proofs.FormLemmas.{raw_pairs-nil}
@@ -11,13 +11,10 @@ use Rattle.kev_read.proofs.pair_reader.read_pairs.Goals as goal
 
 pub loop-done-preserved-then-query-done-eq38 : goal.loop-done-preserved-then-query-done-eq38
 loop-done-preserved-then-query-done-eq38 c =
-    let before = map (pair_in c.loop-done.text.items) c.loop-done.places.items in
     record {
       held = c.loop-done.invariant.held;
       placed = c.loop-done.invariant.placed;
-      pairs =
-          ap (λ left. before ++ map decoded_pair left) (sym (skipped c.args.query.now c.loop-done.done c.loop-done-test.true c.if-query-done-eq38.true))
-          ∙ c.loop-done.invariant.pairs;
+      pairs = grind (arith, skipped, c.loop-done-test.true, c.if-query-done-eq38.true, c.loop-done.invariant.pairs);
     }
 
 pub loop-done-preserved : goal.loop-done-preserved
@@ -33,8 +30,7 @@ loop-done-preserved c =
     let held : HoldsQuery query (text ++ more) = query_stays query text more c.loop-done.invariant.held in
     let left = map decoded_pair (raw_pairs (drop c.in_ok-place.next query)) in
     let pairs : map (pair_in (text ++ more)) (places ++ place ∷ []) ++ left ≡ map (pair_in text) places ++ pair_in (text ++ more) place ∷ left =
-    ap (λ front. front ++ left) (pushed_pairs text more places place c.loop-done.invariant.placed)
-    ∙ append_assoc (map (pair_in text) places) (pair_in (text ++ more) place ∷ []) left in
+    grind (arith, pushed_pairs, c.loop-done.invariant.placed, append_assoc) in
     let first = subst (λ t. map decoded_pair (raw_pairs (drop c.loop-done.done query)) ≡ pair_in t place ∷ left) grown c.in_ok-place.ensures.first in
     rw (c.in_ok-push.ensures.items, grown) record {
       held = held;
@@ -43,7 +39,4 @@ loop-done-preserved c =
     }
 
 pub returns : goal.returns
-returns c =
-    let before = map (pair_in c.loop-done.text.items) c.loop-done.places.items in
-    let none = ap raw_pairs (drop_all c.loop-done.done c.args.query.now c.loop-done-test.false) ∙ raw_pairs-nil in
-    c.new.ensures ∙ (sym (append-nil before) ∙ (ap (λ left. before ++ map decoded_pair left) (sym none) ∙ c.loop-done.invariant.pairs))
+returns c = grind (arith, drop_all, c.loop-done-test.false, raw_pairs-nil, c.new.ensures, append-nil, c.loop-done.invariant.pairs)

@@ -1,5 +1,4 @@
-use Rattle.std.proofs.Common.{sym, ◌∙◌, subst, arith, slice_range}
-use Rattle.std.specs.Prelude.{IsUtf8}
+use Rattle.std.proofs.Common.{sym, ◌∙◌, arith, slice_range}
 use Rattle.kev_read.proofs.DecodedForms.{decoded_ordinary, ordinary_utf8}
 use Rattle.kev_read.proofs.PairsInText.{query_within, range_of_query}
 use Rattle.kev_read.proofs.pair_reader.read_part.Goals as goal
@@ -12,10 +11,6 @@ returns-then-is_ordinary-clause-part c =
     let ordinary = c.requires.ordinary c.if-is_ordinary.true in
     let is = range_of_query query text c.args.start c.args.end c.requires.held c.requires.forwards c.requires.within in
     let within = query_within query text c.requires.held in (
-      record {
-        forwards = c.requires.forwards;
-        within = omega (arith, c.requires.within, within);
-        utf8 = subst IsUtf8 (sym is) (ordinary_utf8 part ordinary);
-      },
+      grind (arith, c.requires.forwards, within, c.requires.within, is, ordinary_utf8, ordinary),
       is ∙ sym (decoded_ordinary part ordinary),
     )

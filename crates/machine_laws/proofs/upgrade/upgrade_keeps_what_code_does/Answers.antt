@@ -1,5 +1,5 @@
 use Rattle.machine_laws.proofs.Upgrades.{after_more, outcome_kept}
-use Rattle.machine_laws.proofs.UpgradedForm.{form_kept, typable_kept, budget_kept, upgraded_once}
+use Rattle.machine_laws.proofs.UpgradedForm.{form_kept, typable_kept, budget_kept}
 use Rattle.machine_laws.proofs.upgrade.upgrade_keeps_what_code_does.Goals as goal
 
 pub returns-clause-states : goal.returns-clause-states
@@ -16,6 +16,3 @@ returns-clause-typable start = typable_kept
 
 pub returns-clause-budget : goal.returns-clause-budget
 returns-clause-budget start = budget_kept
-
-pub returns-clause-second : goal.returns-clause-second
-returns-clause-second start = upgraded_once

@@ -1,6 +1,5 @@
 -- A range is its first token, followed by `to ` and the other bound.
-use Rattle.std.proofs.Common.{◌≡◌, Some, None, ◌++◌, codes, lit<, arith}
-use Rattle.std.proofs.lemmas.Grind.{common_steps}
+use Rattle.std.proofs.Common.{◌≡◌, Some, None, ◌++◌, codes, lit<}
 use Rattle.std.proofs.lemmas.Str.Pattern.{split_parts}
 use Rattle.rule_parser.proofs.TokenLemmas.{token_from_index}
 use Rattle.rule_parser.proofs.GuardLemmas.{no_bounds_in_token, no_bounds_without_to, no_bounds_without_low, no_bounds_without_high}
@@ -25,6 +24,3 @@ returns-in_default-3 c =
     let strip = c.in-Some-strip_prefix.ensures.cases in
     let high : c.in-Some.rest.now ≡ codes "to " ++ c.in-Some-strip_prefix.high.now = cc (strip.1.1, strip.2) in
     no_bounds_without_high _ _ _ _ cut.0 high (token_from_index _ cut.1) (rw c.in_default-3.is at c.in_ok-high.ensures)
-
-pub returns : goal.returns
-returns c = grind (arith, common_steps)

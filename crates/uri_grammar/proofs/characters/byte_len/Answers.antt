@@ -1,8 +1,7 @@
 use Rattle.std.proofs.Common.{◌+◌, ◌++◌, [], ◌∷◌, ℕ, sym, ◌∙◌, length, take, get_or, encode_utf8, encode_utf8_all, ap, arith, length-append}
 use Rattle.std.proofs.lemmas.List.{take_more}
 use Rattle.std.proofs.lemmas.Str.{length-encode}
-use Rattle.uri_grammar.proofs.CharacterLemmas.{length-encodes-take}
-use Rattle.uri_grammar.proofs.CharacterLemmas.{encodes_push}
+use Rattle.uri_grammar.proofs.CharacterLemmas.{length-encodes-take, encodes_push}
 use Rattle.uri_grammar.proofs.characters.byte_len.Goals as goal
 
 pub overflow_add-len : goal.overflow_add-len

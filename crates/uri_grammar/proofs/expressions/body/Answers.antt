@@ -1,5 +1,5 @@
-use Rattle.std.proofs.Common.{◌≡◌, ◌∙◌, sym, ap, subst, ℕ, List, drop, length, inr}
-use Rattle.uri_grammar.specs.declared.parts.Op.{Op}
+use Rattle.std.proofs.Common.{arith, ◌≡◌, ◌∙◌, sym, ap, subst, ℕ, List, drop, length, inr}
+use Rattle.std.proofs.lemmas.Grind.{common_steps}
 use Rattle.uri_grammar.specs.Expressions.{operator_text}
 use Rattle.uri_grammar.specs.Faults.{IsListFault, reserved_operator}
 use Rattle.uri_grammar.specs.Private.Reading.{IsFault, operator_of}
@@ -12,8 +12,7 @@ returns-then-begins_with_reserved-clause-err c =
 
 pub returns-in-Err-clause-err : goal.returns-in-Err-clause-err
 returns-in-Err-clause-err c =
-    let skipped : c.operator_len-skipped.result ≡ length (operator_text (operator_of c.args.text.now)) =
-    c.operator_len-skipped.ensures ∙ ap (λ (q : Op). length (operator_text q)) c.operator-op.ensures in
+    let skipped : c.operator_len-skipped.result ≡ length (operator_text (operator_of c.args.text.now)) = grind (arith, common_steps) in
     let list = c.split_at.ensures.back ∙ ap (λ (k : ℕ). drop k c.args.text.now) skipped in
     let operator = operator_of-HasOperator c.args.text.now (sym c.begins_with_reserved.ensures ∙ c.if-begins_with_reserved.false) in
     rw (c.after.ensures, skipped)

@@ -1,4 +1,5 @@
 use Rattle.std.proofs.Common.{arith, ◌≡◌, ◌∙◌, sym, take, subst, List, ℕ, inr, false}
+use Rattle.std.proofs.lemmas.Grind.{common_steps}
 use Rattle.uri_grammar.specs.Expressions.{IsBody}
 use Rattle.uri_grammar.specs.Faults.{IsBodyFault}
 use Rattle.uri_grammar.specs.Private.Reading.{IsFault, begins_with_brace}
@@ -8,8 +9,7 @@ use Rattle.uri_grammar.proofs.expressions.expression.Goals as goal
 pub returns-in-Ok-clause-ok : goal.returns-in-Ok-clause-ok
 returns-in-Ok-clause-ok c =
     let found = c.in-Some.ensures.found in
-    let body : IsBody (take c.in-Some.end c.split_at.result.1.now) c.in-Ok.op c.in-Ok.specs.items =
-    subst (λ (b : List ℕ). IsBody b c.in-Ok.op c.in-Ok.specs.items) c.split_at-2.ensures.front c.in-Ok.ensures.ok in
+    let body : IsBody (take c.in-Some.end c.split_at.result.1.now) c.in-Ok.op c.in-Ok.specs.items = grind (arith, common_steps) in
     rw c.new-specs.ensures (IsExpression-braced c.args.text.now c.split_at.result.1.now c.in-Some.end c.in-Ok.op c.in-Ok.specs.items
     (sym c.begins_with_brace.ensures ∙ c.if-not-begins_with_brace.false) c.split_at.ensures.back found.0 found.1 found.2 body)
 

@@ -1,6 +1,6 @@
-use Rattle.std.proofs.Common.{◌≡◌, ◌∙◌, ◌+◌, ◌<◌, ◌≤◌, ◌++◌, [], ◌∷◌, sym, ap, take, drop, length, subst, List, ℕ, arith, encode_utf8_all, length-drop}
-use Rattle.std.proofs.lemmas.List.{drop-drop}
+use Rattle.std.proofs.Common.{◌≡◌, ◌∙◌, ◌+◌, ◌<◌, ◌≤◌, ◌++◌, [], ◌∷◌, ap, take, drop, length, subst, List, ℕ, arith, encode_utf8_all, length-drop}
 use Rattle.std.proofs.lemmas.Str.{length-le-encodes}
+use Rattle.std.proofs.lemmas.Grind.{common_steps}
 use Rattle.uri_grammar.specs.declared.parts.Part.{Part}
 use Rattle.uri_grammar.specs.Literals.{AreLiterals}
 use Rattle.uri_grammar.specs.Private.Lengths.{literal_item_len}
@@ -32,9 +32,7 @@ loop-done-preserved-then-len-gt0 c =
     let literals = subst (λ (cs : List ℕ). AreLiterals (take c.literals_len-len.result cs)) rest c.literals_len-len.ensures.literals in
     let begins = subst (λ (cs : List ℕ). 0 < literal_item_len cs) rest (c.literals_len-len.ensures.some c.if-len-gt0.true) in
     let within = subst (λ (cs : List ℕ). c.literals_len-len.result ≤ length cs) rest c.literals_len-len.ensures.within in
-    let stops = subst (λ (cs : List ℕ). literal_item_len (drop c.literals_len-len.result cs) ≡ 0) rest c.literals_len-len.ensures.longest in
-    let after : literal_item_len (drop (c.loop-done.done + c.literals_len-len.result) c.args.chars.now) ≡ 0 =
-    ap literal_item_len (sym (drop-drop c.literals_len-len.result c.loop-done.done c.args.chars.now)) ∙ stops in
+    let after : literal_item_len (drop (c.loop-done.done + c.literals_len-len.result) c.args.chars.now) ≡ 0 = grind (arith, common_steps) in
     let pushed = c.in_ok-push.ensures.items ∙ ap (λ (p : Part). c.loop-done.parts.items ++ p ∷ []) c.in_ok-literal.ensures in
     record {
       within = omega (arith, within, length-drop c.loop-done.done c.args.chars.now);

@@ -1,16 +1,5 @@
-use Rattle.std.proofs.Common.{arith}
-use Rattle.std.proofs.lemmas.Grind.{common_steps}
-use Rattle.std.proofs.lemmas.List.{length-take-le}
-use Rattle.uri_grammar.proofs.SpecLemmas.{no_name, long_name}
+use Rattle.uri_grammar.proofs.SpecLemmas.{no_name}
 use Rattle.uri_grammar.proofs.variables.named_len.Goals as goal
 
 pub returns-then-len-eq0-clause-none : goal.returns-then-len-eq0-clause-none
 returns-then-len-eq0-clause-none c = no_name c.args.text.now (c.varname_len-len.ensures.none c.if-len-eq0.true)
-
-pub returns-then-len-gt-MAX_NAME_BYTES-clause-none : goal.returns-then-len-gt-MAX_NAME_BYTES-clause-none
-returns-then-len-gt-MAX_NAME_BYTES-clause-none c =
-    let size = length-take-le c.varname_len-len.result c.args.text.now c.varname_len-len.ensures.within in
-    long_name c.args.text.now _ _ (c.varname_len-len.ensures.varname (omega arith)) (omega (arith, size))
-
-pub returns-clause-none : goal.returns-clause-none
-returns-clause-none c = grind (arith, common_steps)

@@ -16,6 +16,4 @@ loop-c-preserved c =
     digit small)
 
 pub returns : goal.returns
-returns c =
-    sym (all_read c.args.digits.now c.loop-c.c-index c.loop-c.number c.loop-c.invariant c.loop-c-test.false
-    (sym c.begins_above_zero.ensures ∙ c.if-not-begins_above_zero.false))
+returns c = grind (arith, all_read, c.loop-c.invariant, c.loop-c-test.false, c.begins_above_zero.ensures, c.if-not-begins_above_zero.false)

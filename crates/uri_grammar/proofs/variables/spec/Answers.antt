@@ -1,4 +1,5 @@
-use Rattle.std.proofs.Common.{◌≡◌, length, take, drop, subst, ◌∙◌, ◌++◌, sym, ap, ℕ, List, inr, Some, None, encode_utf8_all}
+use Rattle.std.proofs.Common.{arith, ◌≡◌, length, take, drop, subst, ◌∙◌, ◌++◌, sym, ap, ℕ, List, inr, Some, None, encode_utf8_all}
+use Rattle.std.proofs.lemmas.Grind.{common_steps}
 use Rattle.std.proofs.lemmas.List.{length-take-le}
 use Rattle.uri_grammar.specs.declared.error.TemplateErrorKind.TheVariants as kind
 use Rattle.uri_grammar.specs.Names.{IsName}
@@ -26,8 +27,7 @@ returns-clause-ok c =
     let is = c.in-Some.ensures.some.1 in
     let name = take c.in-Some.len c.args.text.now in
     let after = drop c.in-Some.len c.args.text.now in
-    let modifier : Some (c.in-Some-modifier.cut, c.in-Some-modifier.explode) ≡ modifier_of after =
-    c.in-Some-modifier.ensures ∙ ap modifier_of c.split_at.ensures.back in
+    let modifier : Some (c.in-Some-modifier.cut, c.in-Some-modifier.explode) ≡ modifier_of after = grind (arith, common_steps) in
     let named : c.new-2.result ≡ name =
     c.new-2.ensures ∙ (c.in_ok-text_of.ensures ∙ (ap encode_utf8_all c.split_at.ensures.front ∙ encodes-varname name is.begins.is_varname)) in
     record {

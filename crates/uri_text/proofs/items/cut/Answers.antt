@@ -1,4 +1,5 @@
-use Rattle.std.proofs.Common.{◌≡◌, ◌∙◌, sym, ap, drop, inl, inr, arith}
+use Rattle.std.proofs.Common.{◌≡◌, drop, arith}
+use Rattle.std.proofs.lemmas.Grind.{common_steps}
 use Rattle.uri_text.specs.Private.Items.{item_length}
 use Rattle.uri_text.proofs.FirstItems.{next_item, all_taken}
 use Rattle.uri_text.proofs.items.cut.Goals as goal
@@ -6,21 +7,15 @@ use Rattle.uri_text.proofs.items.cut.Goals.{then-loop-left-test+else-end-text, e
 
 pub loop-left-preserved : goal.loop-left-preserved
 loop-left-preserved c =
-    let len : c.item_len-end.result ≡ item_length c.args.triplets (drop c.loop-left.end c.args.text.now) =
-    c.item_len-end.ensures.value ∙ ap (item_length c.args.triplets) c.split_at.ensures.back in
+    let len : c.item_len-end.result ≡ item_length c.args.triplets (drop c.loop-left.end c.args.text.now) = grind (arith, common_steps) in
     record {
       within = omega (arith, c.item_len-end.ensures.within, c.split_at.ensures.back_len);
-      taken = rw len (c.loop-left.invariant.taken ∙ next_item c.args.triplets c.args.text.now c.loop-left.end c.loop-left.left c.if-end-text.true
-          c.loop-left-test.true);
+      taken = grind (arith, len, c.loop-left.invariant.taken, next_item, c.if-end-text.true, c.loop-left-test.true);
     }
 
 pub returns-clause-items : goal.returns-clause-items
 returns-clause-items c =
     elim c.loop-left-test.branch [
-      | then-loop-left-test+else-end-text w ↦
-          c.split_at-2.ensures.front
-          ∙ sym (c.loop-left.invariant.taken ∙ all_taken c.args.triplets c.args.text.now c.loop-left.end c.loop-left.left (inr w.if-end-text.false))
-      | else-loop-left-test w ↦
-          c.split_at-2.ensures.front
-          ∙ sym (c.loop-left.invariant.taken ∙ all_taken c.args.triplets c.args.text.now c.loop-left.end c.loop-left.left (inl (omega arith)))
+      | then-loop-left-test+else-end-text w ↦ grind (arith, c.split_at-2.ensures.front, c.loop-left.invariant.taken, all_taken)
+      | else-loop-left-test w ↦ grind (arith, c.split_at-2.ensures.front, c.loop-left.invariant.taken, all_taken)
     ]

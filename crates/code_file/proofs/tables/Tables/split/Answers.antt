@@ -1,4 +1,5 @@
-use Rattle.std.proofs.Common.{◌++◌, List, ℕ, refl, sym, ap, ◌∙◌, subst, arith}
+use Rattle.std.proofs.Common.{refl, sym, ◌∙◌, subst, arith}
+use Rattle.std.proofs.lemmas.Grind.{common_steps}
 use Rattle.code_file.specs.Grammar.{header_field}
 use Rattle.code_file.specs.Fault.{IsFieldFault, in_names, in_literals, in_instrs}
 use Rattle.code_file.proofs.FileLemmas.{trailing_here, five_parts, cut_in_two, not_empty}
@@ -8,46 +9,21 @@ pub returns-in-Err-clause-fault : goal.returns-in-Err-clause-fault
 returns-in-Err-clause-fault c =
     subst (IsFieldFault c.args.bytes.now) (sym c.after.ensures)
     (in_names
-    (record {
-      header = c.in_ok-header.header;
-      rest = c.in_ok-header.rest.now;
-      allowed = c.in_ok-header.ensures.good.0;
-      spells = c.in_ok-header.ensures.good.1;
-    })
+    (grind (arith, common_steps))
     c.in-Err.e c.in-Err.ensures.fault)
 
 pub returns-in-Err-split_literals-clause-fault : goal.returns-in-Err-split_literals-clause-fault
 returns-in-Err-split_literals-clause-fault c =
     subst (IsFieldFault c.args.bytes.now) (sym c.after-in-Err-split_literals.ensures)
     (in_literals
-    (record {
-      header = c.in_ok-header.header;
-      names = c.in-Ok.parts.0.now;
-      rest = c.in-Ok.parts.1.now;
-      allowed = c.in_ok-header.ensures.good.0;
-      name_table = c.in-Ok.ensures.good.0;
-      spells =
-          c.in_ok-header.ensures.good.1 ∙ ap (λ (t : List ℕ). header_field c.in_ok-header.header ++ t) c.in-Ok.ensures.good.1;
-    })
+    (grind (arith, common_steps))
     c.in-Err-split_literals.e c.in-Err-split_literals.ensures.fault)
 
 pub returns-then-rest-len-clause-fault : goal.returns-then-rest-len-clause-fault
 returns-then-rest-len-clause-fault c =
     subst (IsFieldFault c.args.bytes.now) (sym c.cut_short.ensures)
     (in_instrs
-    (record {
-      header = c.in_ok-header.header;
-      names = c.in-Ok.parts.0.now;
-      literals = c.in-Ok-split_literals.parts.0.now;
-      rest = c.in-Ok-split_literals.parts.1.now;
-      allowed = c.in_ok-header.ensures.good.0;
-      name_table = c.in-Ok.ensures.good.0;
-      literal_table = c.in-Ok-split_literals.ensures.good.0;
-      spells =
-          c.in_ok-header.ensures.good.1
-          ∙ ap (λ (t : List ℕ). header_field c.in_ok-header.header ++ t)
-          (c.in-Ok.ensures.good.1 ∙ ap (λ (t : List ℕ). c.in-Ok.parts.0.now ++ t) c.in-Ok-split_literals.ensures.good.1);
-    })
+    (grind (arith, common_steps))
     c.if-rest-len.true)
 
 pub returns-then-not-is_empty-clause-fault : goal.returns-then-not-is_empty-clause-fault

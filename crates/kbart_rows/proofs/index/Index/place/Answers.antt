@@ -1,16 +1,14 @@
 use Rattle.std.proofs.Common.{◌≡◌, ℕ, ◌+◌, ◌<◌, ◌≤◌, List, ◌∙◌, ap, arith, get_or, length, subst}
 use Rattle.std.proofs.lemmas.List.{get_or_default}
+use Rattle.std.proofs.lemmas.Grind.{common_steps}
 use Rattle.kbart_rows.specs.Private.Index.{AreStarts, bucket_of, entry_key, key_of}
 use Rattle.kbart_rows.specs.declared.index.Entry.{Entry}
-use Rattle.kbart_rows.proofs.IndexLemmas.{buckets_rise, place_after, place_before, starts_rise}
+use Rattle.kbart_rows.proofs.IndexLemmas.{place_after, place_before, starts_rise}
 use Rattle.kbart_rows.proofs.index.Index.place.Goals as goal
 
 inside : (shift hash : ℕ) (entries : List Entry) (starts : List ℕ) → AreStarts shift entries starts → hash < 4294967296
     → bucket_of shift hash + 1 < length starts
-inside shift hash entries starts are fits =
-    let all = are.all in
-    let rise = buckets_rise shift hash 4294967295 (omega (arith, fits)) in
-    omega (arith, all, rise)
+inside shift hash entries starts are fits = grind (arith, common_steps)
 
 starts_at : (starts : List ℕ) (bucket found : ℕ) → bucket < length starts → found ≡ get_or starts bucket found → found ≡ get_or starts bucket 0
 starts_at starts bucket found inside is = is ∙ get_or_default starts bucket found 0 inside

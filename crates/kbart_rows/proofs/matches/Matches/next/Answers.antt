@@ -1,4 +1,4 @@
-use Rattle.std.proofs.Common.{ℕ, ◌∙◌, List, ap, drop, sym}
+use Rattle.std.proofs.Common.{arith, ℕ, ◌∙◌, List, ap, drop, sym}
 use Rattle.std.specs.List.{slice_get}
 use Rattle.kbart_rows.specs.Identifiers.{matching_rows}
 use Rattle.kbart_rows.proofs.RowOrder.{first_and_rest, matching_rows_rise, none_from}
@@ -21,13 +21,7 @@ returns-in-Some-clause-tail c =
     sym (ap (drop 1) (sym c.self.view_is ∙ parts))
 
 pub returns-in-None-clause-head : goal.returns-in-None-clause-head
-returns-in-None-clause-head c =
-    let rows = matching_rows c.self.inside.table.now c.self.inside.ids.now in
-    let none = none_from c.self.inside.from rows (sym c.in-None.ensures.first) in
-    sym (ap (λ (rows : List ℕ). slice_get rows 0) (sym c.self.view_is ∙ none))
+returns-in-None-clause-head c = grind (arith, none_from, c.in-None.ensures.first, c.self.view_is)
 
 pub returns-in-None-clause-tail : goal.returns-in-None-clause-tail
-returns-in-None-clause-tail c =
-    let rows = matching_rows c.self.inside.table.now c.self.inside.ids.now in
-    let none = none_from c.self.inside.from rows (sym c.in-None.ensures.first) in
-    (sym c.self.view_is ∙ none) ∙ sym (ap (drop 1) (sym c.self.view_is ∙ none))
+returns-in-None-clause-tail c = grind (arith, none_from, c.in-None.ensures.first, c.self.view_is)

@@ -6,10 +6,7 @@ use Rattle.kbart_rows.proofs.LineRests.{cell_passed, next_cell_is, next_cell_wit
 use Rattle.kbart_rows.proofs.row_cursor.RowCursor.next_cell.Goals as goal
 
 pub invariant_of-self : goal.invariant_of-self
-invariant_of-self c =
-    let cursor = c.self.inside in
-    none_passed cursor.line.now cursor.rest.now cursor.column _ c.self.invariant c.in_err-cell.ensures.none
-    (omega (arith, c.saturating_add-self-inside.ensures))
+invariant_of-self c = grind (arith, none_passed, c.self.invariant, c.in_err-cell.ensures.none, c.saturating_add-self-inside.ensures)
 
 pub returns-in_err-cell-clause-cell : goal.returns-in_err-cell-clause-cell
 returns-in_err-cell-clause-cell c =
@@ -28,10 +25,7 @@ invariant_of-self-2 c =
     (omega (arith, within, c.saturating_add-self-inside.ensures))
 
 pub returns-clause-cell : goal.returns-clause-cell
-returns-clause-cell c =
-    let cursor = c.self.inside in
-    next_cell_is cursor.line.now cursor.rest.now c.in_ok-cell.cell.now c.in_ok-cell.others.now cursor.column c.self.invariant c.in_ok-cell.ensures.cell
-    ∙ ap (λ (cursor : CursorValue). slice_get (cells_in cursor.line) cursor.column) c.self.view_is
+returns-clause-cell c = grind (arith, next_cell_is, c.self.invariant, c.in_ok-cell.ensures.cell, c.self.view_is)
 
 pub returns-clause-some : goal.returns-clause-some
 returns-clause-some c =

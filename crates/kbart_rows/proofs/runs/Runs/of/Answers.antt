@@ -1,4 +1,4 @@
-use Rattle.std.proofs.Common.{ℕ, ◌<◌, ◌≤◌, zero, suc, List, [], arith, get_or, length}
+use Rattle.std.proofs.Common.{ℕ, ◌<◌, ◌≤◌, List, [], arith, get_or, length}
 use Rattle.std.proofs.lemmas.Grind.{common_steps}
 use Rattle.text_model.specs.Texts.{Text}
 use Rattle.kbart_rows.specs.Hashing.{hash_of}
@@ -8,7 +8,6 @@ use Rattle.kbart_rows.specs.declared.index.Entry.{Entry}
 use Rattle.kbart_rows.specs.declared.keys.Keys.{Keys}
 use Rattle.kbart_rows.specs.declared.runs.Run.{Run}
 use Rattle.kbart_rows.specs.declared.runs.Runs.{Runs}
-use Rattle.kbart_rows.proofs.runs.Runs.of.Goals as goal
 
 abbrev Ahead : List Entry → Keys → List Text → ℕ → ℕ → Run → Type 0
 Ahead entries keys ids from k run = k < length ids → IsAhead entries from (half_of (hash_of keys (get_or ids k []))) run
@@ -20,13 +19,4 @@ lower entries from row wanted run le ahead = grind (arith, common_steps)
 each : (keys : Keys) (ids : List Text) (from row : ℕ) (runs : Runs) → row ≤ from → length ids ≤ 3 → Ahead runs.entries.now keys ids row 0 runs.first
     → Ahead runs.entries.now keys ids row 1 runs.second → Ahead runs.entries.now keys ids row 2 runs.third
     → (k : ℕ) → Ahead runs.entries.now keys ids from k (run_of runs k)
-each keys ids from row runs le few first second third zero inside =
-    lower runs.entries.now from row (half_of (hash_of keys (get_or ids 0 []))) runs.first le (first inside)
-each keys ids from row runs le few first second third (suc zero) inside =
-    lower runs.entries.now from row (half_of (hash_of keys (get_or ids 1 []))) runs.second le (second inside)
-each keys ids from row runs le few first second third (suc (suc zero)) inside =
-    lower runs.entries.now from row (half_of (hash_of keys (get_or ids 2 []))) runs.third le (third inside)
-each keys ids from row runs le few first second third (suc (suc (suc k))) inside = absurd (omega (arith, few, inside))
-
-pub returns-clause-ahead : goal.returns-clause-ahead
-returns-clause-ahead c = grind (arith, common_steps)
+each keys ids from row runs le few first second third k inside = grind (arith, common_steps)

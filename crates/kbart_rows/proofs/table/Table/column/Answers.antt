@@ -1,14 +1,12 @@
-use Rattle.std.proofs.Common.{◌≡◌, ◌<◌, [], Option, Some, None, IfSome, length, ap, sym, ◌∙◌}
-use Rattle.std.proofs.lemmas.List.Quantifiers.{position-Some}
-use Rattle.std.specs.Str.{bytes_eq}
+use Rattle.std.proofs.Common.{arith, ◌≡◌, ◌<◌, Option, IfSome, length, ap, sym, ◌∙◌}
+use Rattle.std.proofs.lemmas.Grind.{common_steps}
 use Rattle.text_model.specs.Texts.{Text}
 use Rattle.kbart_rows.specs.Cells.{Holdings, Row, column_of}
 use Rattle.kbart_rows.proofs.table.Table.column.Goals as goal
 
 -- a column with a name is in the header
 named_within : (header : Row) (name : Text) (found : Option _) → column_of header name ≡ found → IfSome found (λ column. column < length header)
-named_within header name None is = tt
-named_within header name (Some column) is = (position-Some (bytes_eq name) header column [] is).0
+named_within header name found is = grind (arith, common_steps)
 
 pub returns-clause-within : goal.returns-clause-within
 returns-clause-within c =

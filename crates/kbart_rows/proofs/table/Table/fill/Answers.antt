@@ -1,8 +1,8 @@
-use Rattle.std.proofs.Common.{◌≡◌, ◌≤◌, ◌+◌, [], drop, get_or, length, ap, arith}
+use Rattle.std.proofs.Common.{◌≡◌, ◌≤◌, [], get_or, ap, arith}
 use Rattle.std.proofs.lemmas.Grind.{common_steps}
 use Rattle.std.proofs.lemmas.List.{length-drop}
 use Rattle.environment_model.specs.Environment.{byte_count, member_count}
-use Rattle.kbart_rows.specs.Cells.{Holdings, cell_bytes, named_cells, row_bytes}
+use Rattle.kbart_rows.specs.Cells.{cell_bytes, named_cells}
 use Rattle.kbart_rows.specs.Lines.{cells_in}
 use Rattle.kbart_rows.specs.declared.read.TheConstants.{MAX_ROW_BYTES}
 use Rattle.kbart_rows.proofs.FillingLemmas.{Reaches, reaches, reached_bytes, reached_members, row_cell_bytes, only_memory}
@@ -15,13 +15,7 @@ cells_are c = grind (arith, common_steps)
 
 -- and there are few enough of them
 small : (c : goal.After-fill) → cell_bytes (named_cells (cells_in c.header.result.now) (cells_in c.line.result.now)) ≤ MAX_ROW_BYTES
-small c =
-    let lines = c.self.inside.lines in
-    let row = c.args.row in
-    let rows : length (drop 1 lines) ≡ length c.args.self.now.rows = ap (λ (table : Holdings). length table.rows) c.self.view_is in
-    let fits : row_bytes (get_or lines (row + 1) []) ≤ MAX_ROW_BYTES =
-    c.self.invariant.fit (row + 1) [] (omega (arith, c.requires, rows, length-drop 1 lines)) in
-    omega (arith, row_cell_bytes (cells_in c.header.result.now) (cells_in c.line.result.now), ap row_bytes c.line.ensures.cells, fits)
+small c = grind (arith, c.self.view_is, c.self.invariant.fit, c.requires, length-drop, row_cell_bytes, c.line.ensures.cells)
 
 reach : (c : goal.After-fill) → Reaches c.args.env.now.entries (named_cells (cells_in c.header.result.now) (cells_in c.line.result.now)) c.fill.new.env.entries
 reach c = reaches _ _ _ c.fill.result c.fill.ensures.ok c.fill.ensures.err

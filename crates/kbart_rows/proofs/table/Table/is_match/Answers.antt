@@ -1,7 +1,8 @@
-use Rattle.std.proofs.Common.{◌≡◌, ◌∙◌, ◌+◌, ◌∷◌, ◌||◌, Bool, true, false, List, [], Option, ℕ, ap, arith, drop, get_or, refl, sym}
+use Rattle.std.proofs.Common.{◌≡◌, ◌∙◌, ◌+◌, ◌∷◌, ◌||◌, Bool, List, [], Option, ℕ, ap, arith, drop, get_or, refl, sym}
 use Rattle.std.proofs.lemmas.List.{get_or-drop}
 use Rattle.std.specs.List.{cons_option, list_any}
 use Rattle.std.specs.Str.{bytes_eq}
+use Rattle.std.proofs.lemmas.Grind.{common_steps}
 use Rattle.text_model.specs.Texts.{Text}
 use Rattle.kbart_rows.specs.Cells.{Holdings, Row}
 use Rattle.kbart_rows.specs.Identifiers.{identifier_columns, identifier_in, is_match}
@@ -9,24 +10,13 @@ use Rattle.kbart_rows.specs.Lines.{cells_in}
 use Rattle.kbart_rows.specs.Private.Kept.{holdings_of, is_id}
 use Rattle.kbart_rows.specs.declared.keys.Keys.{Keys}
 use Rattle.kbart_rows.specs.Private.Runs.{matches}
-use Rattle.kbart_rows.proofs.Rows.{one_of_two}
 use Rattle.kbart_rows.proofs.table.Table.is_match.Goals as goal
-
-swapped : (p q r s : Bool) → ((p || q) || (r || s)) ≡ ((p || r) || (q || s))
-swapped true q r s = refl
-swapped false true true s = refl
-swapped false true false s = refl
-swapped false false true s = refl
-swapped false false false s = refl
 
 -- one identifier or the other is among the ids
 either : (a b : Option Text) (ids : List Text) → list_any (λ id. list_any (bytes_eq id) (cons_option a (cons_option b []))) ids
     ≡ (list_any (λ id. is_id id a) ids || list_any (λ id. is_id id b) ids)
 either a b [] = refl
-either a b (id ∷ ids) =
-    let later = list_any (λ id. list_any (bytes_eq id) (cons_option a (cons_option b []))) ids in
-    ap (λ first. first || later) (one_of_two id a b) ∙ ap (λ rest. (is_id id a || is_id id b) || rest) (either a b ids)
-    ∙ swapped (is_id id a) (is_id id b) (list_any (λ id. is_id id a) ids) (list_any (λ id. is_id id b) ids)
+either a b (id ∷ ids) = grind (arith, common_steps, either a b ids)
 
 -- both columns decide
 both : (lines : List Row) (table : Holdings) (keys : Keys) (print online : Option ℕ) (ids : List Text) (row : ℕ) (line : Text) → holdings_of lines keys ≡ table

@@ -1,4 +1,4 @@
-use Rattle.std.proofs.Common.{length, ap, arith}
+use Rattle.std.proofs.Common.{ap, arith}
 use Rattle.kev_read.specs.ReadQuery.{ReadQuery}
 use Rattle.kev_read.proofs.FillingLemmas.{reaches, reached_bytes, reached_members, only_memory}
 use Rattle.kev_read.proofs.request.Request.fill.Goals as goal
@@ -11,10 +11,7 @@ returns-clause-bytes c =
     omega (arith, reached_bytes _ _ _ _ reach)
 
 pub returns-clause-members : goal.returns-clause-members
-returns-clause-members c =
-    let reach = reaches _ _ _ _ c.fill.result c.fill.ensures.ok c.fill.ensures.err in
-    let whole = ap (λ (r : ReadQuery). length r.pairs) c.self.view_is in
-    omega (arith, reached_members _ _ _ _ reach)
+returns-clause-members c = grind (arith, reaches, c.fill.ensures.ok, c.fill.ensures.err, c.self.view_is, reached_members)
 
 pub returns-clause-room : goal.returns-clause-room
 returns-clause-room c = grind (arith, c.self.view_is, c.self.invariant.0.values, only_memory, c.fill.result, c.fill.ensures.err)

@@ -1,6 +1,6 @@
-use Rattle.std.proofs.Common.{rules, ◌≡◌, ◌++◌, true, not, length, string_bytes, refl, sym, ap, ◌∙◌}
+use Rattle.std.proofs.Common.{arith, rules, ◌≡◌, ◌++◌, not, length, string_bytes, refl, ap, ◌∙◌}
 use Rattle.std.proofs.lemmas.Str.{IsUtf8-string_bytes}
-use Rattle.environment_model.specs.Environment.{is_there, with_text}
+use Rattle.environment_model.specs.Environment.{with_text}
 use Rattle.environment_model.proofs.Environments.{with_text-known}
 use Rattle.target_vars.specs.EnvValue.{EnvValue}
 use Rattle.target_vars.proofs.Additions.{put_is, laid_put}
@@ -8,27 +8,16 @@ use Rattle.target_vars.proofs.Facts.{known, lacking, fits}
 use Rattle.target_vars.proofs.env.Env.put_text.Goals as goal
 
 pub returns-in_default-clause-answer : goal.returns-in_default-clause-answer
-returns-in_default-clause-answer c =
-    let there : is_there c.args.self.now.entries c.args.name.now ≡ true =
-    known c.self.inside c.args.self.now c.args.name.now c.in_default.field-0 c.self.invariant c.self.view_is c.in_default.ensures in
-    ap not (sym there)
+returns-in_default-clause-answer c = grind (arith, known, c.self.invariant, c.self.view_is, c.in_default.ensures, not)
 
 pub returns-in_default-clause-ok : goal.returns-in_default-clause-ok
-returns-in_default-clause-ok c =
-    let there : is_there c.args.self.now.entries c.args.name.now ≡ true =
-    known c.self.inside c.args.self.now c.args.name.now c.in_default.field-0 c.self.invariant c.self.view_is c.in_default.ensures in
-    sym (with_text-known c.args.self.now.entries c.args.name.now c.args.text.now there)
+returns-in_default-clause-ok c = grind (arith, known, c.self.invariant, c.self.view_is, c.in_default.ensures, with_text-known)
 
 pub returns-in_default-clause-too_large : goal.returns-in_default-clause-too_large
-returns-in_default-clause-too_large c =
-    let there : is_there c.args.self.now.entries c.args.name.now ≡ true =
-    known c.self.inside c.args.self.now c.args.name.now c.in_default.field-0 c.self.invariant c.self.view_is c.in_default.ensures in
-    (λ is. absurd (cc), λ h. (let none = h.0 in absurd (cc)))
+returns-in_default-clause-too_large c = grind (arith, known, c.self.invariant, c.self.view_is, c.in_default.ensures)
 
 pub returns-then-is_too_long-clause-known : goal.returns-then-is_too_long-clause-known
-returns-then-is_too_long-clause-known c =
-    let absent = lacking c.self.inside c.args.self.now c.args.name.now c.self.invariant c.self.view_is c.in-Err.ensures.lacks in
-    λ there. absurd (cc)
+returns-then-is_too_long-clause-known c = grind (arith, lacking, c.self.invariant, c.self.view_is, c.in-Err.ensures.lacks)
 
 pub returns-then-is_too_long-clause-too_large : goal.returns-then-is_too_long-clause-too_large
 returns-then-is_too_long-clause-too_large c =
@@ -36,14 +25,10 @@ returns-then-is_too_long-clause-too_large c =
     (λ is. (absent, c.is_too_long.ensures.0 c.if-is_too_long.true), λ h. refl)
 
 pub returns-in_err-reserve-clause-known : goal.returns-in_err-reserve-clause-known
-returns-in_err-reserve-clause-known c =
-    let absent = lacking c.self.inside c.args.self.now c.args.name.now c.self.invariant c.self.view_is c.in-Err.ensures.lacks in
-    λ there. absurd (cc)
+returns-in_err-reserve-clause-known c = grind (arith, lacking, c.self.invariant, c.self.view_is, c.in-Err.ensures.lacks)
 
 pub returns-in_err-enter-clause-known : goal.returns-in_err-enter-clause-known
-returns-in_err-enter-clause-known c =
-    let absent = lacking c.self.inside c.args.self.now c.args.name.now c.self.invariant c.self.view_is c.in-Err.ensures.lacks in
-    λ there. absurd (cc)
+returns-in_err-enter-clause-known c = grind (arith, lacking, c.self.invariant, c.self.view_is, c.in-Err.ensures.lacks)
 
 pub invariant_of-self-2 : goal.invariant_of-self-2
 invariant_of-self-2 c =
@@ -58,9 +43,7 @@ invariant_of-self-2 c =
     c.self.invariant c.in-Err.ensures.lacks start c.at_end-part.ensures.len short)
 
 pub returns-clause-answer : goal.returns-clause-answer
-returns-clause-answer c =
-    let absent = lacking c.self.inside c.args.self.now c.args.name.now c.self.invariant c.self.view_is c.in-Err.ensures.lacks in
-    ap not (sym absent)
+returns-clause-answer c = grind (arith, lacking, c.self.invariant, c.self.view_is, c.in-Err.ensures.lacks, not)
 
 pub returns-clause-ok : goal.returns-clause-ok
 returns-clause-ok c =
@@ -75,6 +58,4 @@ returns-clause-ok c =
     (is ∙ ap (λ (v : EnvValue). with_text v.entries c.args.name.now c.args.text.now) c.self.view_is)
 
 pub returns-clause-known : goal.returns-clause-known
-returns-clause-known c =
-    let absent = lacking c.self.inside c.args.self.now c.args.name.now c.self.invariant c.self.view_is c.in-Err.ensures.lacks in
-    λ there. absurd (cc)
+returns-clause-known c = grind (arith, lacking, c.self.invariant, c.self.view_is, c.in-Err.ensures.lacks)

@@ -1,5 +1,6 @@
 use Rattle.std.proofs.Common.{Some, string_bytes, ap, ◌∙◌, subst, arith}
 use Rattle.std.proofs.lemmas.Option.{slice_get_within}
+use Rattle.std.proofs.lemmas.Grind.{common_steps}
 use Rattle.target_vars.specs.EnvValue.{EnvValue, AreMembersAt}
 use Rattle.target_vars.specs.Layout.{AreAdjacent}
 use Rattle.target_vars.proofs.Laid.{place_read, no_members-at, no_members-lacking, members_at}
@@ -28,14 +29,7 @@ returns-in-Many-clause-value c =
     let r = c.self.inside in
     let placed = place_read r.names.listed r.places.items c.args.name.now c.in-Ok.number c.index.result.now c.self.invariant.one_each c.in-Ok.ensures
     c.index.ensures ∙ ap Some c.in-Many.is in
-    let run : AreAdjacent r.spans.items c.in-Ok.number c.run_of.result.0 c.run_of.result.1 =
-    subst (λ xs. AreAdjacent xs c.in-Ok.number c.run_of.result.0 c.run_of.result.1) c.deref.ensures.value c.run_of.ensures in
+    let run : AreAdjacent r.spans.items c.in-Ok.number c.run_of.result.0 c.run_of.result.1 = grind (arith, common_steps) in
     subst (λ (v : EnvValue). AreMembersAt v c.args.name.now c.run_of.result.0 c.run_of.result.1) c.self.view_is
     (members_at (string_bytes r.buffer) r.spans.items r.names.listed r.places.items c.args.name.now c.in-Ok.number c.run_of.result.0 c.run_of.result.1
     c.self.invariant c.in-Ok.ensures placed run)
-
-pub returns-in-Many-clause-small : goal.returns-in-Many-clause-small
-returns-in-Many-clause-small c =
-    let run : AreAdjacent c.self.inside.spans.items c.in-Ok.number c.run_of.result.0 c.run_of.result.1 =
-    subst (λ xs. AreAdjacent xs c.in-Ok.number c.run_of.result.0 c.run_of.result.1) c.deref.ensures.value c.run_of.ensures in
-    omega (arith, run.within, c.self.invariant.few_members)

@@ -1,4 +1,5 @@
-use Rattle.std.proofs.Common.{rules, ◌≡◌, ◌+◌, [], ◌∷◌, ◌++◌, length, sym, ap, ◌∙◌, subst}
+use Rattle.std.proofs.Common.{arith, rules, ◌≡◌, ◌+◌, [], ◌∷◌, ◌++◌, length, sym, subst}
+use Rattle.std.proofs.lemmas.Grind.{common_steps}
 use Rattle.target_vars.specs.Private.NamesValue.{NamesValue, IsGap, Separates, IsForked}
 use Rattle.target_vars.specs.declared.names.NamePlace.{NamePlace}
 use Rattle.target_vars.proofs.MoreForks.{placed_names-push, are_names-push}
@@ -13,24 +14,12 @@ invariant_of-self-2 c =
     let places : c.push_reserved.new.self.items ≡ r.places.items ++ p ∷ [] = search rules in
     let start : p.start ≡ length r.bytes.items = search rules in
     let end : p.end ≡ length r.bytes.items + length name = search rules in
-    let forked : IsForked r.forks.items name c.args.gap c.fork_of-fork.result c.put_fork.new.forks.items =
-    subst (λ xs. IsForked xs name c.args.gap c.fork_of-fork.result c.put_fork.new.forks.items) c.reserve_items-3.ensures.items
-    (subst (λ n. IsForked c.reserve_items-3.new.items.items n c.args.gap c.fork_of-fork.result c.put_fork.new.forks.items) c.as_bytes-2.ensures.value
-    c.put_fork.ensures) in
-    let separates : Separates c.args.self.now name c.args.gap c.fork_of-fork.result =
-    subst (λ n. Separates c.args.self.now n c.args.gap c.fork_of-fork.result) c.as_bytes.ensures.value c.fork_of-fork.ensures in
+    let forked : IsForked r.forks.items name c.args.gap c.fork_of-fork.result c.put_fork.new.forks.items = grind (arith, common_steps) in
+    let separates : Separates c.args.self.now name c.args.gap c.fork_of-fork.result = grind (arith, common_steps) in
     rw (bytes, places)
     (are_names-push r.bytes.items name r.places.items r.forks.items c.put_fork.new.forks.items p c.args.gap c.fork_of-fork.result c.self.invariant
     (subst (λ (v : NamesValue). IsGap v name c.args.gap) (sym c.self.view_is) c.requires)
     (subst (λ (v : NamesValue). Separates v name c.args.gap c.fork_of-fork.result) (sym c.self.view_is) separates) forked start end)
 
 pub returns-clause-ok : goal.returns-clause-ok
-returns-clause-ok c =
-    let r = c.self.inside in
-    let p : NamePlace = record { start = c.len-start.result; end = c.len.result } in
-    let bytes : c.extend_from_slice.new.self.items ≡ r.bytes.items ++ c.args.name.now = search rules in
-    let places : c.push_reserved.new.self.items ≡ r.places.items ++ p ∷ [] = search rules in
-    let start : p.start ≡ length r.bytes.items = search rules in
-    let end : p.end ≡ length r.bytes.items + length c.args.name.now = search rules in
-    rw (bytes, places) (placed_names-push r.bytes.items c.args.name.now r.places.items p c.self.invariant.placed start end
-    ∙ ap (λ (v : NamesValue). v.listed ++ c.args.name.now ∷ []) c.self.view_is)
+returns-clause-ok c = grind (arith, placed_names-push, c.self.invariant.placed, c.self.view_is)
