@@ -1,21 +1,19 @@
 -- A browser has the plain host of a web link.
-use Rattle.std.proofs.Common.{◌≡◌, ◌≢◌, ℕ, ◌+◌, ◌==◌, Bool, true, false, not, ◌&&◌, ◌||◌, cond, [], ◌∷◌, ◌++◌, take, Some, None, refl, sym, ap, ◌∙◌}
+use Rattle.std.proofs.Common.{◌≡◌, ◌≢◌, ℕ, ◌==◌, Bool, true, false, cond, [], ◌∷◌, ◌++◌, Some, refl, sym, ap, ◌∙◌, arith, codes, inl, inr}
 use Rattle.std.proofs.lemmas.Grind.{common_steps}
-use Rattle.std.proofs.Common.{arith, codes, one-add, inl, inr}
 use Rattle.std.specs.Char.{to_ascii_lowercase}
-use Rattle.std.specs.List.{before_first, list_any, prefix_len}
+use Rattle.std.specs.List.{before_first, list_any}
 use Rattle.std.proofs.lemmas.Bool.{and_from, and_parts, and_right, both_ways, eqb-true, false_from_ne_true, false≢true, or_cases}
-use Rattle.std.proofs.lemmas.Bool.{or_from}
 use Rattle.text_model.specs.Texts.{Text, is_hexadecimal, is_reserved, is_unreserved}
 use Rattle.text_model.specs.UriText.{IsUriText, nothing, and_character, and_triplet}
 use Rattle.text_model.specs.Writing.{is_unreserved_or_reserved}
 use Rattle.uri_text.specs.AnyCase.{begins_in_any_case}
 use Rattle.menu.specs.WebLink.{is_web_link}
-use Rattle.rule_lint.specs.HostStates.{ends_host, slash}
+use Rattle.rule_lint.specs.HostStates.{slash}
 use Rattle.rule_lint.specs.Host.{after_slashes, host_after, host_of}
 use Rattle.lint_laws.specs.RowLinks.{IsPlainHost}
 use Rattle.lint_laws.specs.Browsers.{after_browsers_slashes, after_colon, after_user, backslash, browsers_host, colon, ends_browsers_host, is_at_sign}
-use Rattle.lint_laws.proofs.HostEnds.{first_part, part_continues, part_ends}
+use Rattle.lint_laws.proofs.HostEnds.{first_part}
 use Rattle.lint_laws.proofs.WebLinkLemmas.{slash_lowered}
 
 -- ---- texts without a backslash
@@ -50,9 +48,7 @@ record IsSplit (t : Text) : Type 0 where
 
 -- a byte that is a letter in either case is another one than a byte that has no case
 other_byte : (b c d : ℕ) → (to_ascii_lowercase b == to_ascii_lowercase c) ≡ true → (to_ascii_lowercase d == to_ascii_lowercase c) ≡ false → (b == d) ≡ false
-other_byte b c d is other =
-    false_from_ne_true (b == d) (λ e. both_ways (to_ascii_lowercase d == to_ascii_lowercase c) other
-    (ap (λ (x : ℕ). to_ascii_lowercase x == to_ascii_lowercase c) (sym (eqb-true b d e)) ∙ is))
+other_byte b c d is other = grind (arith, common_steps)
 
 colon_lowered : (b : ℕ) → (to_ascii_lowercase b == 0x3A) ≡ true → (b == colon) ≡ true
 colon_lowered b e = grind (arith, common_steps)
@@ -61,9 +57,7 @@ colon_lowered b e = grind (arith, common_steps)
 split_here : (t : Text) → begins_in_any_case t (codes "://") ≡ true → IsSplit t
 split_here [] e = absurd (false≢true e)
 split_here (a ∷ []) e = absurd (false≢true (sym (and_right (to_ascii_lowercase a == 0x3A) false refl) ∙ e))
-split_here (a ∷ b ∷ []) e =
-    let first = and_parts (to_ascii_lowercase a == 0x3A) (begins_in_any_case (b ∷ []) (codes "//")) e in
-    absurd (false≢true (sym (and_right (to_ascii_lowercase b == 0x2F) false refl) ∙ first.1))
+split_here (a ∷ b ∷ []) e = grind (arith, common_steps)
 split_here (a ∷ b ∷ c ∷ t) e =
     let first = and_parts (to_ascii_lowercase a == 0x3A) (begins_in_any_case (b ∷ c ∷ t) (codes "//")) e in
     let second = and_parts (to_ascii_lowercase b == 0x2F) (begins_in_any_case (c ∷ t) (codes "/")) first.1 in
@@ -72,19 +66,13 @@ split_here (a ∷ b ∷ c ∷ t) e =
     let slashes = and_from (b == slash) (c == slash) (slash_lowered b second.0) (slash_lowered c third.0) in
     record {
       rest = t;
-      slashes =
-          ap (λ (x : ℕ). cond (x == slash && b == slash) (Some (c ∷ t)) (after_slashes (b ∷ c ∷ t))) (eqb-true a colon is_colon)
-          ∙ ap (λ (x : Bool). cond x (Some t) (after_slashes (c ∷ t))) slashes;
-      scheme =
-          ap (λ (x : Bool). cond x (b ∷ c ∷ t) (after_colon (b ∷ c ∷ t))) is_colon
-          ∙ (ap (λ (x : ℕ). x ∷ c ∷ t) (eqb-true b slash (slash_lowered b second.0))
-          ∙ ap (λ (x : ℕ). slash ∷ x ∷ t) (eqb-true c slash (slash_lowered c third.0)));
+      slashes = grind (arith, common_steps);
+      scheme = grind (arith, common_steps);
       none = λ h. h.1.1.1;
     }
 
 split_later : (b : ℕ) (t : Text) → (b == slash) ≡ false → (b == colon) ≡ false → IsSplit t → IsSplit (b ∷ t)
-split_later b [] no_slash no_colon s = absurd (let never : None ≡ Some s.rest = s.slashes in cc)
-split_later b (c ∷ t) no_slash no_colon s = grind (arith, common_steps)
+split_later b t no_slash no_colon s = grind (arith, common_steps)
 
 -- letters that are neither slashes nor colons, and then the colon and the slashes
 abbrev AreLetters : Text → Type 0
@@ -110,23 +98,11 @@ web_link_splits link web = elim (or_cases (begins_in_any_case link (codes "http:
 -- up to the same byte
 same_part : (t : Text) → HasNone t → before_first ends_browsers_host t ≡ first_part t
 same_part [] h = refl
-same_part (b ∷ t) h = by_end (ends_host b) refl (same_part t h.1)
-  where
-    taken : Bool → Text
-    taken ends = take (cond (not ends) (1 + prefix_len (λ x. not (ends_browsers_host x)) t) 0) (b ∷ t)
-
-    by_end : (ends : Bool) → ends_host b ≡ ends → before_first ends_browsers_host t ≡ first_part t
-        → before_first ends_browsers_host (b ∷ t) ≡ first_part (b ∷ t)
-    by_end true e later = ap taken (ap (λ (x : Bool). x || (b == backslash)) e) ∙ sym (part_ends b t e)
-    by_end false e later =
-        let n = prefix_len (λ x. not (ends_browsers_host x)) t in
-        ap taken (or_from (ends_host b) (b == backslash) e h.0) ∙ (ap (λ (m : ℕ). take m (b ∷ t)) (one-add n)
-        ∙ (ap (λ u. b ∷ u) later ∙ sym (part_continues b t e)))
+same_part (b ∷ t) h = grind (arith, common_steps, same_part t h.1)
 
 -- no slash is skipped
 no_more_slashes : (t : Text) → HasNone t → first_part t ≢ [] → after_browsers_slashes t ≡ t
-no_more_slashes [] h some = refl
-no_more_slashes (b ∷ t) h some = grind (arith, common_steps)
+no_more_slashes t h some = grind (arith, common_steps)
 
 no_user_there : (t : Text) → list_any is_at_sign t ≡ false → after_user t ≡ t
 no_user_there [] e = refl

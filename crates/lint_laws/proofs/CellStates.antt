@@ -1,8 +1,7 @@
 -- How values that are written into a link lead on: without reserved characters they are plain, and otherwise as they stand.
-use Rattle.std.proofs.Common.{◌≡◌, ℕ, ◌/◌, ◌%◌, ◌+◌, ◌<◌, Bool, true, false, cond, [], ◌∷◌, ◌++◌, refl, ap, ◌∙◌, arith}
-use Rattle.std.specs.Prelude.{nat_lt, if◌then◌else◌}
+use Rattle.std.proofs.Common.{◌≡◌, ℕ, ◌/◌, Bool, true, false, cond, [], ◌∷◌, ◌++◌, refl, ap, ◌∙◌, arith}
 use Rattle.std.proofs.lemmas.Grind.{common_steps}
-use Rattle.std.proofs.lemmas.Bool.{agree_below_at, both_ways}
+use Rattle.std.proofs.lemmas.Bool.{both_ways}
 use Rattle.text_model.specs.Texts.{Text, is_unreserved, is_reserved, is_triplet}
 use Rattle.text_model.specs.Writing.{hexadecimal_digit, is_unreserved_or_reserved, triplet_of, written_byte, written_u, written_ur}
 use Rattle.rule_lint.specs.declared.host_state.HostState.{HostState}
@@ -17,8 +16,7 @@ not_special test kept b is slash question hash at = grind (arith, common_steps)
 
 unreserved_plain : (b : ℕ) → is_unreserved b ≡ true → is_special b ≡ false
 unfolding is_unreserved
-unreserved_plain b is =
-    not_special is_unreserved true b is (both_ways false refl) (both_ways false refl) (both_ways false refl) (both_ways false refl)
+unreserved_plain b is = grind (arith, common_steps)
 
 encoded_plain : (b : ℕ) → is_unreserved_or_reserved b ≡ false → is_special b ≡ false
 unfolding is_unreserved is_reserved
@@ -27,9 +25,7 @@ encoded_plain b is =
     (λ e. both_ways true e refl)
 
 digit_plain : (n : ℕ) → is_special (hexadecimal_digit n) ≡ false
-digit_plain n =
-    let lt : n % 16 < 16 = omega arith in
-    agree_below_at (λ m. is_special (if nat_lt m 10 then 48 + m else 55 + m)) (λ m. false) 16 (n % 16) refl lt
+digit_plain n = grind (arith, common_steps)
 
 triplet_plain : (b : ℕ) → IsPlain (triplet_of b)
 triplet_plain b = (refl, (digit_plain (b / 16), (digit_plain b, tt)))
@@ -37,8 +33,7 @@ triplet_plain b = (refl, (digit_plain (b / 16), (digit_plain b, tt)))
 -- ---- values without reserved characters
 
 byte_plain : (stays : Bool) (b : ℕ) → is_unreserved b ≡ stays → IsPlain (written_byte stays b)
-byte_plain true b e = (unreserved_plain b e, tt)
-byte_plain false b e = triplet_plain b
+byte_plain stays b e = grind (arith, unreserved_plain, triplet_plain)
 
 pub written_plain : (t : Text) → IsPlain (written_u t)
 unfolding written_u
@@ -68,5 +63,4 @@ written_state s (b ∷ c ∷ d ∷ t) =
     by_test : (x : Bool) → after_text (after_text s (b ∷ c ∷ d ∷ [])) (written_ur t) ≡ after_text s (b ∷ c ∷ d ∷ t)
         → after_text (after_text s first) (written_ur (c ∷ d ∷ t)) ≡ after_text s (b ∷ c ∷ d ∷ t)
         → after_text s (cond x (b ∷ c ∷ d ∷ written_ur t) (first ++ written_ur (c ∷ d ∷ t))) ≡ after_text s (b ∷ c ∷ d ∷ t)
-    by_test true copied made = copied
-    by_test false copied made = after_append s first (written_ur (c ∷ d ∷ t)) ∙ made
+    by_test x copied made = grind (arith, common_steps)

@@ -1,7 +1,7 @@
 -- What the state of a text says of the text's host.
 use Rattle.std.proofs.Common.{◌≡◌, ◌≢◌, ℕ, ◌+◌, ◌==◌, Bool, true, false, not, ◌&&◌, ◌||◌, cond, [], ◌∷◌, ◌++◌, take, Option, Some, None, refl, sym, ap, ◌∙◌}
 use Rattle.std.proofs.lemmas.Grind.{common_steps}
-use Rattle.std.proofs.Common.{subst, one-add, ◌⊎◌, inl, inr, arith}
+use Rattle.std.proofs.Common.{subst, ◌⊎◌, inl, inr, arith}
 use Rattle.std.specs.List.{before_first, prefix_len, list_any}
 use Rattle.std.proofs.lemmas.Bool.{or_from}
 use Rattle.text_model.specs.Texts.{Text}
@@ -22,9 +22,7 @@ pub part_ends : (b : ℕ) (t : Text) → ends_host b ≡ true → first_part (b 
 part_ends b t e = ap (λ (ends : Bool). take (cond (not ends) (1 + prefix_len (λ x. not (ends_host x)) t) 0) (b ∷ t)) e
 
 pub part_continues : (b : ℕ) (t : Text) → ends_host b ≡ false → first_part (b ∷ t) ≡ b ∷ first_part t
-part_continues b t e =
-    let n = prefix_len (λ x. not (ends_host x)) t in
-    ap (λ (ends : Bool). take (cond (not ends) (1 + n) 0) (b ∷ t)) e ∙ ap (λ (m : ℕ). take m (b ∷ t)) (one-add n)
+part_continues b t e = grind (arith, common_steps)
 
 -- what comes after it does not change it if it begins with a byte that ends the host
 abbrev pub IsEnd : Text → Type 0
@@ -34,11 +32,7 @@ IsEnd (b ∷ t) = ends_host b ≡ true
 part_ended : (t more : Text) → IsEnd more → first_part (t ++ more) ≡ first_part t
 part_ended [] [] h = refl
 part_ended [] (c ∷ more) h = part_ends c more h
-part_ended (b ∷ t) more h = by_end (ends_host b) refl (part_ended t more h)
-  where
-    by_end : (ends : Bool) → ends_host b ≡ ends → first_part (t ++ more) ≡ first_part t → first_part (b ∷ (t ++ more)) ≡ first_part (b ∷ t)
-    by_end true f later = part_ends b (t ++ more) f ∙ sym (part_ends b t f)
-    by_end false f later = part_continues b (t ++ more) f ∙ (ap (λ u. b ∷ u) later ∙ sym (part_continues b t f))
+part_ended (b ∷ t) more h = grind (arith, part_ends, part_continues, part_ended t more h)
 
 -- ---- states in which a host has begun
 
@@ -58,26 +52,13 @@ lost_not_found t h = subst IsFound (lost_stays t) h
 
 -- the state after one more byte of a host that is not yet ended
 after_open : (s : HostState) (b : ℕ) → IsOpen s → ends_host b ≡ false → (b == at_sign) ≡ false → after_byte s b ≡ Inside
-after_open Outside b o e f = absurd o
-after_open Slash b o e f = absurd o
-after_open Opened b o e f = ap (λ (x : Bool). cond x Lost Inside) (or_from (ends_host b) (b == at_sign) e f)
-after_open Inside b o e f =
-    ap (λ (x : Bool). cond x Past (cond (b == at_sign) Lost Inside)) e ∙ ap (λ (x : Bool). cond x Lost Inside) f
-after_open Past b o e f = absurd o
-after_open Lost b o e f = absurd o
+after_open s b o e f = grind (arith, common_steps)
 
 after_at_sign : (s : HostState) (b : ℕ) → IsOpen s → ends_host b ≡ false → (b == at_sign) ≡ true → after_byte s b ≡ Lost
-after_at_sign Outside b o e f = absurd o
-after_at_sign Slash b o e f = absurd o
-after_at_sign Opened b o e f = ap (λ (x : Bool). cond (x || (b == at_sign)) Lost Inside) e ∙ ap (λ (x : Bool). cond x Lost Inside) f
-after_at_sign Inside b o e f =
-    ap (λ (x : Bool). cond x Past (cond (b == at_sign) Lost Inside)) e ∙ ap (λ (x : Bool). cond x Lost Inside) f
-after_at_sign Past b o e f = absurd o
-after_at_sign Lost b o e f = absurd o
+after_at_sign s b o e f = grind (arith, common_steps)
 
 after_end : (b : ℕ) → ends_host b ≡ true → (after_byte Opened b ≡ Lost) × (after_byte Inside b ≡ Past)
-after_end b e =
-    (ap (λ (x : Bool). cond (x || (b == at_sign)) Lost Inside) e, ap (λ (x : Bool). cond x Past (cond (b == at_sign) Lost Inside)) e)
+after_end b e = grind (arith, common_steps)
 
 -- such a state is found only without an `@`
 no_user : (s : HostState) (t : Text) → IsOpen s → IsFound (after_text s t) → list_any is_at_sign (first_part t) ≡ false
@@ -86,12 +67,7 @@ no_user s (b ∷ t) o h = by_end (ends_host b) (b == at_sign) refl refl h (no_us
   where
     by_end : (ends is : Bool) → ends_host b ≡ ends → (b == at_sign) ≡ is → IsFound (after_text (after_byte s b) t)
         → (IsFound (after_text Inside t) → list_any is_at_sign (first_part t) ≡ false) → list_any is_at_sign (first_part (b ∷ t)) ≡ false
-    by_end true is e f h later = ap (list_any is_at_sign) (part_ends b t e)
-    by_end false true e f h later =
-        absurd (lost_not_found t (subst (λ (r : HostState). IsFound (after_text r t)) (after_at_sign s b o e f) h))
-    by_end false false e f h later =
-        ap (list_any is_at_sign) (part_continues b t e)
-        ∙ or_from (b == at_sign) _ f (later (subst (λ (r : HostState). IsFound (after_text r t)) (after_open s b o e f) h))
+    by_end ends is e f h later = grind (arith, part_ends, lost_not_found, after_at_sign, part_continues, or_from, after_open)
 
 -- and only if there is a host
 not_empty : (t : Text) → IsFound (after_text Opened t) → first_part t ≢ []
@@ -105,12 +81,7 @@ part_past s (b ∷ t) more o h = by_end (ends_host b) (b == at_sign) refl refl h
   where
     by_end : (ends is : Bool) → ends_host b ≡ ends → (b == at_sign) ≡ is → after_text (after_byte s b) t ≡ Past
         → (after_text Inside t ≡ Past → first_part (t ++ more) ≡ first_part t) → first_part (b ∷ (t ++ more)) ≡ first_part (b ∷ t)
-    by_end true is e f h later = part_ends b (t ++ more) e ∙ sym (part_ends b t e)
-    by_end false true e f h later =
-        absurd (lost_not_found t (subst (λ (r : HostState). IsFound (after_text r t)) (after_at_sign s b o e f) (subst IsFound (sym h) tt)))
-    by_end false false e f h later =
-        part_continues b (t ++ more) e
-        ∙ (ap (λ u. b ∷ u) (later (sym (ap (λ (r : HostState). after_text r t) (after_open s b o e f)) ∙ h)) ∙ sym (part_continues b t e))
+    by_end ends is e f h later = grind (arith, part_ends, lost_not_found, after_at_sign, part_continues, after_open)
 
 -- ---- the host of a text
 
@@ -122,8 +93,7 @@ slashes_stay (b ∷ c ∷ t) more rest e = two (b == slash && c == slash) e (sla
     two : (are : Bool) → cond are (Some t) (after_slashes (c ∷ t)) ≡ Some rest
         → (after_slashes (c ∷ t) ≡ Some rest → after_slashes (c ∷ (t ++ more)) ≡ Some (rest ++ more))
         → cond are (Some (t ++ more)) (after_slashes (c ∷ (t ++ more))) ≡ Some (rest ++ more)
-    two true e later = let same : t ≡ rest = cc in ap (λ u. Some (u ++ more)) same
-    two false e later = later e
+    two are e later = grind (arith, common_steps)
 
 -- what follows the first `//` leads on from there; without one, the state is one of the first two
 abbrev IsBefore : HostState → Type 0
@@ -138,17 +108,7 @@ LeadsTo (Some rest) s = s ≡ after_text Opened rest
 leads : (t : Text) → LeadsTo (after_slashes t) (state_of t)
 leads [] = tt
 leads (b ∷ []) = grind (arith, common_steps)
-leads (b ∷ c ∷ t) = first (b == slash) (leads (c ∷ t))
-  where
-    second : (is : Bool) → LeadsTo (after_slashes (c ∷ t)) (after_text (cond is Slash Outside) t)
-        → LeadsTo (cond is (Some t) (after_slashes (c ∷ t))) (after_text (cond is Opened Outside) t)
-    second true h = refl
-    second false h = h
-
-    first : (is : Bool) → LeadsTo (after_slashes (c ∷ t)) (state_of (c ∷ t))
-        → LeadsTo (cond (is && c == slash) (Some t) (after_slashes (c ∷ t))) (after_text (after_byte (cond is Slash Outside) c) t)
-    first true h = second (c == slash) h
-    first false h = h
+leads (b ∷ c ∷ t) = grind (arith, common_steps, leads (c ∷ t))
 
 -- the slashes are there if the host has begun
 pub record Started (t : Text) : Type 0 where
@@ -160,16 +120,10 @@ started : (t : Text) → (IsBefore (state_of t) → ⊥) → Started t
 started t h = by (after_slashes t) refl (leads t)
   where
     by : (after : Option Text) → after_slashes t ≡ after → LeadsTo after (state_of t) → Started t
-    by None e f = absurd (h f)
-    by (Some rest) e f = record { rest = rest; found = e; state = f }
+    by after e f = grind (arith, common_steps)
 
 found_is_late : (s : HostState) → IsFound s → IsBefore s → ⊥
-found_is_late Outside h k = h
-found_is_late Slash h k = h
-found_is_late Opened h k = k
-found_is_late Inside h k = k
-found_is_late Past h k = k
-found_is_late Lost h k = k
+found_is_late s h k = grind (arith, common_steps)
 
 begun : (t : Text) → IsFound (state_of t) → Started t
 begun t h = started t (found_is_late (state_of t) h)
@@ -214,14 +168,11 @@ no_slashes t h = by (after_slashes t) refl (leads t)
     opened_later Opened (b ∷ u) early h = opened_later (after_byte Opened b) u (by_test (ends_host b || (b == at_sign))) h
       where
         by_test : (x : Bool) → IsBefore (cond x Lost Inside) → ⊥
-        by_test true k = k
-        by_test false k = k
+        by_test x k = grind (arith, common_steps)
     opened_later Inside (b ∷ u) early h = opened_later (after_byte Inside b) u (by_tests (ends_host b) (b == at_sign)) h
       where
         by_tests : (x y : Bool) → IsBefore (cond x Past (cond y Lost Inside)) → ⊥
-        by_tests true y k = k
-        by_tests false true k = k
-        by_tests false false k = k
+        by_tests x y k = grind (arith, common_steps)
     opened_later Past (b ∷ u) early h = opened_later Past u (λ k. k) h
     opened_later Lost (b ∷ u) early h = opened_later Lost u (λ k. k) h
 

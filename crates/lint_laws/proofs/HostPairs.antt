@@ -1,5 +1,6 @@
 -- Two links with one host, and parts that end a host.
-use Rattle.std.proofs.Common.{◌≡◌, ℕ, Bool, true, false, cond, List, [], ◌∷◌, ◌++◌, Some, None, refl, sym, subst, ◌∙◌, ◌⊎◌, inl, inr}
+use Rattle.std.proofs.Common.{arith, ◌≡◌, ℕ, Bool, true, false, cond, List, [], ◌∷◌, ◌++◌, Some, None, refl, ◌⊎◌}
+use Rattle.std.proofs.lemmas.Grind.{common_steps}
 use Rattle.std.specs.Option.{unwrap_or}
 use Rattle.std.proofs.lemmas.Bool.{both_ways}
 use Rattle.text_model.specs.Texts.{Text}
@@ -9,12 +10,11 @@ use Rattle.uri_grammar.specs.declared.parts.Op.TheVariants as operator
 use Rattle.uri_grammar.specs.declared.parts.Part.{Part}
 use Rattle.uri_grammar.specs.declared.parts.Part.TheVariants.{Literal, Expression}
 use Rattle.rule_parser.specs.Names.{each_once}
-use Rattle.uri_template.specs.Expansion.{expansion, joined_by, led, part_text, pieces, style_of}
+use Rattle.uri_template.specs.Expansion.{expansion, led, style_of}
 use Rattle.rule_lint.specs.declared.host_state.HostState.{HostState}
-use Rattle.rule_lint.specs.declared.host_state.HostState.TheVariants.{Outside, Slash, Inside, Past}
+use Rattle.rule_lint.specs.declared.host_state.HostState.TheVariants.{Outside, Slash, Past}
 use Rattle.rule_lint.specs.HostStates.{ends_host, is_inside, is_past, state_of}
-use Rattle.rule_lint.specs.Host.{ends_next, host_of}
-use Rattle.rule_lint.specs.Host.{leads_past_host}
+use Rattle.rule_lint.specs.Host.{ends_next, host_of, leads_past_host}
 use Rattle.lint_laws.specs.RowLinks.{IsPlainHost}
 use Rattle.lint_laws.proofs.HostStates.{IsCovered}
 use Rattle.lint_laws.proofs.HostEnds.{IsEnd, IsFound, host_ended, host_past, host_plain}
@@ -29,19 +29,16 @@ HaveOneHost link alone =
 
 -- both go on after a host that has ended
 pub both_past : (t u v : Text) → state_of t ≡ Past → HaveOneHost (t ++ u) (t ++ v)
-both_past t u v h =
-    inl (host_past t u h ∙ sym (host_past t v h), subst IsPlainHost (sym (host_past t u h)) (host_plain t (subst IsFound (sym h) tt)))
+both_past t u v h = grind (arith, host_past, host_plain)
 
 -- or they end one
 pub both_ended : (t u v : Text) → IsFound (state_of t) → IsEnd u → IsEnd v → HaveOneHost (t ++ u) (t ++ v)
-both_ended t u v h e f =
-    inl (host_ended t u h e ∙ sym (host_ended t v h f), subst IsPlainHost (sym (host_ended t u h e)) (host_plain t h))
+both_ended t u v h e f = grind (arith, host_ended, host_plain)
 
 -- ---- parts that end the host, or write nothing
 
 pub end_more : (t u : Text) → IsEnd t → IsEnd u → IsEnd (t ++ u)
-end_more [] u h k = k
-end_more (b ∷ t) u h k = h
+end_more t u h k = grind (arith, common_steps)
 
 -- what is before `/`, `?` and `#` ends the host
 pub first_is_end : (op : Op) → leads_past_host op ≡ true → (c : ℕ) × ((style_of op).first ≡ c ∷ []) × (ends_host c ≡ true)
@@ -51,10 +48,7 @@ first_is_end operator.Hash e = (0x23, refl, refl)
 first_is_end other e = absurd (both_ways false refl e)
 
 pub expression_ends : (op : Op) (texts : List Text) → leads_past_host op ≡ true → IsEnd (led (style_of op) texts)
-expression_ends op [] e = tt
-expression_ends op (p ∷ ps) e =
-    let first = first_is_end op e in
-    subst (λ (x : Text). IsEnd (x ++ joined_by (style_of op).sep (p ∷ ps))) (sym first.1) first.2
+expression_ends op texts e = grind (arith, common_steps)
 
 pub parts_end : (look : LookUp) (parts : List Part) → ends_next parts ≡ true → IsEnd (expansion look parts)
 parts_end look [] e = tt
@@ -64,9 +58,7 @@ parts_end look (Expression op specs ∷ parts) e = by_op (leads_past_host op) re
   where
     by_op : (ends : Bool) → leads_past_host op ≡ ends → unwrap_or (cond ends None (Some false)) (ends_next parts) ≡ true
         → (ends_next parts ≡ true → IsEnd (expansion look parts)) → IsEnd (expansion look (Expression op specs ∷ parts))
-    by_op true f e later =
-        end_more (part_text look (Expression op specs)) (expansion look parts) (expression_ends op (pieces look (style_of op) specs) f) (later e)
-    by_op false f e later = absurd (both_ways false refl e)
+    by_op ends f e later = grind (arith, common_steps)
 
 -- ---- operators
 
@@ -79,13 +71,10 @@ dot_style = record { unnamed = refl; writing = refl; first = (refl, tt); sep = (
 -- ---- covered states
 
 pub covered_past : (c s : HostState) → is_past s ≡ true → IsCovered c s → c ≡ Past
-covered_past c Past e k = elim k [ inl p ↦ p | inr o ↦ elim o [ inl p ↦ p | inr l ↦ absurd (cc) ] ]
-covered_past c other e k = absurd (both_ways false refl e)
+covered_past c s e k = grind (arith, common_steps)
 
 pub covered_inside : (c s : HostState) → is_inside s ≡ true → IsCovered c s → IsFound c
-covered_inside c Inside e k =
-    elim k [ inl p ↦ subst IsFound (sym p) tt | inr o ↦ elim o [ inl p ↦ subst IsFound (sym p) tt | inr l ↦ absurd (cc) ] ]
-covered_inside c other e k = absurd (both_ways false refl e)
+covered_inside c s e k = grind (arith, common_steps)
 
 -- ---- no names
 

@@ -1,14 +1,12 @@
 -- The states of texts and of rows, and what they leave out: a state covers another one if whatever is found of a host is found from it, too.
-use Rattle.std.proofs.Common.{◌≡◌, ℕ, ◌<◌, ◌==◌, ◌||◌, zero, suc, Bool, false, cond, List, [], ◌∷◌, ◌++◌, length, get_or, Option, Some, None}
+use Rattle.std.proofs.Common.{◌≡◌, ℕ, ◌<◌, ◌==◌, ◌||◌, zero, suc, Bool, false, List, [], ◌∷◌, ◌++◌, length, get_or, Option, Some, refl, ◌⊎◌, inl, inr, arith}
 use Rattle.std.proofs.lemmas.Grind.{common_steps}
-use Rattle.std.proofs.Common.{refl, ap, ◌∙◌, ◌⊎◌, inl, inr, arith}
 use Rattle.std.specs.List.{cons_option, filter_map}
-use Rattle.std.proofs.lemmas.Bool.{or_parts}
 use Rattle.text_model.specs.Texts.{Text}
 use Rattle.kbart_rows.specs.Cells.{Row}
 use Rattle.rule_lint.specs.declared.host_state.HostState.{HostState}
-use Rattle.rule_lint.specs.declared.host_state.HostState.TheVariants.{Outside, Slash, Opened, Inside, Past, Lost}
-use Rattle.rule_lint.specs.HostStates.{after_byte, after_text, after_texts, after_texts_from, at_sign, ends_host, for_both, slash}
+use Rattle.rule_lint.specs.declared.host_state.HostState.TheVariants.{Past, Lost}
+use Rattle.rule_lint.specs.HostStates.{after_byte, after_text, after_texts, after_texts_from, at_sign, ends_host, for_both}
 use Rattle.rule_lint.specs.Host.{letter}
 
 -- ---- more text
@@ -43,35 +41,19 @@ HasByte [] = ⊥
 HasByte (b ∷ t) = Unit {0}
 
 pub plain_byte : (s : HostState) (b : ℕ) → is_special b ≡ false → after_byte s b ≡ after_byte s letter
-plain_byte Outside b h =
-    ap (λ (x : Bool). cond x Slash Outside) (or_parts (b == slash) _ (or_parts (ends_host b) (b == at_sign) h).0).0
-plain_byte Slash b h =
-    ap (λ (x : Bool). cond x Opened Outside) (or_parts (b == slash) _ (or_parts (ends_host b) (b == at_sign) h).0).0
-plain_byte Opened b h = ap (λ (x : Bool). cond x Lost Inside) h
-plain_byte Inside b h =
-    ap (λ (x : Bool). cond x Past (cond (b == at_sign) Lost Inside)) (or_parts (ends_host b) (b == at_sign) h).0
-    ∙ ap (λ (x : Bool). cond x Lost Inside) (or_parts (ends_host b) (b == at_sign) h).1
-plain_byte Past b h = refl
-plain_byte Lost b h = refl
+plain_byte s b h = grind (arith, common_steps)
 
 -- one letter more or less does not matter
 again : (s : HostState) → after_byte (after_byte s letter) letter ≡ after_byte s letter
-again Outside = refl
-again Slash = refl
-again Opened = refl
-again Inside = refl
-again Past = refl
-again Lost = refl
+again s = grind (arith, common_steps)
 
 plain_rest : (s : HostState) (t : Text) → IsPlain t → after_text (after_byte s letter) t ≡ after_byte s letter
 plain_rest s [] h = refl
-plain_rest s (b ∷ t) h =
-    ap (λ (r : HostState). after_text r t) (plain_byte (after_byte s letter) b h.0 ∙ again s) ∙ plain_rest s t h.1
+plain_rest s (b ∷ t) h = grind (arith, common_steps, plain_rest s t h.1)
 
 -- such a text is as good as a letter
 pub plain_state : (s : HostState) (t : Text) → HasByte t → IsPlain t → after_text s t ≡ after_byte s letter
-plain_state s [] some h = absurd some
-plain_state s (b ∷ t) some h = ap (λ (r : HostState). after_text r t) (plain_byte s b h.0) ∙ plain_rest s t h.1
+plain_state s t some h = grind (arith, plain_byte, plain_rest)
 
 -- ---- one state covers another
 
@@ -91,30 +73,10 @@ covered_by c a b h k = grind (arith, common_steps)
 -- ---- both rows
 
 first_covered : (a b : HostState) → IsCovered a (for_both a b)
-first_covered Past b = inl refl
-first_covered Outside Past = inr (inl refl)
-first_covered Slash Past = inr (inl refl)
-first_covered Opened Past = inr (inl refl)
-first_covered Inside Past = inr (inl refl)
-first_covered Lost Past = inr (inl refl)
-first_covered Outside Outside = inr (inl refl)
-first_covered Slash Slash = inr (inl refl)
-first_covered Opened Opened = inr (inl refl)
-first_covered Inside Inside = inr (inl refl)
-first_covered a b = inr (inr refl)
+first_covered a b = grind (arith, common_steps)
 
 second_covered : (a b : HostState) → IsCovered b (for_both a b)
-second_covered Past b = inr (inl refl)
-second_covered Outside Past = inl refl
-second_covered Slash Past = inl refl
-second_covered Opened Past = inl refl
-second_covered Inside Past = inl refl
-second_covered Lost Past = inl refl
-second_covered Outside Outside = inr (inl refl)
-second_covered Slash Slash = inr (inl refl)
-second_covered Opened Opened = inr (inl refl)
-second_covered Inside Inside = inr (inl refl)
-second_covered a b = inr (inr refl)
+second_covered a b = grind (arith, common_steps)
 
 found_covered : (found s : HostState) (texts : List Text) → IsCovered found (after_texts_from found s texts)
 found_covered found s [] = inr (inl refl)
@@ -133,8 +95,7 @@ cell_covered_from cell_in_row found s (cells ∷ rows) (suc row) cell within e =
     by_first : (first : Option Text)
         → ((f : HostState) → IsCovered (after_text s cell) (after_texts_from f s (filter_map cell_in_row rows)))
         → IsCovered (after_text s cell) (after_texts_from found s (cons_option first (filter_map cell_in_row rows)))
-    by_first None later = later found
-    by_first (Some t) later = later (for_both found (after_text s t))
+    by_first first later = grind (arith, common_steps)
 
 pub cell_covered : (cell_in_row : Row → Option Text) (s : HostState) (rows : List Row) (row : ℕ) (cell : Text) → row < length rows
     → cell_in_row (get_or rows row []) ≡ Some cell → IsCovered (after_text s cell) (after_texts s (filter_map cell_in_row rows))

@@ -3,6 +3,7 @@ use Rattle.std.proofs.Common.{◌≡◌, ℕ, ◌<◌, ◌==◌, Bool, true, fal
 use Rattle.std.proofs.Common.{refl, sym, ap, ◌∙◌, subst, subst₂, append_assoc, append-nil, eqb-true, arith, inl, inr}
 use Rattle.std.specs.List.{AllByRecursion, cons_option, filter_map}
 use Rattle.std.proofs.lemmas.Bool.{and_parts, both_ways, or_cases}
+use Rattle.std.proofs.lemmas.Grind.{common_steps}
 use Rattle.text_model.specs.Texts.{Text}
 use Rattle.environment_model.specs.Environment.{LookUp, Meaning}
 use Rattle.uri_grammar.specs.declared.parts.Op.{Op}
@@ -15,7 +16,7 @@ use Rattle.uri_template.specs.Expansion.{Style, expansion, led, part_text, piece
 use Rattle.kbart_rows.specs.Cells.{Holdings, Row}
 use Rattle.rule_parser.specs.Rules.{RuleSet}
 use Rattle.rule_lint.specs.declared.host_state.HostState.{HostState}
-use Rattle.rule_lint.specs.declared.host_state.HostState.TheVariants.{Outside, Slash, Opened, Inside, Past, Lost}
+use Rattle.rule_lint.specs.declared.host_state.HostState.TheVariants.{Outside, Inside, Past, Lost}
 use Rattle.rule_lint.specs.HostStates.{after_byte, after_text, after_texts, is_hostless, is_inside, is_past, state_of}
 use Rattle.rule_lint.specs.Host.{after_own, after_part, after_parts, after_whole_cells, are_rows_own, cells_of_name, ends_next, host_names}
 use Rattle.rule_lint.specs.Host.{is_ended, is_specs_own, leads_past_host, letter, may_be_hostless, names_of, open_among, open_names_after}
@@ -50,10 +51,7 @@ module _ (rules : RuleSet) (table : Holdings) (row : ℕ) (cells : Row) (look al
   own_text : (style : Style) (specs : List Spec) → 0 < length specs → are_rows_own rules table specs ≡ true
       → LedText style (led style (pieces alone style specs))
   own_text style [] some e = absurd (omega arith)
-  own_text style (spec ∷ specs) some e =
-      let own = and_parts (is_specs_own rules table spec) (are_rows_own rules table specs) e in
-      let cell = looks.own spec.name own.0 in
-      led_text alone style spec specs cell.text cell.means cell.some
+  own_text style (spec ∷ specs) some e = grind (arith, and_parts, led_text)
 
   module _ (specs : List Spec) (some : 0 < length specs) (own : are_rows_own rules table specs ≡ true) where
     -- values without reserved characters
@@ -79,31 +77,12 @@ module _ (rules : RuleSet) (table : Holdings) (row : ℕ) (cells : Row) (look al
 
   whole_cells : (s : HostState) (specs : List Spec) → are_rows_own rules table specs ≡ true
       → IsCovered (after_text s (part_text alone (Expression operator.Plus specs))) (after_whole_cells table s specs)
-  whole_cells s [] own = inr (inr refl)
-  whole_cells s (spec ∷ []) own = grind (arith, cell_expression, eqb-true)
-  whole_cells s (spec ∷ other ∷ specs) own = inr (inr refl)
+  whole_cells s specs own = grind (arith, cell_expression, eqb-true)
 
   -- its state is covered by what is known of it
   own_state : (s : HostState) (op : Op) (specs : List Spec) → 0 < length specs → are_rows_own rules table specs ≡ true
       → IsCovered (after_text s (part_text alone (Expression op specs))) (after_own table s op specs)
-  own_state Past op specs some own = inl (past_stays (part_text alone (Expression op specs)))
-  own_state Lost op specs some own = inr (inr refl)
-  own_state Outside operator.Simple specs some own = inr (inl (plain_expression specs some own Outside operator.Simple simple_style))
-  own_state Slash operator.Simple specs some own = inr (inl (plain_expression specs some own Slash operator.Simple simple_style))
-  own_state Opened operator.Simple specs some own = inr (inl (plain_expression specs some own Opened operator.Simple simple_style))
-  own_state Inside operator.Simple specs some own = inr (inl (plain_expression specs some own Inside operator.Simple simple_style))
-  own_state Outside operator.Dot specs some own = inr (inl (plain_expression specs some own Outside operator.Dot dot_style))
-  own_state Slash operator.Dot specs some own = inr (inl (plain_expression specs some own Slash operator.Dot dot_style))
-  own_state Opened operator.Dot specs some own = inr (inl (plain_expression specs some own Opened operator.Dot dot_style))
-  own_state Inside operator.Dot specs some own = inr (inl (plain_expression specs some own Inside operator.Dot dot_style))
-  own_state Outside operator.Plus specs some own = whole_cells Outside specs own
-  own_state Slash operator.Plus specs some own = whole_cells Slash specs own
-  own_state Opened operator.Plus specs some own = whole_cells Opened specs own
-  own_state Inside operator.Plus specs some own = whole_cells Inside specs own
-  own_state Inside operator.Slash specs some own = inl (past_expression specs some own operator.Slash refl)
-  own_state Inside operator.Question specs some own = inl (past_expression specs some own operator.Question refl)
-  own_state Inside operator.Hash specs some own = inl (past_expression specs some own operator.Hash refl)
-  own_state s op specs some own = inr (inr refl)
+  own_state s op specs some own = grind (arith, past_stays, plain_expression, simple_style, dot_style, whole_cells, past_expression)
 
   own_covered : (c a : HostState) (op : Op) (specs : List Spec) → IsCovered c a → 0 < length specs → are_rows_own rules table specs ≡ true
       → IsCovered (after_text c (part_text alone (Expression op specs))) (after_own table a op specs)
@@ -121,8 +100,7 @@ module _ (rules : RuleSet) (table : Holdings) (row : ℕ) (cells : Row) (look al
 
       by_spec : (own : Bool) → (own && are_rows_own rules table specs) ≡ false → names_of (cond (not own) (spec ∷ others) others) ≡ []
           → (are_rows_own rules table specs ≡ false → names_of others ≡ [] → ⊥) → ⊥
-      by_spec true e f later = later e f
-      by_spec false e f later = cc
+      by_spec own e f later = grind (arith, common_steps)
 
   -- ---- all parts
 

@@ -1,7 +1,7 @@
 -- What an expression gives for variables that are defined, and for those that are not.
-use Rattle.std.proofs.Common.{◌≡◌, ℕ, zero, suc, Bool, true, false, cond, List, [], ◌∷◌, ◌++◌, Option, Some, sym, ap}
-use Rattle.std.proofs.Common.{subst, arith}
+use Rattle.std.proofs.Common.{◌≡◌, ℕ, Bool, true, false, cond, List, [], ◌∷◌, ◌++◌, Option, Some, sym, ap, subst, arith}
 use Rattle.std.specs.List.{cons_option, flat_map}
+use Rattle.std.proofs.lemmas.Grind.{common_steps}
 use Rattle.text_model.specs.Texts.{Text, is_unreserved}
 use Rattle.text_model.specs.Writing.{written, written_byte, written_u, written_ur, is_unreserved_or_reserved}
 use Rattle.text_model.specs.Cut.{items, with_triplets}
@@ -17,16 +17,14 @@ use Rattle.lint_laws.proofs.CellStates.{written_plain}
 -- ---- texts that are not empty
 
 has_front : (t u : Text) → HasByte t → HasByte (t ++ u)
-has_front [] u h = absurd h
-has_front (b ∷ t) u h = tt
+has_front t u h = grind (arith, common_steps)
 
 has_back : (t u : Text) → HasByte u → HasByte (t ++ u)
 has_back [] u h = h
 has_back (b ∷ t) u h = tt
 
 byte_is_written : (stays : Bool) (b : ℕ) → HasByte (written_byte stays b)
-byte_is_written true b = tt
-byte_is_written false b = tt
+byte_is_written stays b = grind (arith, common_steps)
 
 is_written : (w : Writing) (t : Text) → HasByte t → HasByte (written w t)
 unfolding written_u written_ur
@@ -34,8 +32,7 @@ is_written U [] h = absurd h
 is_written U (b ∷ t) h = has_front (written_byte (is_unreserved b) b) (written_u t) (byte_is_written (is_unreserved b) b)
 is_written UR [] h = absurd h
 is_written UR (b ∷ []) h = byte_is_written (is_unreserved_or_reserved b) b
-is_written UR (b ∷ c ∷ []) h =
-    has_front (written_byte (is_unreserved_or_reserved b) b) (written_byte (is_unreserved_or_reserved c) c) (byte_is_written (is_unreserved_or_reserved b) b)
+is_written UR (b ∷ c ∷ []) h = grind (arith, common_steps)
 is_written UR (b ∷ c ∷ d ∷ t) h = grind (arith, has_front, byte_is_written)
 
 -- ---- items that are not empty
@@ -51,14 +48,12 @@ has_item U (b ∷ t) h = subst HasItem (sym (code_points-next b t)) tt
 has_item UR (b ∷ t) h = grind (arith, code_points-next, has_front)
 
 has_prefix : (w : Writing) (n : ℕ) (t : Text) → HasByte t → HasByte (prefix w n t)
-has_prefix w zero t h = h
-has_prefix w (suc n) t h = grind (arith, has_item, has_front)
+has_prefix w n t h = grind (arith, has_item, has_front)
 
 -- ---- the piece of a variable whose text is not empty
 
 is_equated : (style : Style) (t : Text) → HasByte t → HasByte (equated style t)
-is_equated style [] h = absurd h
-is_equated style (b ∷ t) h = tt
+is_equated style t h = grind (arith, common_steps)
 
 is_item : (style : Style) (name t : Text) → HasByte t → HasByte (item style name t)
 is_item style name t h = by_kind style.named

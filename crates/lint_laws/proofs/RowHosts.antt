@@ -1,6 +1,6 @@
 -- The host of a link on a row, for a request and for the row alone.
-use Rattle.std.proofs.Common.{◌≡◌, ℕ, ◌<◌, Bool, true, false, cond, List, [], ◌∷◌, length, get_or, All, refl, sym, ◌∙◌}
-use Rattle.std.proofs.Common.{inl, inr}
+use Rattle.std.proofs.Common.{arith, ◌≡◌, ℕ, ◌<◌, Bool, true, false, cond, List, [], ◌∷◌, length, get_or, All, refl, sym, ◌∙◌, inl, inr}
+use Rattle.std.proofs.lemmas.Grind.{common_steps}
 use Rattle.std.specs.List.{list_any}
 use Rattle.std.proofs.lemmas.Bool.{both_ways, or_parts}
 use Rattle.std.proofs.lemmas.List.Folds.{list_any-append}
@@ -45,20 +45,15 @@ nothing_found rules table at parts e web =
     by_web (is_never_web_link parts) refl both.1
   where
     no_line : (hostless : Bool) → list_any is_of_host (found_if hostless (Hostless at)) ≡ false → hostless ≡ false
-    no_line false e = refl
-    no_line true e = absurd (both_ways true e refl)
+    no_line hostless e = grind (arith, common_steps)
 
     none : (names : List Text) (hostless : Bool) → list_any is_of_host (in_open_host at names hostless) ≡ false → (names ≡ []) × (hostless ≡ false)
-    none [] hostless e = (refl, no_line hostless e)
-    none (name ∷ names) hostless e = absurd (both_ways true e refl)
+    none names hostless e = grind (arith, common_steps)
 
     by_web : (never : Bool) → is_never_web_link parts ≡ never
         → list_any is_of_host (cond never (NeverWebLink at ∷ []) (in_open_host at (host_names rules table parts) (may_be_hostless rules table parts))) ≡ false
         → HasNoFinding rules table parts
-    by_web true never e = absurd (web never)
-    by_web false never e =
-        let both = none (host_names rules table parts) (may_be_hostless rules table parts) e in
-        record { names = both.0; host = both.1 }
+    by_web never never2 e = grind (arith, common_steps)
 
 -- ---- web links
 

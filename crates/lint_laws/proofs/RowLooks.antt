@@ -1,12 +1,10 @@
 -- What the names of a template mean on a row, for a request and for the row alone.
-use Rattle.std.proofs.Common.{◌≡◌, ℕ, ◌<◌, Bool, true, false, List, [], length, get_or, Option, Some, None, is_some, refl, sym, ap, ◌∙◌, ◌⊎◌}
+use Rattle.std.proofs.Common.{◌≡◌, ℕ, ◌<◌, Bool, true, false, List, [], length, get_or, Option, Some, is_some, if◌then◌else◌, arith}
 use Rattle.std.proofs.lemmas.Grind.{common_steps}
-use Rattle.std.proofs.Common.{inl, inr, if◌then◌else◌, arith}
 use Rattle.std.specs.List.{list_all}
-use Rattle.std.proofs.lemmas.Bool.{and_parts, both_ways, not-true, true_from_ne_false}
-use Rattle.std.proofs.lemmas.List.Folds.{list_all_at}
+use Rattle.std.proofs.lemmas.Bool.{and_parts, not-true}
 use Rattle.text_model.specs.Texts.{Text}
-use Rattle.environment_model.specs.Environment.{Environment, LookUp, Meaning, Single, Several, is_there, look_up, only_list, only_text, text_in, text_of}
+use Rattle.environment_model.specs.Environment.{Environment, LookUp, Meaning, Single, is_there, look_up, text_in, text_of}
 use Rattle.environment_model.specs.Lists.{is_list}
 use Rattle.kev_read.specs.Pairs.{KeyValue}
 use Rattle.kev_read.specs.Filling.{filled}
@@ -44,17 +42,13 @@ pub record RowLooks (rules : RuleSet) (table : Holdings) (cells : Row) (look alo
 
 -- what holds of every row holds of each
 pub at_row : {X : Type 0} (test : X → Bool) (rows : List X) (row : ℕ) (d : X) → row < length rows → list_all test rows ≡ true → test (get_or rows row d) ≡ true
-at_row test rows row d within e =
-    true_from_ne_false (test (get_or rows row d)) (λ f. both_ways (list_all test rows) (list_all_at test rows row d within f) e)
+at_row test rows row d within e = grind (arith, common_steps)
 
 some_text : (o : Option Text) → is_some o ≡ true → (text : Text) × (o ≡ Some text)
-some_text None e = absurd (both_ways false refl e)
-some_text (Some text) e = (text, refl)
+some_text o e = grind (arith, common_steps)
 
 single : (m : Option Meaning) (text : Text) → text_in m ≡ Some text → m ≡ Some (Single text)
-single None text e = absurd (cc)
-single (Some (Single t)) text e = let same : t ≡ text = cc in ap (λ u. Some (Single u)) same
-single (Some (Several ts)) text e = absurd (cc)
+single m text e = grind (arith, common_steps)
 
 module _ (laws : RowLaws) (rules : RuleSet) (table : Holdings) (cells : Row) where
   abbrev entries : Environment
@@ -63,21 +57,8 @@ module _ (laws : RowLaws) (rules : RuleSet) (table : Holdings) (cells : Row) whe
   abbrev look : List KeyValue → LookUp
   look pairs = seen rules (environment_of_cells rules table cells pairs)
 
-  in_view : (pairs : List KeyValue) (name : Text) (m : Option Meaning) → look_up (environment_of_cells rules table cells pairs) name ≡ m
-      → look pairs name ≡ (if is_list rules.lists name then only_list m else only_text m)
-  in_view pairs name m e = ap (λ (o : Option Meaning). if is_list rules.lists name then only_list o else only_text o) e
-
-  extends : (pairs : List KeyValue) (name : Text) → (look [] name ≡ None) ⊎ (look pairs name ≡ look [] name)
-  extends pairs name = grind (arith, common_steps)
-
   means_cell : (name : Text) → is_list rules.lists name ≡ false → has_cell table name cells ≡ true → MeansCell table cells (look []) name
   means_cell name text_name has = grind (arith, common_steps)
-
-  same_as_alone : (pairs : List KeyValue) (name : Text) → MeansCell table cells (look []) name → look pairs name ≡ look [] name
-  same_as_alone pairs name m = elim (extends pairs name) [
-    | inl none ↦ absurd (let both : None ≡ Some (Single m.text) = sym none ∙ m.means in cc)
-    | inr same ↦ same
-  ]
 
   own_cell : (name : Text) (row : ℕ) → row < length table.rows → cells ≡ get_or table.rows row [] → is_rows_own rules table name ≡ true
       → MeansCell table cells (look []) name

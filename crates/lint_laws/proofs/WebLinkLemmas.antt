@@ -1,9 +1,8 @@
 -- A text that is not the beginning of a web link, and is not continued to one, is never a web link.
-use Rattle.std.proofs.Common.{◌≡◌, ℕ, ◌==◌, Bool, true, false, ◌||◌, ◌&&◌, List, [], ◌∷◌, ◌++◌, None, ◌⊎◌, inl, inr, refl, sym, ap, ◌∙◌}
+use Rattle.std.proofs.Common.{◌≡◌, ℕ, ◌==◌, Bool, true, false, ◌||◌, ◌&&◌, List, [], ◌∷◌, ◌++◌, None, ◌⊎◌, inl, inr, refl, sym, ap, ◌∙◌, arith, codes}
 use Rattle.std.proofs.lemmas.Grind.{common_steps}
-use Rattle.std.proofs.Common.{arith, codes, append_assoc}
 use Rattle.std.specs.Char.{to_ascii_lowercase}
-use Rattle.std.proofs.lemmas.Bool.{false≢true, and_from, and_parts, and_right, eqb-true, eq-eqb}
+use Rattle.std.proofs.lemmas.Bool.{false≢true, and_from, and_parts, eqb-true, eq-eqb}
 use Rattle.std.proofs.lemmas.Bool.{or_parts, not-true, both_ways, or_from, false_from_ne_true, or_left, or_right}
 use Rattle.text_model.specs.Texts.{Text}
 use Rattle.environment_model.specs.Environment.{LookUp}
@@ -26,8 +25,7 @@ rest_text look (Expression op specs ∷ parts) = expansion look (Expression op s
 first_and_rest : (look : LookUp) (parts : List Part) → expansion look parts ≡ first_text parts ++ rest_text look parts
 unfolding rest_text
 first_and_rest look [] = refl
-first_and_rest look (Literal text ∷ parts) =
-    ap (λ (t : Text). text ++ t) (first_and_rest look parts) ∙ sym (append_assoc text (first_text parts) (rest_text look parts))
+first_and_rest look (Literal text ∷ parts) = grind (arith, common_steps, first_and_rest look parts)
 first_and_rest look (Expression op specs ∷ parts) = refl
 
 no_rest : (look : LookUp) (parts : List Part) → has_expression parts ≡ false → rest_text look parts ≡ []
@@ -56,8 +54,7 @@ begins_across (b ∷ t) r (c ∷ s) e =
 -- ---- links
 
 has_rest : (look : LookUp) (parts : List Part) (b : Bool) → has_expression parts ≡ b → (rest_text look parts ≡ [] → ⊥) → b ≡ true
-has_rest look parts true e f = refl
-has_rest look parts false e f = absurd (f (no_rest look parts e))
+has_rest look parts b e f = grind (arith, no_rest)
 
 -- the link does not begin with this text if neither the first text does nor its continuation by an expression
 not_so : (look : LookUp) (parts : List Part) (s : Text) → (begins_in_any_case (first_text parts) s ≡ true → ⊥)
@@ -77,8 +74,7 @@ never_a_web_link look parts e =
     let secure_on = begins_in_any_case (codes "https://") t in
     let none = or_parts (plain || secure) (has_expression parts && (plain_on || secure_on)) (not-true _ e) in
     let fronts = or_parts plain secure none.0 in
-    let continues : has_expression parts ≡ true → (plain_on || secure_on) ≡ true → ⊥ =
-    λ h k. both_ways _ none.1 (and_from (has_expression parts) (plain_on || secure_on) h k) in
+    let continues : has_expression parts ≡ true → (plain_on || secure_on) ≡ true → ⊥ = grind (arith, common_steps) in
     or_from _ _
     (false_from_ne_true _ (not_so look parts (codes "http://") (both_ways plain fronts.0) (λ h k. continues h (or_left plain_on secure_on k))))
     (false_from_ne_true _ (not_so look parts (codes "https://") (both_ways secure fronts.1) (λ h k. continues h (or_right plain_on secure_on k))))
@@ -89,13 +85,10 @@ pub slash_lowered : (b : ℕ) → (to_ascii_lowercase b == 0x2F) ≡ true → (b
 slash_lowered b e = grind (arith, common_steps)
 
 slashes_follow : (t : Text) → begins_in_any_case t (codes "//") ≡ true → after_slashes t ≡ None → ⊥
-slashes_follow [] e none = false≢true e
-slashes_follow (b ∷ []) e none = false≢true (sym (and_right (to_ascii_lowercase b == 0x2F) false refl) ∙ e)
-slashes_follow (b ∷ c ∷ t) e none = grind (arith, common_steps)
+slashes_follow t e none = grind (arith, common_steps)
 
 later_slashes : (b : ℕ) (t : Text) → (after_slashes t ≡ None → ⊥) → after_slashes (b ∷ t) ≡ None → ⊥
-later_slashes b [] h none = h refl
-later_slashes b (c ∷ t) h none = grind (arith, common_steps)
+later_slashes b t h none = grind (arith, common_steps)
 
 -- a text that begins with these bytes, the last two being slashes, has slashes
 begins_and_has : (front t : Text) → begins_in_any_case t (front ++ codes "//") ≡ true → after_slashes t ≡ None → ⊥
