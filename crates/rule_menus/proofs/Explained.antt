@@ -1,11 +1,9 @@
 -- The last row that is tried decides the entry of a target, and how its explanation ends.
-use Rattle.std.proofs.Common.{◌≡◌, ℕ, ◌+◌, ◌≤◌, List, [], ◌∷◌, ◌++◌, Option, Some, None, Bool, true, false, cond, ◌||◌, map, nat_lt, refl, ap, sym, ◌∙◌}
+use Rattle.std.proofs.Common.{◌≡◌, ℕ, ◌+◌, ◌≤◌, List, [], ◌∷◌, ◌++◌, Option, Some, Bool, true, false, cond, ◌||◌, map, refl, ap, sym, ◌∙◌, subst, arith, codes}
 use Rattle.std.proofs.lemmas.Grind.{common_steps}
-use Rattle.std.proofs.Common.{subst, arith, codes}
-use Rattle.std.specs.Prelude.{All, find, if◌then◌else◌}
+use Rattle.std.specs.Prelude.{All, find}
 use Rattle.std.specs.List.{AllByRecursion, AllZip, enumerate_from, flat_map, list_any}
 use Rattle.std.specs.Option.{unwrap_or}
-use Rattle.std.proofs.lemmas.Bool.Decides.{nat_tests}
 use Rattle.std.proofs.lemmas.List.{append-nil}
 use Rattle.std.proofs.lemmas.List.Elements.{All-head, All-tail, recursion_from_All}
 use Rattle.text_model.specs.Texts.{Text}
@@ -16,7 +14,6 @@ use Rattle.verified_runs.specs.declared.run.TheConstants.{MAX_LINK_BYTES}
 use Rattle.menu.specs.Links.{is_link}
 use Rattle.menu.specs.declared.entry.Resolution.{Resolution}
 use Rattle.menu.specs.declared.entry.Resolution.TheVariants as resolution
-use Rattle.verified_runs.specs.Fates.{OverBudget}
 use Rattle.registry.specs.Entries.{chosen, last_resolution, menu_of, resolution_by, resolution_of}
 use Rattle.rule_explanation.specs.Explanation.{explanation, is_detailed, text_of_rows, tried_row_text}
 use Rattle.rule_explanation.specs.Rows.{gives_web_link, has_web_link, is_web, tried_rows, up_to_first}
@@ -41,14 +38,10 @@ module _ (target : RuleTarget) (pairs : List KeyValue) where
   IsWithin row = most_bytes_of_row target pairs row ≤ MAX_LINK_BYTES
 
   within_budget : (row : ℕ) → IsWithin row → f row ≡ g row
-  within_budget row within =
-      let under : nat_lt MAX_LINK_BYTES (most_bytes_of_row target pairs row) ≡ false = grind (arith, nat_tests, within) in
-      ap (λ b. resolution_by row (if b then OverBudget (most_bytes_of_row target pairs row)
-      else fate_of_meaning (meaning target.rules (environment_by_rules target pairs row)))) under
+  within_budget row within = grind (arith, common_steps)
 
   web_is_link : (row : ℕ) (o : Option Text) → is_link (resolution_by row (fate_of_meaning o)) ≡ is_web o
-  web_is_link row None = refl
-  web_is_link row (Some link) = grind (arith, common_steps)
+  web_is_link row o = grind (arith, common_steps)
 
   g_is_link : (row : ℕ) → is_link (g row) ≡ test row
   g_is_link row = web_is_link row (meaning target.rules (environment_by_rules target pairs row))
@@ -69,11 +62,7 @@ module _ (target : RuleTarget) (pairs : List KeyValue) where
       by_test : (b : Bool) → test row ≡ b → AllByRecursion IsWithin (cond b (row ∷ []) (row ∷ up_to_first test rows))
           → ((r : Resolution) → AllByRecursion IsWithin (up_to_first test rows) → chosen r (map f rows) ≡ last_tried r rows)
           → from_test row rows (is_link (f row)) ≡ last_resolution before (map g (cond b (row ∷ []) (row ∷ up_to_first test rows)))
-      by_test true web within rest =
-          let same = within_budget row within.0 in ap (from_test row rows) (ap is_link same ∙ g_is_link row ∙ web) ∙ same
-      by_test false other within rest =
-          let same = within_budget row within.0 in
-          ap (from_test row rows) (ap is_link same ∙ g_is_link row ∙ other) ∙ rest (f row) within.1 ∙ ap (λ r. last_tried r rows) same
+      by_test b web within rest = grind (arith, within_budget, g_is_link)
 
   last_is_link : (rows : List ℕ) (before : Resolution) → is_link before ≡ false → is_link (last_tried before rows) ≡ list_any test rows
   last_is_link [] before none = none

@@ -1,5 +1,5 @@
 -- The resolution by rules is a link exactly if there is a first row on which the rules give a web link, and then it is that link.
-use Rattle.std.proofs.Common.{◌≡◌, ℕ, ◌≤◌, List, Option, Some, None, Bool, true, false, length, nat_lt, refl, ap, ◌∙◌, subst, arith}
+use Rattle.std.proofs.Common.{◌≡◌, ℕ, ◌≤◌, List, Option, Some, Bool, true, length, nat_lt, refl, ap, arith}
 use Rattle.std.specs.Prelude.{◌↔◌, if◌then◌else◌}
 use Rattle.std.proofs.lemmas.Grind.{common_steps}
 use Rattle.std.proofs.lemmas.Bool.Decides.{nat_tests}
@@ -19,11 +19,7 @@ use Rattle.rule_menus.proofs.FirstRows.{IsFirstFrom, first_if_chosen, chosen_if_
 
 -- the parts of a resolution that is a link
 link_parts : (r : Resolution) → is_link r ≡ true → (row : ℕ) × (link : Text) × (r ≡ resolution.Link row link)
-link_parts (resolution.Link row link) is = (row, link, refl)
-link_parts resolution.NoRow is = absurd (cc)
-link_parts resolution.NoLink is = absurd (cc)
-link_parts resolution.NotAWebLink is = absurd (cc)
-link_parts (resolution.OverBudget bytes) is = absurd (cc)
+link_parts r is = grind (arith, common_steps)
 
 module _ (target : RuleTarget) (pairs : List KeyValue) where
   abbrev f : ℕ → Resolution
@@ -47,20 +43,15 @@ module _ (target : RuleTarget) (pairs : List KeyValue) where
     where
       by_web : (w : Bool) (text : Text) → is_web_link text ≡ w → most row ≤ MAX_LINK_BYTES → meant row ≡ Some text
           → (if w then resolution.Link row text else resolution.NotAWebLink) ≡ resolution.Link place link → IsLinkOf row place link
-      by_web true text web within means is =
-          let same : text ≡ link = cc (is) in
-          record { own = cc (is); within = within; means = means ∙ ap Some same; web = subst (λ t. is_web_link t ≡ true) same web }
-      by_web false text web within means is = absurd (cc (is))
+      by_web w text web within means is = grind (arith, common_steps)
 
       by_meaning : (o : Option Text) → meant row ≡ o → most row ≤ MAX_LINK_BYTES → resolution_by row (fate_of_meaning o) ≡ resolution.Link place link
           → IsLinkOf row place link
-      by_meaning None means within is = absurd (cc (is))
-      by_meaning (Some text) means within is = by_web (is_web_link text) text refl within means is
+      by_meaning o means within is = grind (arith, means, within, by_web)
 
       by_test : (b : Bool) → nat_lt MAX_LINK_BYTES (most row) ≡ b
           → resolution_by row (if b then OverBudget (most row) else fate_of_meaning (meant row)) ≡ resolution.Link place link → IsLinkOf row place link
-      by_test true over is = absurd (cc (is))
-      by_test false under is = by_meaning (meant row) refl (grind (arith, nat_tests, under)) is
+      by_test b over is = grind (arith, by_meaning, nat_tests)
 
   gives_link : (row : ℕ) (link : Text) → MeansWebLink target pairs row link → f row ≡ resolution.Link row link
   gives_link row link h = grind (arith, common_steps)

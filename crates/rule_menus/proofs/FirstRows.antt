@@ -1,10 +1,10 @@
 -- The choice from a range of rows: the link of the first row that passes a test and has a link.
-use Rattle.std.proofs.Common.{◌≡◌, ℕ, zero, suc, ◌+◌, ◌≤◌, ◌<◌, List, ◌∷◌, Some, Bool, true, false, cond, map, filter, refl, sym, ap, ◌∙◌, subst, arith, ⊎_elim}
+use Rattle.std.proofs.Common.{◌≡◌, ℕ, zero, suc, ◌+◌, ◌≤◌, ◌<◌, List, ◌∷◌, Some, Bool, true, false, cond, map, filter, refl, sym, ap, ◌∙◌, arith}
 use Rattle.std.specs.Prelude.{find, if◌then◌else◌}
 use Rattle.std.specs.List.{range_with_len}
 use Rattle.std.specs.Option.{unwrap_or}
 use Rattle.std.proofs.lemmas.Grind.{common_steps}
-use Rattle.std.proofs.lemmas.Bool.{cases_lt, false≢true}
+use Rattle.std.proofs.lemmas.Bool.{false≢true}
 use Rattle.text_model.specs.Texts.{Text}
 use Rattle.menu.specs.Links.{is_link}
 use Rattle.menu.specs.declared.entry.Resolution.{Resolution}
@@ -28,9 +28,6 @@ module _ (f : ℕ → Resolution) (p : ℕ → Bool) (own : (row place : ℕ) (l
   wider : (from n row : ℕ) (link : Text) → (p from ≡ true → is_link (f from) ≡ true → ⊥) → IsFirstFrom (from + 1) n row link → IsFirstFrom from (suc n) row link
   wider from n row link none h = grind (arith, common_steps)
 
-  narrower : (from n row : ℕ) (link : Text) → from < row → IsFirstFrom from (suc n) row link → IsFirstFrom (from + 1) n row link
-  narrower from n row link lt h = grind (arith, common_steps)
-
   -- the claim for the rows after the first one
   abbrev FirstIfChosen : ℕ → ℕ → ℕ → Text → Type 0
   FirstIfChosen from n row link = (before : Resolution) → is_link before ≡ false → chosen before (attempts from n) ≡ Link row link → IsFirstFrom from n row link
@@ -46,14 +43,12 @@ module _ (f : ℕ → Resolution) (p : ℕ → Bool) (own : (row place : ℕ) (l
       by_link : (b : Bool) → is_link (f from) ≡ b → p from ≡ true
           → unwrap_or (cond b (Some (f from)) (find is_link (attempts (from + 1) n))) (last_resolution (f from) (attempts (from + 1) n)) ≡ Link row link
           → FirstIfChosen (from + 1) n row link → IsFirstFrom from (suc n) row link
-      by_link true linked passes is rest = grind (arith, common_steps)
-      by_link false unlinked passes is rest = wider from n row link (λ pass linked. false≢true (sym unlinked ∙ linked)) (rest (f from) unlinked is)
+      by_link b linked passes is rest = grind (arith, common_steps)
 
       by_test : (b : Bool) → p from ≡ b
           → chosen before (map f (if b then (from ∷ filter p (range_with_len (from + 1) n)) else filter p (range_with_len (from + 1) n))) ≡ Link row link
           → FirstIfChosen (from + 1) n row link → IsFirstFrom from (suc n) row link
-      by_test true passes is rest = by_link (is_link (f from)) refl passes is rest
-      by_test false fails is rest = wider from n row link (λ pass linked. false≢true (sym fails ∙ pass)) (rest before unlinked_before is)
+      by_test b passes is rest = grind (arith, by_link, passes, wider)
 
   pub chosen_if_first : (n from : ℕ) (before : Resolution) (row : ℕ) (link : Text) → IsFirstFrom from n row link
       → chosen before (attempts from n) ≡ Link row link
@@ -62,20 +57,12 @@ module _ (f : ℕ → Resolution) (p : ℕ → Bool) (own : (row place : ℕ) (l
     where
       -- the row is after the first one, if it is not that one
       following : (row ≡ from → ⊥) → IsFirstFrom (from + 1) n row link
-      following other =
-          narrower from n row link
-          (⊎_elim (λ lt. lt) (λ le. let same : row ≡ from = omega (arith, h.after) in absurd (other same)) (cases_lt from row)) h
+      following other = grind (arith, common_steps)
 
       by_link : (b : Bool) → is_link (f from) ≡ b → p from ≡ true → ChosenIfFirst (from + 1) n row link
           → unwrap_or (cond b (Some (f from)) (find is_link (attempts (from + 1) n))) (last_resolution (f from) (attempts (from + 1) n)) ≡ Link row link
-      by_link true linked passes rest =
-          let le : row ≤ from = h.first from (omega arith) (omega arith) passes linked in
-          let same : row ≡ from = omega (arith, h.after) in
-          subst (λ k. f k ≡ Link row link) same h.links
-      by_link false unlinked passes rest =
-          rest (f from) (following (λ same. false≢true (sym unlinked ∙ ap (λ k. is_link (f k)) (sym same) ∙ ap is_link h.links)))
+      by_link b linked passes rest = grind (arith, common_steps)
 
       by_test : (b : Bool) → p from ≡ b → ChosenIfFirst (from + 1) n row link
           → chosen before (map f (if b then (from ∷ filter p (range_with_len (from + 1) n)) else filter p (range_with_len (from + 1) n))) ≡ Link row link
-      by_test true passes rest = by_link (is_link (f from)) refl passes rest
-      by_test false fails rest = rest before (following (λ same. false≢true (sym fails ∙ ap p (sym same) ∙ h.passes)))
+      by_test b passes rest = grind (arith, common_steps)

@@ -1,14 +1,13 @@
 -- The last lines of an explanation say one thing.
-use Rattle.std.proofs.Common.{◌≡◌, ℕ, List, [], ◌∷◌, ◌++◌, true, not, ◌==◌, Some, drop, get_or, refl, ap, sym, ◌∙◌, codes, arith}
+use Rattle.std.proofs.Common.{◌≡◌, ℕ, List, [], ◌∷◌, ◌++◌, true, not, ◌==◌, Some, drop, get_or, ap, sym, ◌∙◌, codes, arith}
 use Rattle.std.specs.Fmt.{decimal}
 use Rattle.std.proofs.lemmas.Bool.{and_parts}
-use Rattle.std.proofs.lemmas.Bool.Decides.{nat_tests}
 use Rattle.std.proofs.lemmas.Option.{same_Some}
+use Rattle.std.proofs.lemmas.Grind.{common_steps}
 use Rattle.text_model.specs.Texts.{Text}
 use Rattle.menu.specs.Links.{link_under}
 use Rattle.menu.specs.Printed.{resolution_text}
 use Rattle.menu.specs.declared.entry.Resolution.{Resolution}
-use Rattle.menu.specs.declared.entry.Resolution.TheVariants as resolution
 use Rattle.rule_menus.specs.Explanations.{EndAs, holding_line, last_line, space}
 use Rattle.rule_menus.proofs.Lines.{lacks}
 use Rattle.rule_menus.proofs.OneLine.{digits_lack}
@@ -16,14 +15,8 @@ use Rattle.rule_menus.proofs.OneLine.{digits_lack}
 -- what follows the first byte of its kind
 after_first : (c : ℕ) (front other rest text : Text) → lacks c front ≡ true → lacks c other ≡ true → front ++ c ∷ rest ≡ other ++ c ∷ text → rest ≡ text
 after_first c [] [] rest text x y same = cc
-after_first c [] (b ∷ other) rest text x y same =
-    let is : c ≡ b = cc in
-    let parts = and_parts (not (b == c)) (lacks c other) y in
-    absurd (grind (arith, nat_tests, is, parts.0))
-after_first c (b ∷ front) [] rest text x y same =
-    let is : b ≡ c = cc in
-    let parts = and_parts (not (b == c)) (lacks c front) x in
-    absurd (grind (arith, nat_tests, is, parts.0))
+after_first c [] (b ∷ other) rest text x y same = grind (arith, common_steps)
+after_first c (b ∷ front) [] rest text x y same = grind (arith, common_steps)
 after_first c (b ∷ front) (d ∷ other) rest text x y same =
     let tails : front ++ c ∷ rest ≡ other ++ c ∷ text = cc in
     after_first c front other rest text (and_parts (not (b == c)) (lacks c front) x).1 (and_parts (not (d == c)) (lacks c other) y).1 tails
@@ -49,24 +42,7 @@ module _ (lines : List Text) where
   IsSameText r other = (resolution_text r ≡ resolution_text other) × ((name : Text) → link_under name r ≡ link_under name other)
 
   one_text : (r other : Resolution) → EndAs lines r → EndAs lines other → IsSameText r other
-  one_text resolution.NoRow resolution.NoRow x y = (refl, λ name. refl)
-  one_text resolution.NoRow resolution.NoLink x y = absurd (omega (arith, marks _ _ x y))
-  one_text resolution.NoRow resolution.NotAWebLink x y = absurd (omega (arith, marks _ _ x y))
-  one_text resolution.NoRow (resolution.Link row link) x y = absurd (omega (arith, marks _ _ x y.2))
-  one_text resolution.NoLink resolution.NoRow x y = absurd (omega (arith, marks _ _ x y))
-  one_text resolution.NoLink resolution.NoLink x y = (refl, λ name. refl)
-  one_text resolution.NoLink resolution.NotAWebLink x y = absurd (omega (arith, marks _ _ x y))
-  one_text resolution.NoLink (resolution.Link row link) x y = absurd (omega (arith, marks _ _ x y.2))
-  one_text resolution.NotAWebLink resolution.NoRow x y = absurd (omega (arith, marks _ _ x y))
-  one_text resolution.NotAWebLink resolution.NoLink x y = absurd (omega (arith, marks _ _ x y))
-  one_text resolution.NotAWebLink resolution.NotAWebLink x y = (refl, λ name. refl)
-  one_text resolution.NotAWebLink (resolution.Link row link) x y = absurd (omega (arith, marks _ _ x y.2))
-  one_text (resolution.Link row link) resolution.NoRow x y = absurd (omega (arith, marks _ _ x.2 y))
-  one_text (resolution.Link row link) resolution.NoLink x y = absurd (omega (arith, marks _ _ x.2 y))
-  one_text (resolution.Link row link) resolution.NotAWebLink x y = absurd (omega (arith, marks _ _ x.2 y))
-  one_text (resolution.Link row link) (resolution.Link place text) x y = grind (arith, same_Some, same_link, one_line)
-  one_text (resolution.OverBudget bytes) other x y = absurd x
-  one_text r (resolution.OverBudget bytes) x y = absurd y
+  one_text r other x y = grind (arith, marks, same_Some, same_link, one_line)
 
   pub same_report : (r other : Resolution) → EndAs lines r → EndAs lines other → resolution_text r ≡ resolution_text other
   same_report r other x y = (one_text r other x y).0

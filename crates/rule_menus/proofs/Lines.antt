@@ -8,7 +8,6 @@ use Rattle.std.proofs.lemmas.List.Elements.{filter-append}
 use Rattle.std.proofs.lemmas.Option.{none-some}
 use Rattle.text_model.specs.Texts.{Text}
 use Rattle.menu.specs.declared.entry.Resolution.{Resolution}
-use Rattle.menu.specs.declared.entry.Resolution.TheVariants as resolution
 use Rattle.rule_menus.specs.Explanations.{EndAs, after_byte, is_indented, line_feed, lines_of}
 
 abbrev pub lacks : ℕ → Text → Bool
@@ -86,8 +85,4 @@ last_joined front lines line is = last_joined_after None front lines line is
 
 -- lines before them do not matter
 pub end_joined : (front lines : List Text) (r : Resolution) → EndAs lines r → EndAs (front ++ lines) r
-end_joined front lines resolution.NoRow is = last_joined front lines (codes "no row") is
-end_joined front lines resolution.NoLink is = last_joined front lines (codes "  no rule holds") is
-end_joined front lines resolution.NotAWebLink is = last_joined front lines (codes "  not a web link") is
-end_joined front lines (resolution.Link row link) is = grind (arith, filter-append, last_joined)
-end_joined front lines (resolution.OverBudget bytes) is = absurd is
+end_joined front lines r is = grind (arith, last_joined, lines, not, filter-append)

@@ -1,5 +1,6 @@
 -- The menu by codes and the menu by rules, target by target.
-use Rattle.std.proofs.Common.{◌≡◌, ℕ, List, [], ◌∷◌, Option, Some, None, Bool, true, false, map, nat_lt, refl, ap, ◌∙◌}
+use Rattle.std.proofs.Common.{arith, ◌≡◌, ℕ, List, [], ◌∷◌, Option, Bool, true, false, map, nat_lt, refl, ap, ◌∙◌}
+use Rattle.std.proofs.lemmas.Grind.{common_steps}
 use Rattle.std.specs.Prelude.{◌↔◌, All, if◌then◌else◌}
 use Rattle.std.proofs.lemmas.List.Elements.{All-head, All-tail}
 use Rattle.text_model.specs.Texts.{Text}
@@ -27,8 +28,7 @@ abbrev pub OutcomesAreDecided : Type 0
 OutcomesAreDecided = (c : Code) (v : Environment) (o : Outcome) → HasOutcome c v o ↔ (outcome_of c v ≡ o)
 
 answer_ends : (m : Option Text) → ended (answer m) ≡ fate_of_meaning m
-answer_ends None = refl
-answer_ends (Some link) = refl
+answer_ends m = grind (arith, common_steps)
 
 -- a list that rules declare but do not use does not change what they mean
 abbrev pub UnusedListsChangeNothing : Type 0

@@ -1,19 +1,18 @@
 -- What is printed on one line has no LF.
-use Rattle.std.proofs.Common.{◌≡◌, ℕ, zero, suc, ◌/◌, ◌%◌, ◌<◌, List, [], ◌∷◌, ◌++◌, Bool, true, false, not, ◌&&◌, ◌==◌, Option, Some, None, length}
+use Rattle.std.proofs.Common.{◌≡◌, ℕ, zero, suc, ◌/◌, ◌%◌, ◌<◌, List, [], ◌∷◌, ◌++◌, Bool, true, false, not, ◌&&◌, ◌==◌, Option, refl, ap, ◌∙◌, arith}
 use Rattle.std.proofs.lemmas.Grind.{common_steps}
-use Rattle.std.proofs.Common.{refl, ap, ◌∙◌, codes, arith}
 use Rattle.std.specs.Prelude.{if◌then◌else◌}
 use Rattle.std.specs.List.{flat_map}
 use Rattle.std.specs.Fmt.{decimal, digit_glyph, digits, digits_onto}
 use Rattle.std.proofs.lemmas.Bool.Decides.{nat_tests}
 use Rattle.std.proofs.lemmas.List.Folds.{list_all-append}
-use Rattle.text_model.specs.Texts.{Text, is_hexadecimal, is_reserved, is_unreserved, percent}
+use Rattle.text_model.specs.Texts.{Text, is_hexadecimal, is_reserved, is_unreserved}
 use Rattle.text_model.specs.Writing.{is_unreserved_or_reserved}
 use Rattle.text_model.specs.UriText.{IsUriText, nothing, and_character, and_triplet}
-use Rattle.environment_model.specs.Environment.{Meaning, Single, Several}
+use Rattle.environment_model.specs.Environment.{Meaning}
 use Rattle.uri_grammar.specs.Characters.{dot}
 use Rattle.uri_grammar.specs.Names.{IsVarchar, IsVarname, character_varchar, triplet_varchar, first_varchar, next_varchar, dotted_varchar, is_name_character}
-use Rattle.printed_text.specs.Printed.{byte_text, escape, is_plain, is_visible, quotation_mark, quoted, shortened, visible, visible_byte}
+use Rattle.printed_text.specs.Printed.{byte_text, escape, is_plain, is_visible, quoted, shortened, visible, visible_byte}
 use Rattle.rule_explanation.specs.Explanation.{meaning_text}
 use Rattle.rule_menus.specs.Explanations.{line_feed}
 use Rattle.rule_menus.proofs.Lines.{is_one_line, lacks}
@@ -44,8 +43,7 @@ module _ (c : ℕ) (below : c < 48) where
       by_test : (x : Bool) → lacks c (digit_glyph false (n % base) ∷ text) ≡ true
           → lacks c (digits_onto k base false (n / base) (digit_glyph false (n % base) ∷ text)) ≡ true
           → lacks c (if x then (digit_glyph false (n % base) ∷ text) else digits_onto k base false (n / base) (digit_glyph false (n % base) ∷ text)) ≡ true
-      by_test true last more = last
-      by_test false last more = more
+      by_test x last more = grind (arith, common_steps)
 
   pub digits_lack : (base n : ℕ) → lacks c (digits base false n) ≡ true
   unfolding digits
@@ -66,9 +64,7 @@ visible_one : (b : ℕ) → is_visible b ≡ true → not (b == line_feed) ≡ t
 visible_one b seen = grind (arith, nat_tests)
 
 escape_one : (b : ℕ) → is_one_line (escape b) ≡ true
-escape_one b =
-    one_joined (codes "\\x") (digits 16 false (b / 16) ++ digits 16 false (b % 16)) refl
-    (one_joined (digits 16 false (b / 16)) (digits 16 false (b % 16)) (digits_one 16 (b / 16)) (digits_one 16 (b % 16)))
+escape_one b = grind (arith, one_joined, digits_one)
 
 byte_text_one : (b : ℕ) → is_one_line (byte_text b) ≡ true
 byte_text_one b = grind (arith, one_more, plain_one, escape_one)
@@ -80,19 +76,13 @@ pub visible_text_one : (text : Text) → is_one_line (visible text) ≡ true
 visible_text_one text = one_flat visible_byte visible_byte_one text
 
 quoted_one : (text : Text) → is_one_line (quoted text) ≡ true
-quoted_one text =
-    one_joined (quotation_mark ∷ flat_map byte_text text) (quotation_mark ∷ []) (one_more quotation_mark (flat_map byte_text text) refl
-    (one_flat byte_text byte_text_one text)) refl
+quoted_one text = grind (arith, one_joined, one_more, one_flat, byte_text_one)
 
 shortened_one : (text : Text) → is_one_line (shortened text) ≡ true
 shortened_one text = grind (arith, quoted_one, one_joined)
 
 pub meaning_one : (m : Option Meaning) → is_one_line (meaning_text m) ≡ true
-meaning_one None = refl
-meaning_one (Some (Single text)) = shortened_one text
-meaning_one (Some (Several [])) = refl
-meaning_one (Some (Several (member ∷ members))) =
-    one_joined (codes "list of ") (decimal (length (member ∷ members))) refl (decimal_one (length (member ∷ members)))
+meaning_one m = grind (arith, shortened_one, one_joined, decimal_one)
 
 -- ---- names
 
@@ -120,7 +110,4 @@ uri_character_one b is = grind (arith, nat_tests)
 pub uri_text_one : (text : Text) → IsUriText text → is_one_line text ≡ true
 uri_text_one _ nothing = refl
 uri_text_one _ (and_character text b before is) = one_joined text (b ∷ []) (uri_text_one text before) (one_more b [] (uri_character_one b is) refl)
-uri_text_one _ (and_triplet text high low before x y) =
-    one_joined text (percent ∷ high ∷ low ∷ []) (uri_text_one text before)
-    (one_more percent (high ∷ low ∷ []) refl
-    (one_more high (low ∷ []) (hexadecimal_one high x) (one_more low [] (hexadecimal_one low y) refl)))
+uri_text_one _ (and_triplet text high low before x y) = grind (arith, one_joined, one_more, hexadecimal_one, uri_text_one text before)

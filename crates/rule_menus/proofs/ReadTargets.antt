@@ -1,5 +1,5 @@
 -- Targets whose codes are read from the code files of rules are the coded targets of these rules.
-use Rattle.std.proofs.Common.{◌≡◌, List, [], ◌∷◌, map, refl, ap, ◌∙◌, subst}
+use Rattle.std.proofs.Common.{arith, ◌≡◌, List, [], ◌∷◌, map, refl, ap, ◌∙◌}
 use Rattle.text_model.specs.Texts.{Text}
 use Rattle.code_model.specs.Code.{Code}
 use Rattle.code_file.specs.Grammar.{IsCodeFile}
@@ -25,10 +25,7 @@ module _ (one_set : HasOneRuleSet) where
   code_is_one text rules others a b = ap code_of (one_set text rules others a b)
 
   pub one_file : HasOneFile → (text file other : Text) → IsCodeFileOf text file → IsCodeFileOf text other → file ≡ other
-  one_file once text file other a b =
-      let same = code_is_one text b.rules a.rules b.are_rules a.are_rules in
-      let spelled : IsCodeFile other (code_of a.rules) = subst (IsCodeFile other) same b.compiled in
-      once file other (code_of a.rules) a.compiled spelled
+  one_file once text file other a b = grind (arith, code_is_one)
 
   pub read_code : HasOneCode → (text file : Text) (rules : RuleSet) (code : Code) → IsRuleText text rules → IsCodeFileOf text file → IsCodeFile file code
       → code ≡ code_of rules

@@ -1,10 +1,11 @@
 -- How the text of one row ends.
-use Rattle.std.proofs.Common.{◌≡◌, ℕ, List, [], ◌∷◌, ◌++◌, Bool, true, false, Option, Some, None, IfSome, MatchOption, filter, refl, ap, sym, ◌∙◌, subst, codes}
+use Rattle.std.proofs.Common.{arith}
+use Rattle.std.proofs.lemmas.Grind.{common_steps}
+use Rattle.std.proofs.Common.{◌≡◌, ℕ, List, [], ◌∷◌, ◌++◌, Bool, true, false, Option, Some, None, IfSome, MatchOption, filter, refl, ap, sym, subst, codes}
 use Rattle.std.specs.Prelude.{if◌then◌else◌}
 use Rattle.std.specs.List.{last_or}
 use Rattle.std.specs.Fmt.{decimal}
 use Rattle.std.proofs.lemmas.List.{append-nil}
-use Rattle.std.proofs.lemmas.List.Elements.{filter-append}
 use Rattle.text_model.specs.Texts.{Text}
 use Rattle.environment_model.specs.Environment.{Environment}
 use Rattle.menu.specs.WebLink.{is_web_link}
@@ -41,10 +42,7 @@ module _ (row : ℕ) (details text : Text) (inner : IsIndented details) where
       (longer_line (decimal row) _ [] _ (decimal_one row) (line_end _ _ (lines_joined details text inner.lines ending inner.are are)))
 
   names_row : (ending : List Text) → filter begins_row ending ≡ [] → last_row_line (first ∷ (inner.lines ++ ending)) ≡ Some (row_line row)
-  names_row ending indented =
-      ap (last_or (Some first))
-      (filter-append begins_row inner.lines ending ∙ ap (λ ls. ls ++ filter begins_row ending) inner.inner ∙ indented)
-      ∙ ap (λ t. Some (codes "row " ++ t)) (append-nil (decimal row))
+  names_row ending indented = grind (arith, common_steps)
 
   last_of_whole : (ending : List Text) (line : Text) → last_or None ending ≡ Some line → last_or None (first ∷ (inner.lines ++ ending)) ≡ Some line
   last_of_whole ending line is = last_joined (first ∷ inner.lines) ending line is

@@ -1,12 +1,12 @@
 -- The lines of a row's text: the one that names the row, indented ones, and those of the rule that holds.
-use Rattle.std.proofs.Common.{◌≡◌, ℕ, zero, suc, ◌+◌, List, [], ◌∷◌, Bool, true, false, not, cond, Option, Some, None, IfSome, All}
-use Rattle.std.proofs.Common.{take}
-use Rattle.std.proofs.Common.{option_map, refl, codes, arith}
+use Rattle.std.proofs.Common.{◌≡◌, ℕ, zero, suc, ◌+◌, List, [], ◌∷◌, Bool, true, false, not, Option, Some, None, IfSome, All, take, option_map, refl, codes}
+use Rattle.std.proofs.Common.{arith}
 use Rattle.std.specs.Prelude.{if◌then◌else◌}
-use Rattle.std.specs.List.{AllByRecursion, enumerate_from, find, position_or_len}
+use Rattle.std.specs.List.{AllByRecursion, enumerate_from, find}
 use Rattle.std.specs.Fmt.{decimal}
 use Rattle.std.specs.Str.{bytes_eq}
 use Rattle.std.proofs.lemmas.List.Elements.{recursion_from_All}
+use Rattle.std.proofs.lemmas.Grind.{common_steps}
 use Rattle.text_model.specs.Texts.{Text}
 use Rattle.text_model.specs.UriText.{IsUriText}
 use Rattle.text_model.proofs.Lists.{all_append, all_filter}
@@ -16,9 +16,7 @@ use Rattle.uri_grammar.specs.Promises.{IsSoundPart}
 use Rattle.uri_grammar.specs.Texts.{IsTemplate}
 use Rattle.uri_template.specs.Expansion.{expansion}
 use Rattle.rule_parser.specs.declared.rule.Bound.{Bound}
-use Rattle.rule_parser.specs.declared.rule.Bound.TheVariants as bound
 use Rattle.rule_parser.specs.declared.rule.Guard.{Guard}
-use Rattle.rule_parser.specs.declared.rule.Guard.TheVariants as guard
 use Rattle.rule_parser.specs.declared.rule.Rule.{Rule}
 use Rattle.rule_parser.specs.Meaning.{guards_hold, meaning, seen}
 use Rattle.rule_parser.specs.Mentions.{bound_names, mentioned, names_of_line}
@@ -26,9 +24,7 @@ use Rattle.rule_parser.specs.Names.{each_once}
 use Rattle.rule_parser.specs.Rules.{IsBound, IsGuard, IsSound, IsSoundRule, RuleSet}
 use Rattle.rule_parser.specs.Statements.{guard_text}
 use Rattle.printed_text.specs.Printed.{visible}
-use Rattle.rule_explanation.specs.Failing.{failing_guard, failing_rules, guard_fails, numbered, rule_holds}
-use Rattle.rule_explanation.specs.Explanation.{failing_guard_lines, failing_lines, failing_rule_lines, guard_lines, meaning_text}
-use Rattle.rule_explanation.specs.Explanation.{name_line}
+use Rattle.rule_explanation.specs.Explanation.{failing_guard_lines, failing_lines, failing_rule_lines, guard_lines, meaning_text, name_line}
 use Rattle.rule_menus.proofs.Lines.{IsIndented, indented_all, indented_nothing, is_one_line, line_end, longer_line, no_lines}
 use Rattle.rule_menus.proofs.OneLine.{decimal_one, meaning_one, name_one, uri_text_one, visible_text_one}
 
@@ -53,11 +49,7 @@ all_taken P (suc n) (x ∷ xs) all = (all.0, all_taken P n xs all.1)
 
 found_one : {A : Type 0} (P : A → Type 0) (test : A → Bool) (xs : List A) → AllByRecursion P xs → IfSome (find test xs) P
 found_one P test [] all = tt
-found_one P test (x ∷ xs) all = by_test (test x) (found_one P test xs all.1)
-  where
-    by_test : (b : Bool) → IfSome (find test xs) P → IfSome (cond b (Some x) (find test xs)) P
-    by_test true rest = all.0
-    by_test false rest = rest
+found_one P test (x ∷ xs) all = grind (arith, common_steps, found_one P test xs all.1)
 
 -- ---- names
 
@@ -65,20 +57,10 @@ abbrev IsOne : Text → Type 0
 IsOne text = is_one_line text ≡ true
 
 bound_one : (b : Bound) → IsBound b → AllByRecursion IsOne (bound_names b)
-bound_one bound.Open is = tt
-bound_one (bound.Digits digits) is = tt
-bound_one (bound.Name name) is = (name_one name is.0.0, tt)
+bound_one b is = grind (arith, name_one)
 
 names_one : (g : Guard) → IsGuard g → AllByRecursion IsOne (names_of_line g)
-names_one (guard.Has name) is = (name_one name is.0, tt)
-names_one (guard.Lacks name) is = (name_one name is.0, tt)
-names_one (guard.Given name) is = (name_one name is.0, tt)
-names_one (guard.Same name text) is = (name_one name is.0, tt)
-names_one (guard.Holds name text) is = (name_one name is.0, tt)
-names_one (guard.Between name low high) is =
-    (name_one name is.0.0, all_append IsOne (bound_names low) (bound_names high) (bound_one low is.1.0) (bound_one high is.1.1))
-names_one (guard.Counts name low high) is =
-    (name_one name is.0.0, all_append IsOne (bound_names low) (bound_names high) (bound_one low is.1.0) (bound_one high is.1.1))
+names_one g is = grind (arith, name_one, all_append, bound_one)
 
 -- ---- the rules that fail
 
@@ -102,22 +84,16 @@ guard_indented look rule place g is =
     record { lines = _; are = longer_line (codes "  rule ") _ _ names.lines refl from_rule; inner = names.inner }
 
 found_indented : (look : LookUp) (rule : ℕ) (o : Option (ℕ × Guard)) → IfSome o (λ p. IsGuard p.1) → IsIndented (failing_guard_lines look rule o)
-found_indented look rule None is = indented_nothing
-found_indented look rule (Some p) is = guard_indented look rule p.0 p.1 is
+found_indented look rule o is = grind (arith, indented_nothing, guard_indented)
 
 abbrev HasGuards : Rule → Type 0
 HasGuards rule = AllByRecursion IsGuard rule.guards
 
 rule_indented : (look : LookUp) (p : ℕ × Rule) → HasGuards p.1 → IsIndented (failing_rule_lines look p)
-rule_indented look p all =
-    found_indented look p.0 (failing_guard look p.1.guards)
-    (found_one (λ (q : ℕ × Guard). IsGuard q.1) (guard_fails look) (numbered p.1.guards) (all_numbered IsGuard 1 p.1.guards all))
+rule_indented look p all = grind (arith, found_indented, found_one, all_numbered)
 
 failing_indented : (look : LookUp) (rules : List Rule) → AllByRecursion HasGuards rules → IsIndented (failing_lines look rules)
-failing_indented look rules all =
-    indented_all (failing_rule_lines look) (failing_rules look rules)
-    (all_mapped (λ (p : ℕ × Rule). HasGuards p.1) (λ p. IsIndented (failing_rule_lines look p)) (failing_rules look rules) (rule_indented look)
-    (all_taken (λ (p : ℕ × Rule). HasGuards p.1) (position_or_len (rule_holds look) (numbered rules)) (numbered rules) (all_numbered HasGuards 1 rules all)))
+failing_indented look rules all = grind (arith, indented_all, all_mapped, rule_indented, all_taken, all_numbered)
 
 detailed_indented : (look : LookUp) (rules : List Rule) (detailed : Bool) → AllByRecursion HasGuards rules
     → IsIndented (if detailed then failing_lines look rules else [])

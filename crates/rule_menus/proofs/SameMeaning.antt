@@ -1,10 +1,10 @@
 -- Rules mean the same in the environment with the lists of their code as in the one with their own lists.
-use Rattle.std.proofs.Common.{◌≡◌, ℕ, List, [], Option, Some, None, Bool, refl, sym, arith}
+use Rattle.std.proofs.Common.{◌≡◌, ℕ, List, [], Option, None, Bool, refl, sym, arith}
 use Rattle.std.specs.Prelude.{◌↔◌, All, if◌then◌else◌}
 use Rattle.std.proofs.lemmas.Grind.{common_steps}
 use Rattle.std.proofs.lemmas.List.Elements.{recursion_from_All}
 use Rattle.text_model.specs.Texts.{Text}
-use Rattle.environment_model.specs.Environment.{Environment, Meaning, look_up, is_there, text_in, members_in, text_of, members_of}
+use Rattle.environment_model.specs.Environment.{Environment, Meaning, look_up, is_there, text_of, members_of}
 use Rattle.environment_model.specs.Lists.{is_list}
 use Rattle.code_model.specs.Code.{Code}
 use Rattle.machine_model.specs.Runs.{HasOutcome, Outcome}
@@ -58,13 +58,11 @@ module _ (laws : LawsBelow) where
 
     text_agrees : (name : Text) → is_list lists name ≡ is_list others name
         → text_of (filled lists entries pairs) name ≡ text_of (filled others entries pairs) name
-    text_agrees name same =
-        agrees text_in (λ (list : Bool). if list then None else first_of pairs name) name (laws.texts lists pairs name) (laws.texts others pairs name) same
+    text_agrees name same = grind (arith, common_steps)
 
     members_agree : (name : Text) → is_list lists name ≡ is_list others name
         → members_of (filled lists entries pairs) name ≡ members_of (filled others entries pairs) name
-    members_agree name same =
-        agrees members_in (λ (list : Bool). if list then all_of pairs name else []) name (laws.members lists pairs name) (laws.members others pairs name) same
+    members_agree name same = grind (arith, common_steps)
 
   -- ---- runs
 
@@ -87,14 +85,10 @@ module _ (laws : LawsBelow) where
         (text_agrees lists own cells pairs name.text same, members_agree lists own cells pairs name.text same)
 
     same_ending : (m : Option Text) → HasOutcome code by_code (answer m) → HasOutcome code by_rules (answer m)
-    same_ending None has = (has.0, same_states code by_code by_rules agree has.0 _ has.1)
-    same_ending (Some link) has = (has.0, same_states code by_code by_rules agree has.0 _ has.1)
+    same_ending m has = grind (arith, same_states, agree)
 
     one_answer : (m n : Option Text) → answer m ≡ answer n → m ≡ n
-    one_answer None None same = refl
-    one_answer None (Some link) same = absurd (cc)
-    one_answer (Some link) None same = absurd (cc)
-    one_answer (Some link) (Some other) same = cc
+    one_answer m n same = grind (arith, common_steps)
 
     -- a list that is declared but not used does not change the meaning
     pub same_meaning : meaning target.rules by_code ≡ meaning target.rules by_rules

@@ -40,11 +40,7 @@ reply_parts targets bytes _ _ (no_memory at without_body routed) other = absurd 
 
 module _ (targets others : List TargetValue) (same : (pairs : List KeyValue) → menu_of targets pairs ≡ menu_of others pairs) where
   same_value : (at : RouteValue) (a b : ReplyValue) → IsReplyTo (menu_of targets) at a → IsReplyTo (menu_of others) at b → a ≡ b
-  same_value (route.Menu page query) a b x y = grind (arith, common_steps)
-  same_value route.NotFound a b x y = x ∙ sym y
-  same_value route.MethodNotAllowed a b x y = x ∙ sym y
-  same_value route.BadRequest a b x y = x ∙ sym y
-  same_value route.HeadTooLarge a b x y = x ∙ sym y
+  same_value at a b x y = grind (arith, common_steps)
 
   module _ (one_route : HasOneRoute) (bytes : List ℕ) where
     pub same_reply : (status other : ℕ) (reply another : List ℕ) → HasReply targets bytes status reply → HasReply others bytes other another

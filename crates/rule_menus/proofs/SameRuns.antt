@@ -1,20 +1,18 @@
 -- What code does depends only on what the names of its table denote.
 use Rattle.std.proofs.Common.{◌≡◌, ℕ, zero, suc, Option, Some, None, true, refl, sym, ap, ◌∙◌, subst, slice_get, arith}
-use Rattle.std.specs.Prelude.{◌&&◌}
-use Rattle.std.proofs.lemmas.Bool.{and_parts, false≢true}
+use Rattle.std.proofs.lemmas.Bool.{false≢true}
+use Rattle.std.proofs.lemmas.Grind.{common_steps}
 use Rattle.environment_model.specs.Environment.{Environment, text_of, members_of}
 use Rattle.code_model.specs.Code.{Code, Name}
-use Rattle.code_model.specs.Operands.{Register, TextName, ListName}
 use Rattle.code_model.specs.declared.code.Instruction.{Instruction}
 use Rattle.code_model.specs.declared.code.Instruction.TheVariants as instruction
-use Rattle.machine_model.specs.Operands.{has_right_operands, is_right, is_in_table, has_table_kind, names_text, names_list, name_at, text_of_name}
+use Rattle.machine_model.specs.Operands.{has_right_operands, names_text, names_list, name_at, text_of_name}
 use Rattle.machine_model.specs.Values as value
 use Rattle.machine_model.specs.Values.{text_or_undefined}
-use Rattle.machine_model.specs.States.{Frame, State, Running, Ended, on, holding}
-use Rattle.machine_model.specs.Step.{Move, MovesTo, Does, halt, fail, jump, text, list}
-use Rattle.machine_model.specs.Step.{const, number, no_number, undefined, defined, empty, not_empty, no_member}
-use Rattle.machine_model.specs.Step.{a_member, equal, different, less, not_less, emit, put_text, cut_text, no_turn, enter, first_turn, later_turn, next_member}
-use Rattle.machine_model.specs.Step.{leave, count, StepsTo}
+use Rattle.machine_model.specs.States.{Frame, State, on, holding}
+use Rattle.machine_model.specs.Step.{Move, MovesTo, Does, halt, fail, jump, text, list, const, number, no_number, undefined, defined, empty, not_empty}
+use Rattle.machine_model.specs.Step.{no_member, a_member, equal, different, less, not_less, emit, put_text, cut_text, no_turn, enter, first_turn, later_turn}
+use Rattle.machine_model.specs.Step.{next_member, leave, count, StepsTo}
 use Rattle.machine_model.specs.Runs.{After}
 
 -- each name of the table denotes the same text and the same members
@@ -26,15 +24,11 @@ AgreeOn c v w = (k : ℕ) (name : Name) → slice_get c.names k ≡ Some name
 
 text_in_table : (c : Code) (a b : ℕ) → has_right_operands c (instruction.Text a b) ≡ true → names_text (slice_get c.names b) ≡ true
 unfolding has_right_operands
-text_in_table c a b right =
-    let second = (and_parts (is_right c (TextName b)) true (and_parts (is_right c (Register a)) (is_right c (TextName b) && true) right).1).0 in
-    (and_parts (is_in_table c (TextName b)) (has_table_kind c (TextName b)) second).1
+text_in_table c a b right = grind (arith, common_steps)
 
 list_in_table : (c : Code) (a b : ℕ) → has_right_operands c (instruction.List a b) ≡ true → names_list (slice_get c.names b) ≡ true
 unfolding has_right_operands
-list_in_table c a b right =
-    let second = (and_parts (is_right c (ListName b)) true (and_parts (is_right c (Register a)) (is_right c (ListName b) && true) right).1).0 in
-    (and_parts (is_in_table c (ListName b)) (has_table_kind c (ListName b)) second).1
+list_in_table c a b right = grind (arith, common_steps)
 
 -- ---- steps
 
@@ -82,8 +76,7 @@ module _ (c : Code) (v w : Environment) (agree : AgreeOn c v w) where
   same_move s _ _ right (count a b ts h) = count a b ts h
 
   same_step : (old new : State) → StepsTo c v old new → StepsTo c w old new
-  same_step (Ended end) new step = absurd step
-  same_step (Running s) new step = (step.0, step.1, step.2, same_move s step.0 step.2 step.1.right step.3, step.4)
+  same_step old new step = grind (arith, same_move)
 
   -- the states after each number of steps are the same
   pub same_states : (k : ℕ) (s : State) → After c v k s → After c w k s

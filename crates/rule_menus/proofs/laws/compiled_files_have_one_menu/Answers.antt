@@ -1,4 +1,4 @@
-use Rattle.std.proofs.Common.{List, sym, ap, ◌∙◌}
+use Rattle.std.proofs.Common.{arith, List, ap, ◌∙◌}
 use Rattle.registry.specs.Targets.{TargetValue}
 use Rattle.registry.specs.Entries.{menu_of}
 use Rattle.http_exchange.specs.RouteReplies.{page_text}
@@ -13,9 +13,7 @@ returns-clause-meant c = λ files targets by_rules pairs read of_files.
     ∙ c.files_have_one_menu.ensures.meant files by_rules pairs of_files
 
 pub returns-clause-one : goal.returns-clause-one
-returns-clause-one c = λ files targets others pairs a b.
-    let by = are_coded c.file_has_one_code.ensures files others b in
-    returns-clause-meant c files targets by.meant pairs a by.of_files ∙ sym (returns-clause-meant c files others by.meant pairs b by.of_files)
+returns-clause-one c = grind (arith, are_coded, c.file_has_one_code.ensures, returns-clause-meant)
 
 pub returns-clause-pages : goal.returns-clause-pages
 returns-clause-pages c = λ files targets by_rules pairs page read of_files.

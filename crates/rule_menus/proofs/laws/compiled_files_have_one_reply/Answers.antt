@@ -1,13 +1,11 @@
-use Rattle.std.proofs.Common.{List}
-use Rattle.kev_read.specs.Pairs.{KeyValue, pairs_of}
+use Rattle.std.proofs.Common.{arith}
+use Rattle.kev_read.specs.Pairs.{pairs_of}
 use Rattle.rule_menus.specs.RuleMenus.{menu_by_rules}
 use Rattle.rule_menus.proofs.SameReplies.{reply_is_page, same_reply}
 use Rattle.rule_menus.proofs.laws.compiled_files_have_one_reply.Goals as goal
 
 pub returns-clause-one : goal.returns-clause-one
-returns-clause-one c = λ files targets others request status other reply another a b here there.
-    let same = λ (pairs : List KeyValue). c.compiled_files_have_one_menu.ensures.one files targets others pairs a b in
-    same_reply targets others same c.one_route.ensures request status other reply another here there
+returns-clause-one c = grind (arith, c.compiled_files_have_one_menu.ensures.one, same_reply, c.one_route.ensures)
 
 pub returns-clause-page : goal.returns-clause-page
 returns-clause-page c = λ files targets by_rules request query page without_body status reply read of_files routed accepted has.

@@ -1,4 +1,5 @@
-use Rattle.std.proofs.Common.{sym, ap, ◌∙◌, subst}
+use Rattle.std.proofs.Common.{arith, sym, ap, ◌∙◌, subst}
+use Rattle.std.proofs.lemmas.Grind.{common_steps}
 use Rattle.menu.specs.Links.{is_link}
 use Rattle.menu.specs.declared.entry.Resolution.{Resolution}
 use Rattle.rule_explanation.specs.Explanation.{explanation}
@@ -13,11 +14,7 @@ returns-clause-found c = λ target pairs sound within.
 
 pub returns-clause-last : goal.returns-clause-last
 returns-clause-last c = λ target pairs sound within.
-    let laws : LawsOfRows = record {
-      trees = c.trees_are_sound.ensures;
-      uri = c.expansion_is_uri_text.ensures;
-      printed = c.printed_rule_gives_the_meaning.ensures.printed;
-    } in
+    let laws : LawsOfRows = grind (arith, common_steps) in
     let P : Resolution → Type 0 = λ r. EndAs (lines_of (explanation target.rules target.table pairs)) r in
     subst P (sym (c.menus_are_what_rules_mean.ensures.resolution target pairs sound)) (explanation_ends target pairs laws sound within)
 
