@@ -43,10 +43,6 @@ HasByte (b ∷ t) = Unit {0}
 pub plain_byte : (s : HostState) (b : ℕ) → is_special b ≡ false → after_byte s b ≡ after_byte s letter
 plain_byte s b h = grind (arith, common_steps)
 
--- one letter more or less does not matter
-again : (s : HostState) → after_byte (after_byte s letter) letter ≡ after_byte s letter
-again s = grind (arith, common_steps)
-
 plain_rest : (s : HostState) (t : Text) → IsPlain t → after_text (after_byte s letter) t ≡ after_byte s letter
 plain_rest s [] h = refl
 plain_rest s (b ∷ t) h = grind (arith, common_steps, plain_rest s t h.1)

@@ -1,29 +1,17 @@
 -- Guards whose bounds exclude every number never hold, and no rule is used after one that always holds.
-use Rattle.std.proofs.Common.{◌≡◌, ℕ, Bool, true, false, ◌&&◌, cond, List, [], ◌∷◌, ◌++◌, length, Option, Some, refl, arith}
-use Rattle.std.specs.Prelude.{nat_le, nat_lt}
+use Rattle.std.proofs.Common.{◌≡◌, Bool, true, false, cond, List, [], ◌∷◌, ◌++◌, length, Some, refl, arith}
 use Rattle.std.specs.List.{list_any, list_all, find}
 use Rattle.std.proofs.lemmas.Grind.{common_steps}
 use Rattle.std.proofs.lemmas.Bool.{false≢true}
 use Rattle.std.proofs.Math.Seq.{take-append_seam}
 use Rattle.text_model.specs.Texts.{Text}
 use Rattle.environment_model.specs.Environment.{Environment, LookUp}
-use Rattle.rule_parser.specs.declared.rule.Bound.{Bound}
 use Rattle.rule_parser.specs.declared.rule.Guard.{Guard}
 use Rattle.rule_parser.specs.declared.rule.Rule.{Rule}
-use Rattle.rule_parser.specs.Meaning.{guard_holds, guards_hold, bound_number, is_within, meaning}
-use Rattle.rule_lint.specs.Reach.{always_holds, is_without_guards, is_never_reached, is_above, are_apart, never_holds}
+use Rattle.rule_parser.specs.Meaning.{guard_holds, guards_hold, meaning}
+use Rattle.rule_lint.specs.Reach.{always_holds, is_without_guards, is_never_reached, never_holds}
 
 -- ---- guards
-
--- no number is between bounds if the first is greater than the second
-outside : (low high n : ℕ) (a b : Bool) → nat_lt high low ≡ true → nat_le low n ≡ a → nat_le n high ≡ b → (a && b) ≡ false
-outside low high n a b e f g = grind (arith, common_steps)
-
-between : (low high : Option ℕ) (n : ℕ) → is_above low high ≡ true → is_within low high n ≡ false
-between low high n e = grind (arith, common_steps)
-
-apart : (look : LookUp) (low high : Bound) (n : ℕ) → are_apart low high ≡ true → is_within (bound_number look low) (bound_number look high) n ≡ false
-apart look low high n e = grind (arith, common_steps)
 
 pub never_held : (look : LookUp) (g : Guard) → never_holds g ≡ true → guard_holds look g ≡ false
 never_held look g e = grind (arith, common_steps)

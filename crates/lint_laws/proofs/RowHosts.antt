@@ -20,7 +20,7 @@ use Rattle.rule_parser.specs.Meaning.{seen}
 use Rattle.rule_lint.specs.declared.place.Place.{Place}
 use Rattle.rule_lint.specs.Host.{host_names, host_of, may_be_hostless}
 use Rattle.rule_lint.specs.WebLink.{is_never_web_link}
-use Rattle.rule_lint.specs.Findings.{Hostless, NeverWebLink, found_if, in_host, in_names, in_open_host, names_in_template}
+use Rattle.rule_lint.specs.Findings.{NeverWebLink, in_host, in_names, in_open_host, names_in_template}
 use Rattle.lint_laws.specs.RowLinks.{IsHostOfRow, environment_of_cells, has_open_host, host_of_row_alone, is_of_host, link_on_row}
 use Rattle.lint_laws.proofs.BrowserHosts.{browser_agrees}
 use Rattle.lint_laws.proofs.HostStates.{cell_covered}
@@ -44,12 +44,6 @@ nothing_found rules table at parts e web =
     (sym (list_any-append is_of_host (in_names rules table at (names_in_template parts)) (in_host rules table at parts)) ∙ e) in
     by_web (is_never_web_link parts) refl both.1
   where
-    no_line : (hostless : Bool) → list_any is_of_host (found_if hostless (Hostless at)) ≡ false → hostless ≡ false
-    no_line hostless e = grind (arith, common_steps)
-
-    none : (names : List Text) (hostless : Bool) → list_any is_of_host (in_open_host at names hostless) ≡ false → (names ≡ []) × (hostless ≡ false)
-    none names hostless e = grind (arith, common_steps)
-
     by_web : (never : Bool) → is_never_web_link parts ≡ never
         → list_any is_of_host (cond never (NeverWebLink at ∷ []) (in_open_host at (host_names rules table parts) (may_be_hostless rules table parts))) ≡ false
         → HasNoFinding rules table parts

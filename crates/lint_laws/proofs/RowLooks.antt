@@ -1,18 +1,15 @@
 -- What the names of a template mean on a row, for a request and for the row alone.
-use Rattle.std.proofs.Common.{◌≡◌, ℕ, ◌<◌, Bool, true, false, List, [], length, get_or, Option, Some, is_some, if◌then◌else◌, arith}
+use Rattle.std.proofs.Common.{◌≡◌, ℕ, ◌<◌, true, List, [], length, get_or, Some, if◌then◌else◌, arith}
 use Rattle.std.proofs.lemmas.Grind.{common_steps}
-use Rattle.std.specs.List.{list_all}
-use Rattle.std.proofs.lemmas.Bool.{and_parts, not-true}
 use Rattle.text_model.specs.Texts.{Text}
-use Rattle.environment_model.specs.Environment.{Environment, LookUp, Meaning, Single, is_there, look_up, text_in, text_of}
-use Rattle.environment_model.specs.Lists.{is_list}
+use Rattle.environment_model.specs.Environment.{LookUp, Single, is_there, look_up, text_of}
 use Rattle.kev_read.specs.Pairs.{KeyValue}
 use Rattle.kev_read.specs.Filling.{filled}
 use Rattle.kbart_rows.specs.Cells.{Holdings, NamedCell, Row, cell_of, named_cells}
 use Rattle.row_laws.specs.Shadowing.{requested, row_of}
 use Rattle.rule_parser.specs.Rules.{RuleSet}
 use Rattle.rule_parser.specs.Meaning.{seen}
-use Rattle.rule_lint.specs.Host.{has_cell, is_rows_own}
+use Rattle.rule_lint.specs.Host.{is_rows_own}
 use Rattle.lint_laws.specs.RowLinks.{environment_of_cells}
 use Rattle.lint_laws.proofs.HostStates.{HasByte}
 
@@ -39,30 +36,6 @@ pub record MeansCell (table : Holdings) (cells : Row) (look : LookUp) (name : Te
 pub record RowLooks (rules : RuleSet) (table : Holdings) (cells : Row) (look alone : LookUp) : Type 0 where
   pub own : (name : Text) → is_rows_own rules table name ≡ true → MeansCell table cells alone name
   pub same : (name : Text) → is_rows_own rules table name ≡ true → look name ≡ alone name
-
--- what holds of every row holds of each
-pub at_row : {X : Type 0} (test : X → Bool) (rows : List X) (row : ℕ) (d : X) → row < length rows → list_all test rows ≡ true → test (get_or rows row d) ≡ true
-at_row test rows row d within e = grind (arith, common_steps)
-
-some_text : (o : Option Text) → is_some o ≡ true → (text : Text) × (o ≡ Some text)
-some_text o e = grind (arith, common_steps)
-
-single : (m : Option Meaning) (text : Text) → text_in m ≡ Some text → m ≡ Some (Single text)
-single m text e = grind (arith, common_steps)
-
-module _ (laws : RowLaws) (rules : RuleSet) (table : Holdings) (cells : Row) where
-  abbrev entries : Environment
-  entries = row_of (named_cells table.header cells)
-
-  abbrev look : List KeyValue → LookUp
-  look pairs = seen rules (environment_of_cells rules table cells pairs)
-
-  means_cell : (name : Text) → is_list rules.lists name ≡ false → has_cell table name cells ≡ true → MeansCell table cells (look []) name
-  means_cell name text_name has = grind (arith, common_steps)
-
-  own_cell : (name : Text) (row : ℕ) → row < length table.rows → cells ≡ get_or table.rows row [] → is_rows_own rules table name ≡ true
-      → MeansCell table cells (look []) name
-  own_cell name row within here e = grind (arith, and_parts, means_cell, not-true, at_row)
 
 pub row_looks : RowLaws → (rules : RuleSet) (table : Holdings) (row : ℕ) (pairs : List KeyValue) → row < length table.rows
     → RowLooks rules table (get_or table.rows row []) (seen rules (environment_of_cells rules table (get_or table.rows row []) pairs))

@@ -84,18 +84,5 @@ never_a_web_link look parts e =
 pub slash_lowered : (b : ℕ) → (to_ascii_lowercase b == 0x2F) ≡ true → (b == slash) ≡ true
 slash_lowered b e = grind (arith, common_steps)
 
-slashes_follow : (t : Text) → begins_in_any_case t (codes "//") ≡ true → after_slashes t ≡ None → ⊥
-slashes_follow t e none = grind (arith, common_steps)
-
-later_slashes : (b : ℕ) (t : Text) → (after_slashes t ≡ None → ⊥) → after_slashes (b ∷ t) ≡ None → ⊥
-later_slashes b t h none = grind (arith, common_steps)
-
--- a text that begins with these bytes, the last two being slashes, has slashes
-begins_and_has : (front t : Text) → begins_in_any_case t (front ++ codes "//") ≡ true → after_slashes t ≡ None → ⊥
-begins_and_has [] t e none = slashes_follow t e none
-begins_and_has (c ∷ front) [] e none = false≢true e
-begins_and_has (c ∷ front) (b ∷ t) e none =
-    later_slashes b t (begins_and_has front t (and_parts (to_ascii_lowercase b == to_ascii_lowercase c) (begins_in_any_case t (front ++ codes "//")) e).1) none
-
 pub web_link_has_slashes : (link : Text) → is_web_link link ≡ true → after_slashes link ≡ None → ⊥
 web_link_has_slashes link web none = grind (arith, common_steps)

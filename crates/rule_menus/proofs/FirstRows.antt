@@ -55,14 +55,6 @@ module _ (f : ℕ → Resolution) (p : ℕ → Bool) (own : (row place : ℕ) (l
   chosen_if_first zero from before row link h = absurd (omega (arith, h.after, h.there))
   chosen_if_first (suc n) from before row link h = by_test (p from) refl (λ last. chosen_if_first n (from + 1) last row link)
     where
-      -- the row is after the first one, if it is not that one
-      following : (row ≡ from → ⊥) → IsFirstFrom (from + 1) n row link
-      following other = grind (arith, common_steps)
-
-      by_link : (b : Bool) → is_link (f from) ≡ b → p from ≡ true → ChosenIfFirst (from + 1) n row link
-          → unwrap_or (cond b (Some (f from)) (find is_link (attempts (from + 1) n))) (last_resolution (f from) (attempts (from + 1) n)) ≡ Link row link
-      by_link b linked passes rest = grind (arith, common_steps)
-
       by_test : (b : Bool) → p from ≡ b → ChosenIfFirst (from + 1) n row link
           → chosen before (map f (if b then (from ∷ filter p (range_with_len (from + 1) n)) else filter p (range_with_len (from + 1) n))) ≡ Link row link
       by_test b passes rest = grind (arith, common_steps)

@@ -1,10 +1,10 @@
 -- Rules mean the same in the environment with the lists of their code as in the one with their own lists.
-use Rattle.std.proofs.Common.{◌≡◌, ℕ, List, [], Option, None, Bool, refl, sym, arith}
+use Rattle.std.proofs.Common.{◌≡◌, ℕ, List, [], Option, None, refl, sym, arith}
 use Rattle.std.specs.Prelude.{◌↔◌, All, if◌then◌else◌}
 use Rattle.std.proofs.lemmas.Grind.{common_steps}
 use Rattle.std.proofs.lemmas.List.Elements.{recursion_from_All}
 use Rattle.text_model.specs.Texts.{Text}
-use Rattle.environment_model.specs.Environment.{Environment, Meaning, look_up, is_there, text_of, members_of}
+use Rattle.environment_model.specs.Environment.{Environment, look_up, is_there, text_of, members_of}
 use Rattle.environment_model.specs.Lists.{is_list}
 use Rattle.code_model.specs.Code.{Code}
 use Rattle.machine_model.specs.Runs.{HasOutcome, Outcome}
@@ -47,14 +47,6 @@ module _ (laws : LawsBelow) where
   module _ (lists others : List Text) (cells : List NamedCell) (pairs : List KeyValue) where
     abbrev entries : Environment
     entries = row_of cells
-
-    -- a result that depends on the request only through the kind of the name
-    agrees : {X : Type 0} (read : Option Meaning → X) (by_kind : Bool → X) (name : Text)
-        → read (look_up (requested lists pairs) name) ≡ by_kind (is_list lists name)
-        → read (look_up (requested others pairs) name) ≡ by_kind (is_list others name)
-        → is_list lists name ≡ is_list others name
-        → read (look_up (filled lists entries pairs) name) ≡ read (look_up (filled others entries pairs) name)
-    agrees read by_kind name here there same = grind (arith, common_steps)
 
     text_agrees : (name : Text) → is_list lists name ≡ is_list others name
         → text_of (filled lists entries pairs) name ≡ text_of (filled others entries pairs) name
