@@ -38,10 +38,10 @@ module _ (c : Code) where
   kept_at p r h = kept_in (body_at c p) r h
 
   pub running_on : (p : ℕ) (r : Running) → Some r ≡ running_at c p → p + 1 < r.body.end → Some r ≡ running_at c (p + 1)
-  running_on p r h lt = grind (arith, the_body_at, body_on, add-one)
+  running_on p r h lt = grind (arith, body_on, add-one)
 
   pub running_off : (p : ℕ) (r : Running) → Some r ≡ running_at c p → r.body.end ≤ p + 1 → None ≡ running_at c (p + 1)
-  running_off p r h le = grind (arith, body_off, the_body_at, add-one)
+  running_off p r h le = grind (arith, body_off, add-one)
 
   pub running_opened : (p : ℕ) → None ≡ running_at c p → running_in c (opened c p (reading_at c p)) ≡ running_at c (p + 1)
   running_opened p h =

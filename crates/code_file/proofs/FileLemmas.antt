@@ -1,5 +1,5 @@
 -- A whole file, and its code.
-use Rattle.std.proofs.Common.{◌≡◌, ◌<◌, ◌≤◌, ◌+◌, ◌*◌, ◌-◌, ℕ, zero, suc, false, List, [], ◌∷◌, ◌++◌, length, take, drop, get_or, refl, sym, ◌∙◌, ap}
+use Rattle.std.proofs.Common.{◌≡◌, ◌<◌, ◌≤◌, ◌+◌, ◌*◌, ◌-◌, ℕ, zero, suc, false, List, [], ◌∷◌, ◌++◌, length, take, drop, get_or, sym, ◌∙◌, ap}
 use Rattle.std.proofs.lemmas.Grind.{common_steps}
 use Rattle.std.proofs.Common.{subst, arith, length-append}
 use Rattle.std.specs.Prelude.{◌==◌}
@@ -68,11 +68,6 @@ instrs_of (suc n) (op ∷ a ∷ b ∷ b' ∷ c ∷ c' ∷ d ∷ d' ∷ rest) h f
     (one.0 ∷ more.0, table_cons IsInstr instr_field n rest _ more.0 more.1 one.0 one.1 one.2)
 
 -- ---- tables and code
-
--- a header is its version and its three counts
-same_header : (h : Header) (n l i : ℕ) → n ≡ h.names → l ≡ h.literals → i ≡ h.instrs
-    → h ≡ record { version = h.version; names = n; literals = l; instrs = i }
-same_header h n l i p q r = rw (p, q, r) refl
 
 pub code_file_of : (bytes : Text) (h : Header) (names literals instrs : Text) → AreTables bytes h names literals instrs
     → length bytes ≤ MAX_BYTES → (ns : List Name) → IsTableOf IsCodeName name_field h.names names ns

@@ -73,7 +73,7 @@ literal_no_fault : (l : Literal) (rest : Text) (e : CodeError) → IsLiteral l �
 literal_no_fault l rest e good p = grind (arith, shaped_literal, literal_text_shape)
 
 one_literal : (x y : Literal) (s t : Text) → IsLiteral x → IsLiteral y → literal_field x ++ s ≡ literal_field y ++ t → (x ≡ y) × (s ≡ t)
-one_literal x y s t g h e = grind (arith, literal_text_shape, same_halves)
+one_literal x y s t g h e = grind (arith, same_halves)
 
 pub literals_apart : IsApart IsLiteral literal_field IsLiteralFault
 literals_apart = grind (arith, one_literal, literal_no_fault, one_literal_fault)

@@ -102,7 +102,7 @@ name_no_fault : (n : Name) (rest : Text) (e : CodeError) → IsCodeName n → Is
 name_no_fault n rest e good p = grind (arith, shaped_name, text_shape)
 
 one_name : (x y : Name) (s t : Text) → name_field x ++ s ≡ name_field y ++ t → (x ≡ y) × (s ≡ t)
-one_name x y s t h = grind (arith, same_halves, same_kind)
+one_name x y s t h = grind (arith, same_halves)
 
 pub names_apart : IsApart IsCodeName name_field IsNameFault
 names_apart = grind (arith, one_name, name_no_fault, one_name_fault)

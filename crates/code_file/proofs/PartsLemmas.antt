@@ -31,7 +31,7 @@ entries_le field some (x ∷ xs) =
     omega (arith, entries_le field some xs, some x, length-append (field x) (flat_map field xs))
 
 pub header_small : (c : Code) → IsVersion c.version → length (spelled c) ≤ MAX_BYTES → IsHeaderField (header_of c)
-header_small c known short = grind (arith, entries_le, length-instrs, length-append)
+header_small c known short = grind (arith, entries_le, length-append)
 
 -- ---- the first error of a name and of a literal
 

@@ -67,7 +67,7 @@ joins (b ∷ high ∷ low ∷ s) t h g =
     let one : is_uri_text (high ∷ low ∷ s) ≡ true → is_uri_text ((high ∷ low ∷ s) ++ t) ≡ true = λ k. joins (high ∷ low ∷ s) t k g in
     elim (chosen (is_triplet b high low) _ _ h) [
       | inl p ↦ rw p.0 (more p.1)
-      | inr p ↦ grind (arith, and_parts, is_uri_text-character, one)
+      | inr p ↦ grind (arith, and_parts, one)
     ]
 
 pub is_uri_text-from_set : {t : Text} → IsUriText t → is_uri_text t ≡ true

@@ -5,7 +5,6 @@ use Rattle.std.specs.Prelude.{All, min, not, sum_by, slice_get, if◌then◌else
 use Rattle.std.specs.List.{flat_map}
 use Rattle.std.specs.Str.{IsUtf8}
 use Rattle.std.proofs.lemmas.Bool.{cases_lt}
-use Rattle.std.proofs.lemmas.Bool.Decides.{nat_tests}
 use Rattle.std.proofs.lemmas.List.Elements.{All-nil, All-cons, All-head, All-tail, All-weaker}
 use Rattle.std.proofs.lemmas.List.Sums.{sum_by-cons}
 use Rattle.text_model.specs.Texts.{Text}
@@ -106,12 +105,12 @@ refused_long no_fault c e good fields fault = elim (cases_lt MAX_BYTES (length (
 
 pub file_passed : (names literals instrs bytes : ℕ) → names ≤ MAX_NAMES → literals ≤ MAX_LITERALS → instrs ≤ MAX_INSTRS
     → MAX_BYTES < bytes → first_passed names literals instrs bytes ≡ Some FileTooLong
-file_passed names literals instrs bytes n l i b = grind (arith, nat_tests)
+file_passed names literals instrs bytes n l i b = grind arith
 
 -- a count that stops at the largest number exceeds the limit exactly if the whole count does
 pub counted : (names literals lines n bytes : ℕ) → lines ≡ min n 18446744073709551615 → first_passed names literals lines bytes
     ≡ first_passed names literals n bytes
 counted names literals lines n bytes e = elim (cases_lt MAX_INSTRS n) [
-  | inl many ↦ grind (arith, nat_tests)
+  | inl many ↦ grind arith
   | inr few ↦ let same : lines ≡ n = omega arith in ap (λ k. first_passed names literals k bytes) same
 ]

@@ -11,10 +11,10 @@ use Rattle.uri_grammar.specs.Names.{is_name_character}
 use Rattle.code_file.specs.Grammar.{IsNameByte, IsCodeName}
 
 character_visible : (c : ℕ) → is_name_character c ≡ true → IsNameByte c
-character_visible c h = (grind (arith, nat_tests, h), grind (arith, nat_tests, h))
+character_visible c h = (grind (arith, h), grind (arith, nat_tests))
 
 hexadecimal_visible : (c : ℕ) → is_hexadecimal c ≡ true → IsNameByte c
-hexadecimal_visible c h = (grind (arith, nat_tests, h), grind (arith, nat_tests, h))
+hexadecimal_visible c h = (grind (arith, nat_tests), grind (arith, nat_tests))
 
 percent_visible : (c : ℕ) → (c == 37) ≡ true → IsNameByte c
 percent_visible c h = let same : c ≡ 37 = eqb-true c 37 h in (omega arith, omega arith)

@@ -38,9 +38,6 @@ module _ {X : Type 0} (same : X → X → Bool) (decides : (x y : X) → Decides
   firsts_push [] x = refl
   firsts_push (y ∷ xs) x = ap (λ zs. y ∷ filter (λ z. not (same y z)) zs) (firsts_push xs x) ∙ by_test (same x y) refl (list_any (same x) (firsts same xs)) refl
     where
-      others : List X
-      others = filter (λ z. not (same y z)) (firsts same xs)
-
       by_test : (b : Bool) → same x y ≡ b → (c : Bool) → list_any (same x) (firsts same xs) ≡ c
           → y ∷ filter (λ z. not (same y z)) (if c then firsts same xs else (firsts same xs ++ x ∷ []))
           ≡ (if same x y || list_any (same x) (filter (λ z. not (same y z)) (firsts same xs)) then (y ∷ filter (λ z. not (same y z)) (firsts same xs))

@@ -1,8 +1,8 @@
 -- The names of the code of rules are names of the grammar, each with the kind that the rules declare.
-use Rattle.std.proofs.Common.{arith, ◌≡◌, List, Bool, true, not, refl}
+use Rattle.std.proofs.Common.{arith, ◌≡◌, List, Bool, true, refl}
 use Rattle.std.proofs.lemmas.Grind.{common_steps}
 use Rattle.std.specs.Prelude.{All}
-use Rattle.std.proofs.lemmas.Bool.{and_parts, not-true}
+use Rattle.std.proofs.lemmas.Bool.{and_parts}
 use Rattle.text_model.specs.Texts.{Text}
 use Rattle.environment_model.specs.Lists.{is_list}
 use Rattle.code_model.specs.Code.{Name}
@@ -32,7 +32,7 @@ module _ (lists : List Text) where
   bound_declared b fits = grind (arith, common_steps)
 
   guard_declared : (g : Guard) → guard_fits lists g ≡ true → IsRightGuard KindIsRight lists g
-  guard_declared g fits = grind (arith, not-true, and_parts, not, bound_declared)
+  guard_declared g fits = grind (arith, and_parts, bound_declared)
 
 -- ---- the code of rules
 

@@ -4,7 +4,7 @@ use Rattle.std.specs.Prelude.{◌||◌, ◌&&◌, not, if◌then◌else◌, slic
 use Rattle.std.specs.List.{list_any, position_or_len}
 use Rattle.std.specs.Bool.{beq, Decides}
 use Rattle.std.specs.Str.{bytes_eq}
-use Rattle.std.proofs.lemmas.Bool.{and_from, and_parts, or_right}
+use Rattle.std.proofs.lemmas.Bool.{and_from, or_right}
 use Rattle.std.proofs.lemmas.Slice.Eq.{bytes_eq-Decides}
 use Rattle.std.proofs.lemmas.Grind.{common_steps}
 use Rattle.text_model.specs.Texts.{Text}
@@ -16,7 +16,7 @@ use Rattle.compiler_model.specs.Tables.{is_same_name, is_same_literal, firsts}
 -- equality of entries that consist of a text and a flag
 decides_both : {X : Type 0} (text : X → Text) (flag : X → Bool) → ((x y : X) → text x ≡ text y → flag x ≡ flag y → x ≡ y) → (x y : X)
     → Decides (bytes_eq (text x) (text y) && beq (flag x) (flag y)) (x ≡ y)
-decides_both text flag whole x y = grind (arith, and_parts, bytes_eq-Decides, and_from)
+decides_both text flag whole x y = grind (arith, bytes_eq-Decides, and_from)
 
 pub same_names : (n m : Name) → Decides (is_same_name n m) (n ≡ m)
 same_names = decides_both (λ (n : Name). n.text) (λ n. n.list) (λ n m text list t. record { list = list t; text = text t })
@@ -45,7 +45,7 @@ module _ {X : Type 0} (same : X → X → Bool) (decides : (x y : X) → Decides
       by_test : (b : Bool) → same x y ≡ b → (b || list_any (same x) xs) ≡ true → (IsAmong x xs → IsAmong x (firsts same xs))
           → (same x y || list_any (same x) (filter (λ z. not (same y z)) (firsts same xs))) ≡ true
       by_test true e h rest = rw e refl
-      by_test false e h rest = grind (arith, or_right, kept)
+      by_test false e h rest = grind (arith, kept)
 
   -- an entry is at its index
   pub at_index : (x : X) (xs : List X) → IsAmong x xs → slice_get xs (position_or_len (same x) xs) ≡ Some x

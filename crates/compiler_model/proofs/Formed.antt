@@ -1,6 +1,6 @@
 -- Blocks that are correctly assembled: their registers, counts and link texts are allowed, no loop is in a loop, and no jump leaves a loop. The blocks of rules
 -- are correctly assembled.
-use Rattle.std.proofs.Common.{◌≡◌, ℕ, ◌≤◌, List, [], ◌∷◌, ◌++◌, Bool, true, false, refl, arith}
+use Rattle.std.proofs.Common.{◌≡◌, ℕ, List, [], ◌∷◌, ◌++◌, Bool, true, false, refl, arith}
 use Rattle.std.specs.Prelude.{codes, nat_lt, nat_le, ◌&&◌, ◌||◌, All}
 use Rattle.std.specs.List.{AllByRecursion, list_any}
 use Rattle.std.proofs.lemmas.Bool.{or_right}
@@ -9,7 +9,6 @@ use Rattle.std.proofs.lemmas.Grind.{common_steps}
 use Rattle.text_model.specs.Texts.{Text, is_unreserved, is_reserved}
 use Rattle.text_model.specs.UriText.{IsUriText, nothing}
 use Rattle.text_model.proofs.UriTexts.{IsUriText-append, IsUriText-character}
-use Rattle.text_model.specs.declared.writing.Writing.{Writing}
 use Rattle.environment_model.specs.Lists.{is_list}
 use Rattle.uri_grammar.specs.declared.parts.Op.{Op}
 use Rattle.uri_grammar.specs.declared.parts.Op.TheVariants as operator
@@ -26,7 +25,7 @@ use Rattle.compiler_model.specs.declared.lines.Action.TheVariants.{LoadText, Loa
 use Rattle.compiler_model.specs.declared.lines.Test.{Test}
 use Rattle.compiler_model.specs.declared.lines.Test.TheVariants.{IsUndefined, IsEmpty, HasNoMember, HasNoNumber, Differs, IsLess}
 use Rattle.compiler_model.specs.Blocks.{Block, Nothing, Does, Then, Unless, Either, ForEach, LeaveIf, Leave}
-use Rattle.compiler_model.specs.Shapes.{loading, is_missing, guard_block, guards_block, lead_block, writing_action, named_block}
+use Rattle.compiler_model.specs.Shapes.{loading, is_missing, guard_block, guards_block, lead_block, named_block}
 use Rattle.compiler_model.specs.Shapes.{item_block, head_block, members_block, loaded_block, specs_block, part_block, parts_block, rule_block}
 use Rattle.compiler_model.specs.Compiled.{is_counts}
 
@@ -125,9 +124,6 @@ module _ (version : ℕ) where
   lead_formed : (first sep : Text) → IsUriText first → IsUriText sep → IsFormed version false (lead_block first sep)
   lead_formed first sep f s = grind (arith, common_steps)
 
-  writing_formed : (inside : Bool) (r : ℕ) → IsRegister r → (w : Writing) (n : ℕ) → n ≤ 9999 → IsFormedAction version inside (writing_action r w n)
-  writing_formed inside r h w n le = grind (arith, common_steps)
-
   named_formed : (inside : Bool) (ifemp : Text) (r : ℕ) → IsRegister r → (name : Text) → IsUriText name → (value : Action)
       → IsFormedAction version inside value → IsFormed version inside (named_block ifemp r name value)
   named_formed inside ifemp r h name u value f = grind (arith, equals_uri, named_uri)
@@ -145,7 +141,7 @@ module _ (version : ℕ) where
   members_formed style w name u true = (refl, refl, refl, ((refl, w.sep), item_formed true style 5 refl name u (Puts 5 style.writing) refl))
 
   loaded_formed : (list : Bool) (style : Style) → WritesUri style → (spec : Spec) → IsSoundSpec spec → IsFormed version false (loaded_block list style spec)
-  loaded_formed list style w spec h = grind (arith, members_formed, item_formed, writing_formed)
+  loaded_formed list style w spec h = grind (arith, members_formed, item_formed)
 
   specs_formed : (lists : List Text) (style : Style) → WritesUri style → (specs : List Spec) → All IsSoundSpec specs
       → IsFormed version false (specs_block lists style specs)

@@ -142,7 +142,7 @@ module _ (v : Environment) (lists : List Text) where
   pub same_brings : (name text : Text) (o : Option Text) → text_of v name ≡ o → (s : Store) (Q R : Claim) → Settles (is_text text o) s.output Q R
       → Brings v None (guard_block lists (guard.Same name text)) s Q R
   same_brings name text None e s Q R k = inl (ap text_or_undefined e, k _ refl)
-  same_brings name text (Some t) e s Q R k = grind (arith, keeping, bytes_eq-Decides)
+  same_brings name text (Some t) e s Q R k = grind (arith, bytes_eq-Decides)
 
   pub between_brings : (name : Text) (low high : Bound) → bounds_fit lists low high ≡ true → (o : Option Text) → text_of v name ≡ o → (s : Store) (Q R : Claim)
       → Settles (is_number_within (bound_number look low) (bound_number look high) (option_and_then leading_number o)) s.output Q R

@@ -33,10 +33,6 @@ module _ (v : Environment) (lists : List Text) where
   abbrev found : Text → List Text → Bool
   found text ts = list_any (λ t. bytes_eq t text) ts
 
-  -- whether or not earlier turns have found the text, it has been found now
-  found_now : (earlier : Bool) → (earlier || true) ≡ true
-  found_now earlier = grind (arith, common_steps)
-
   -- the turns of the loop of `holds`, when earlier ones have found the text or not
   turns_find : (text : Text) (ts : List Text) (first before : Bool) (s : Store) (Q : Claim) → s.registers 1 ≡ value.Text text
       → s.registers 2 ≡ value.Text (mark before) → ((n : Store) → n.registers 2 ≡ value.Text (mark (before || found text ts)) → n.output ≡ s.output → Q n)
@@ -64,7 +60,7 @@ module _ (v : Environment) (lists : List Text) where
 
       by_test : (b : Bool) → bytes_eq t text ≡ b → Found (before || (b || found text ts)) → (Found true → Later (keeping 2 (value.Text one) entered))
           → (Found (before || found text ts) → Later entered) → ((t ≡ text → ⊥) × Later entered) ⊎ ((t ≡ text) × Later (keeping 2 (value.Text one) entered))
-      by_test b h k there missing = grind (arith, bytes_eq-Decides, found_now)
+      by_test b h k there missing = grind (arith, bytes_eq-Decides)
 
   holds_brings : (name text : Text) (s : Store) (Q R : Claim) → Settles (found text (members_of v name)) s.output Q R
       → Brings v None (guard_block lists (guard.Holds name text)) s Q R
@@ -86,7 +82,7 @@ module _ (v : Environment) (lists : List Text) where
       same_brings v lists name text (text_of v name) refl s Q R (subst (λ o. Settles (is_text text o) s.output Q R) (text_looked v lists name z) k)
   guard_brings (guard.Holds name text) z s Q R k =
       holds_brings name text s Q R (subst (λ ts. Settles (found text ts) s.output Q R) (members_seen v lists (look_up v name) (is_list lists name) z) k)
-  guard_brings (guard.Between name low high) z s Q R k = grind (arith, and_parts, between_brings, look, text_looked)
+  guard_brings (guard.Between name low high) z s Q R k = grind (arith, and_parts, between_brings, text_looked)
   guard_brings (guard.Counts name low high) z s Q R k =
       let both = and_parts (is_list lists name) (bounds_fit lists low high) z in (
         members_of v name,

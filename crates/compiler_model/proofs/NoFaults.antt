@@ -146,7 +146,7 @@ module _ (c : Code) where
       (block_clean x version away (p + 1) last (Some (loop_body c p last a)) f.3 both.0 refl (omega (arith, eq2, lt)) (omega arith)
       (no_way (loop_body c p last a) last away) inside)
       (clean_one last q eq2 (next_good p last a both.1.0.reads end (omega (arith, eq2, lt)))))
-  block_clean (LeaveIf t) version away p q o f h eq lt room m at = grind (arith, none_outside, clean_one, test_good)
+  block_clean (LeaveIf t) version away p q o f h eq lt room m at = grind (arith, clean_one, test_good)
   block_clean Leave version away p q o f h eq lt room m at =
       let none = none_outside c o f in
       let out = m none in

@@ -104,12 +104,12 @@ module _ (v : Environment) where
             (k _ (simp append_assoc refl ∙ ap (λ y. s.output ++ (name ++ y)) (sym (equated_some style x b first.0 first.1)))),
       )
   named_brings style turn r n name t s Q R (c ∷ ifemp) i (inl h) e k = absurd (cc)
-  named_brings style turn r n name t s Q R (c ∷ ifemp) i (inr h) e k = grind (arith, value_brings, append_assoc, equated_always)
+  named_brings style turn r n name t s Q R (c ∷ ifemp) i (inr h) e k = grind (arith, append_assoc, equated_always)
 
   pub item_brings : (style : Style) → EndsName style.ifemp → (turn : Option Bool) (r n : ℕ) (name t : Text) (s : Store) (Q R : Claim)
       → s.registers r ≡ value.Text t → Adds s (item style name (prefix style.writing n t)) Q
       → Brings v turn (item_block style r name (writing_action r style.writing n)) s Q R
-  item_brings style h turn r n name t s Q R e k = grind (arith, named_brings, value_brings)
+  item_brings style h turn r n name t s Q R e k = grind (arith, named_brings)
 
   -- ---- members
 

@@ -18,7 +18,7 @@ use Rattle.compiler_model.specs.declared.lines.Line.TheVariants.{Acts, Tests, Ju
 use Rattle.compiler_model.specs.Blocks.{Block, Nothing, Does, Then, Unless, Either, ForEach, LeaveIf, Leave, lines}
 use Rattle.compiler_model.specs.Tables.{name_entry, literal_entry, name_index, literal_index}
 use Rattle.compiler_model.specs.Compiled.{mode_of, line_instruction}
-use Rattle.compiler_model.proofs.Places.{HasText, IsPlaced}
+use Rattle.compiler_model.proofs.Places.{IsPlaced}
 use Rattle.compiler_model.proofs.Formed.{IsRegister, IsFormedAction, IsFormedTest, IsFormed}
 
 -- ---- lines of blocks that are correctly assembled
@@ -63,9 +63,6 @@ module _ (c : Code) where
 
   mode_right : (w : Writing) → nat_le (mode_of w) 1 ≡ true
   mode_right w = grind (arith, common_steps)
-
-  text_meant : (line : Line) → HasEntries c line → HasText c line
-  text_meant line h = grind (arith, common_steps)
 
   abbrev instruction_at : ℕ → ℕ → Line → Instruction
   instruction_at away place line = line_instruction c.names c.literals away place line
@@ -119,4 +116,4 @@ module _ (c : Code) where
   -- the instruction of a line is at its place
   pub placed : (away place : ℕ) (line : Line) → IsFormedLine c.version line → HasEntries c line
       → slice_get c.instrs place ≡ Some (spelling (instruction_at away place line)) → IsPlaced c away place line
-  placed away place line f h at = grind (arith, version_knows, operands_right, text_meant)
+  placed away place line f h at = grind (arith, version_knows, operands_right)

@@ -95,7 +95,7 @@ module _ (trees : TreesAreSound) (rules : RuleSet) (sound : IsSound rules) where
 
   settled_at : (place : ℕ) → IsSettled (code_of rules) table place
   unfolding table
-  settled_at place ks e = grind (arith, rules_rows, slice_get_within, all_settled, length-rules_rows, code_length)
+  settled_at place ks e = grind (arith, slice_get_within, all_settled, length-rules_rows, code_length)
 
   pub code_typable : IsTypable (code_of rules)
   code_typable =

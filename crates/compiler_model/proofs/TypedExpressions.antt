@@ -55,7 +55,7 @@ item_typed style r name w n ks ms h below = by_test style.named style.ifemp
     named (b ∷ ifemp) = (ks, (tt, exactly ks), writing_typed r w n ks ms h below)
 
     by_test : (b : Bool) (ifemp : Text) → Typed (if b then named_block ifemp r name (writing_action r w n) else Does (writing_action r w n)) ks ms
-    by_test b ifemp = grind (arith, named, writing_typed)
+    by_test b ifemp = grind (arith, named)
 
 head_typed : (named : Bool) (name : Text) (ks : Kinds) → Typed (head_block named name) ks ks
 head_typed named name ks = grind (arith, common_steps)

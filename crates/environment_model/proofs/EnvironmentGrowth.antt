@@ -1,15 +1,8 @@
 -- How much an environment grows at most when a text or a member is added.
-use Rattle.std.proofs.Common.{ℕ, ◌+◌, ◌≤◌, [], ◌∷◌, length, arith}
+use Rattle.std.proofs.Common.{◌+◌, ◌≤◌, [], ◌∷◌, length, arith}
 use Rattle.std.proofs.lemmas.Grind.{common_steps}
 use Rattle.text_model.specs.Texts.{Text}
-use Rattle.environment_model.specs.Environment.{Entry, Environment, meaning_bytes, meaning_members, byte_count}
-use Rattle.environment_model.specs.Environment.{member_count, with_text, with_member}
-
-abbrev entry_bytes : Entry → ℕ
-entry_bytes e = meaning_bytes e.meaning
-
-abbrev entry_members : Entry → ℕ
-entry_members e = meaning_members e.meaning
+use Rattle.environment_model.specs.Environment.{Environment, byte_count, member_count, with_text, with_member}
 
 -- ---- a text is added
 

@@ -36,7 +36,7 @@ with_member-other e env name t other = rw other refl
 
 -- an entry with another name does not matter for the name
 pub other_in_front : (e : Entry) (env : Environment) (name : Text) → is_there (e ∷ env) name ≡ false → bytes_eq e.name name ≡ false
-other_in_front e env name absent = grind (arith, bytes_eq, is_some, look_up-same)
+other_in_front e env name absent = grind (arith, look_up-same)
 
 pub absent_after : (e : Entry) (env : Environment) (name : Text) → is_there (e ∷ env) name ≡ false → is_there env name ≡ false
 absent_after e env name absent = ap is_some (sym (look_up-other e env name (other_in_front e env name absent))) ∙ absent
@@ -79,12 +79,9 @@ pub with_member-text : (env : Environment) (name t : Text) → is_some (text_of 
 with_member-text [] name t is_text = let none : is_some (text_of [] name) ≡ false = ap (λ o. is_some (text_in o)) (look_up-empty name) in absurd (cc)
 with_member-text (e ∷ env) name t is_text = by_cases (bytes_eq e.name name) refl (with_member-text env name t)
   where
-    keeps : (m : Meaning) → is_some (text_in (Some m)) ≡ true → more m t ≡ m
-    keeps m h = grind (arith, common_steps)
-
     by_cases : (b : Bool) → bytes_eq e.name name ≡ b → (is_some (text_of env name) ≡ true → with_member env name t ≡ env)
         → with_member (e ∷ env) name t ≡ e ∷ env
-    by_cases b same following = grind (arith, with_member-same, keeps, is_some, look_up-same, with_member-other, look_up-other)
+    by_cases b same following = grind (arith, with_member-same, look_up-same, with_member-other, look_up-other)
 
 -- ---- E and M
 
@@ -115,7 +112,7 @@ more_members m t h = grind (arith, common_steps)
 
 pub byte_count-with_member : (env : Environment) (name t : Text) → is_some (text_of env name) ≡ false → byte_count (with_member env name t)
     ≡ byte_count env + length t
-byte_count-with_member [] name t no_text = grind (arith, with_member-empty, byte_count-push, sum_by_push)
+byte_count-with_member [] name t no_text = grind (arith, with_member-empty, sum_by_push)
 byte_count-with_member (e ∷ env) name t no_text = by_cases (bytes_eq e.name name) refl (byte_count-with_member env name t)
   where
     by_cases : (b : Bool) → bytes_eq e.name name ≡ b → (is_some (text_of env name) ≡ false → byte_count (with_member env name t) ≡ byte_count env + length t)
@@ -126,7 +123,7 @@ byte_count-with_member (e ∷ env) name t no_text = by_cases (bytes_eq e.name na
         let before = byte_count-cons e env in
         let after = byte_count-cons (record { name = e.name; meaning = more e.meaning t }) env in
         ap byte_count (with_member-same e env name t same) ∙ omega arith
-    by_cases false other following = grind (arith, is_some, look_up-other, byte_count-cons, with_member-other)
+    by_cases false other following = grind (arith, look_up-other, byte_count-cons, with_member-other)
 
 pub member_count-with_member : (env : Environment) (name t : Text) → is_some (text_of env name) ≡ false → member_count (with_member env name t)
     ≡ member_count env + 1
@@ -142,7 +139,7 @@ member_count-with_member (e ∷ env) name t no_text = by_cases (bytes_eq e.name 
         let before = member_count-cons e env in
         let after = member_count-cons (record { name = e.name; meaning = more e.meaning t }) env in
         ap member_count (with_member-same e env name t same) ∙ omega arith
-    by_cases false other following = grind (arith, is_some, look_up-other, member_count-cons, with_member-other)
+    by_cases false other following = grind (arith, look_up-other, member_count-cons, with_member-other)
 
 -- ---- which names are defined
 
@@ -153,8 +150,8 @@ is_there-with_member (e ∷ env) name t other there = by_cases (bytes_eq e.name 
   where
     front : (e e' : Entry) (es es' : Environment) → e.name ≡ e'.name → is_there es other ≡ is_there es' other
         → is_there (e ∷ es) other ≡ is_there (e' ∷ es') other
-    front e e' es es' same following = grind (arith, bytes_eq, is_some, look_up-same, look_up-other)
+    front e e' es es' same following = grind (arith, look_up-same, look_up-other)
 
     by_cases : (b : Bool) → bytes_eq e.name name ≡ b → (is_there env name ≡ true → is_there (with_member env name t) other ≡ is_there env other)
         → is_there (with_member (e ∷ env) name t) other ≡ is_there (e ∷ env) other
-    by_cases b same following = grind (arith, with_member-same, front, is_some, look_up-other, with_member-other)
+    by_cases b same following = grind (arith, with_member-same, front, look_up-other, with_member-other)

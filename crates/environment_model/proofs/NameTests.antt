@@ -8,7 +8,7 @@ pub itself : (name : Text) → bytes_eq name name ≡ true
 itself name = (bytes_eq-Decides name name).1 refl
 
 pub differs_back : (a b : Text) → bytes_eq a b ≡ false → bytes_eq b a ≡ false
-differs_back a b differs = grind (arith, bytes_eq, bytes_eq-Decides)
+differs_back a b differs = grind (arith, bytes_eq-Decides)
 
 pub undefined : (found : Option Meaning) → is_some found ≡ false → found ≡ None
 undefined None absent = refl

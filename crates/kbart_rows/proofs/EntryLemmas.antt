@@ -26,9 +26,6 @@ HasSoFar keys print online rows done entries = (row : ℕ) (id : Text) → row <
 its_own : (keys : Keys) (row : ℕ) (id : Text) (found : Option Text) → is_id id found ≡ true → Contains (entries_for keys row found) (entry_for keys row id)
 its_own keys row id found is = grind (arith, bytes_eq-Decides)
 
-at_most_one : (keys : Keys) (row : ℕ) (found : Option Text) → length (entries_for keys row found) ≤ 1
-at_most_one keys row found = grind (arith, common_steps)
-
 small_row : (keys : Keys) (row : ℕ) (found : Option Text) → row < 4294967296 → AreSmall (entries_for keys row found)
 small_row keys row found small = grind (arith, common_steps)
 
@@ -59,7 +56,7 @@ has_more keys print online rows row cells old at so_far other id less has = by_t
     by_test : (x : Bool) → nat_lt other row ≡ x
         → Contains ((old ++ entries_for keys row (identifier_in cells print)) ++ entries_for keys row (identifier_in cells online)) (entry_for keys other id)
     by_test true early =
-        let before : other < row = grind (arith, nat_tests) in
+        let before : other < row = grind arith in
         Contains-append_left (old ++ entries_for keys row (identifier_in cells print)) (entries_for keys row (identifier_in cells online)) (entry_for
         keys other id)
         (Contains-append_left old (entries_for keys row (identifier_in cells print)) (entry_for keys other id) (so_far other id before has))

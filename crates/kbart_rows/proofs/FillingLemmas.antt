@@ -14,7 +14,7 @@ use Rattle.environment_model.proofs.EnvironmentGrowth.{byte_count-with_text-le}
 use Rattle.target_vars.specs.declared.env.TheConstants.{MAX_BYTES}
 use Rattle.target_vars.specs.declared.error.VarsError.{VarsError}
 use Rattle.target_vars.specs.declared.error.VarsError.TheVariants.{TooLarge, NoMemory}
-use Rattle.kbart_rows.specs.Cells.{Row, NamedCell, cell_bytes, column_of, name_cell, named_cell, named_cells, row_bytes}
+use Rattle.kbart_rows.specs.Cells.{Row, NamedCell, cell_bytes, column_of, named_cell, named_cells, row_bytes}
 use Rattle.kbart_rows.specs.Private.Kept.{cell_at_first, IsRefusedCell}
 use Rattle.kbart_rows.proofs.FirstColumns.{item_at}
 use Rattle.kbart_rows.proofs.Rows.{range_parts}
@@ -82,7 +82,7 @@ one_cell env (Some cell) = refl
 pub filled_more : (old : Environment) (header cells : Row) (column : ℕ)
     → with_defined (with_named_cells old (filter_map (named_cell header cells) (range_with_len 0 column))) (named_cell header cells column)
     ≡ with_named_cells old (filter_map (named_cell header cells) (range_with_len 0 (column + 1)))
-filled_more old header cells column = grind (arith, one_cell, fold-append, filter_map-append, range_more)
+filled_more old header cells column = grind (arith, fold-append, filter_map-append, range_more)
 
 -- the first of the names that are left is that of the column, and the first of the cells that are left is its cell
 pub record ColumnAt (header row : Row) (column : ℕ) (name cell : Text) (other_names : Row) (found : Option ℕ) : Type 0 where
@@ -120,9 +120,6 @@ stops_at old now new header cells column (Some cell) e inside is so_far unchange
     }
 
 -- ---- the bytes of a row's cells
-
-name_bytes : (name cell : Text) → cell_bytes (cons_option (name_cell name cell) []) ≤ length cell
-name_bytes name cell = grind (arith, common_steps)
 
 column_bytes : (header cells : Row) (column : ℕ) → cell_bytes (cons_option (named_cell header cells column) []) ≤ length (get_or cells column [])
 column_bytes header cells column = grind (arith, common_steps)

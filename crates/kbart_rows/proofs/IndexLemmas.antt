@@ -20,7 +20,7 @@ starts_rise shift entries starts bucket are inside = by_test (nat_lt (get_or sta
   where
     by_test : (b : Bool) → nat_lt (get_or starts (bucket + 1) 0) (get_or starts bucket 0) ≡ b → get_or starts bucket 0 ≤ get_or starts (bucket + 1) 0
     by_test true less =
-        let small : get_or starts (bucket + 1) 0 < get_or starts bucket 0 = grind (arith, nat_tests) in
+        let small : get_or starts (bucket + 1) 0 < get_or starts bucket 0 = grind arith in
         let entry : Entry = record { hash = 0; row = 0 } in
         let k = get_or starts (bucket + 1) 0 in
         let within = are.within bucket (omega (arith, inside)) in
@@ -28,7 +28,7 @@ starts_rise shift entries starts bucket are inside = by_test (nat_lt (get_or sta
         let before = are.before bucket k entry (omega (arith, inside)) small here in
         let after = are.after (bucket + 1) k entry inside (omega arith) here in
         absurd (omega (arith, before, after))
-    by_test false more = grind (arith, nat_tests)
+    by_test false more = grind arith
 
 -- all entries before the bucket's start are before its hashes
 pub before_start : (shift : ℕ) (entries : List Entry) (starts : List ℕ) (hash k : ℕ) (d : Entry) → AreStarts shift entries starts
@@ -36,9 +36,9 @@ pub before_start : (shift : ℕ) (entries : List Entry) (starts : List ℕ) (has
 before_start shift entries starts hash k d are inside small within = by_test (nat_lt (get_or entries k d).hash hash) refl
   where
     by_test : (b : Bool) → nat_lt (get_or entries k d).hash hash ≡ b → (get_or entries k d).hash < hash
-    by_test true less = grind (arith, nat_tests)
+    by_test true less = grind arith
     by_test false more =
-        let large : hash ≤ (get_or entries k d).hash = grind (arith, nat_tests) in
+        let large : hash ≤ (get_or entries k d).hash = grind arith in
         let before = are.before (bucket_of shift hash) k d inside small within in
         absurd (omega (arith, before, buckets_rise shift hash (get_or entries k d).hash large))
 
@@ -50,7 +50,7 @@ after_end shift entries starts hash k d are inside large within = by_test (nat_l
     by_test : (b : Bool) → nat_lt hash (get_or entries k d).hash ≡ b → hash < (get_or entries k d).hash
     by_test true less = grind (arith, nat_tests)
     by_test false more =
-        let small : (get_or entries k d).hash ≤ hash = grind (arith, nat_tests) in
+        let small : (get_or entries k d).hash ≤ hash = grind arith in
         let after = are.after (bucket_of shift hash + 1) k d inside large within in
         absurd (omega (arith, after, buckets_rise shift (get_or entries k d).hash hash small))
 
@@ -62,7 +62,7 @@ pub place_before : (shift : ℕ) (entries : List Entry) (starts : List ℕ) (has
 place_before shift entries starts hash row start place are small inside is before k d below within = by_test (nat_lt k start) refl
   where
     by_test : (b : Bool) → nat_lt k start ≡ b → entry_key (get_or entries k d) < key_of hash row
-    by_test b less = grind (arith, nat_tests, before_start, inside, within, before)
+    by_test b less = grind (arith, before_start, inside, within, before)
 
 pub place_after : (shift : ℕ) (entries : List Entry) (starts : List ℕ) (hash row end place : ℕ) → AreStarts shift entries starts → row < 4294967296
     → bucket_of shift hash + 1 < length starts → end ≡ get_or starts (bucket_of shift hash + 1) 0
@@ -71,13 +71,13 @@ pub place_after : (shift : ℕ) (entries : List Entry) (starts : List ℕ) (hash
 place_after shift entries starts hash row end place are small inside is after k d above within = by_test (nat_lt k end) refl
   where
     by_test : (b : Bool) → nat_lt k end ≡ b → key_of hash row ≤ entry_key (get_or entries k d)
-    by_test b less = grind (arith, nat_tests, after, after_end, inside, within)
+    by_test b less = grind (arith, nat_tests, after_end, inside, within)
 
 -- ---- how the starts are found
 
 pub hashes_rise : (entries : List Entry) (i j : ℕ) (d : Entry) → IsOrdered entries → AreSmall entries → i ≤ j → j < length entries
     → (get_or entries i d).hash ≤ (get_or entries j d).hash
-hashes_rise entries i j d order small le inside = grind (arith, inside)
+hashes_rise entries i j d order small le inside = grind arith
 
 -- the starts of that many buckets
 pub record AreSoFar (shift : ℕ) (entries : List Entry) (starts : List ℕ) (buckets at : ℕ) : Type 0 where
@@ -113,9 +113,6 @@ one_start_more shift entries starts buckets at start order small so_far later in
     last : (bucket : ℕ) → bucket < length (starts ++ start ∷ []) → nat_lt bucket (length starts) ≡ false
         → (bucket ≡ buckets) × (get_or (starts ++ start ∷ []) bucket 0 ≡ start)
     last bucket few more = grind (arith, common_steps)
-
-    first : (bucket : ℕ) → nat_lt bucket (length starts) ≡ true → (bucket < length starts) × (get_or (starts ++ start ∷ []) bucket 0 ≡ get_or starts bucket 0)
-    first bucket less = grind (arith, common_steps)
 
     by_before : (bucket k : ℕ) (d : Entry) → bucket < length (starts ++ start ∷ []) → k < get_or (starts ++ start ∷ []) bucket 0 → k < length entries
         → (b : Bool) → nat_lt bucket (length starts) ≡ b → bucket_of shift (get_or entries k d).hash < bucket

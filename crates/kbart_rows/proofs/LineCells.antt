@@ -1,7 +1,6 @@
 -- Where a row's cells are in its line.
 use Rattle.std.proofs.Common.{count_by, Bor, ◌≡◌, ◌≢◌, ℕ, ◌==◌, ◌≤◌, true, false, zero, suc, List, [], ◌∷◌, ◌++◌, length, map, get_or, All, Option, Some, None}
 use Rattle.std.proofs.Common.{refl, sym, ap, ◌∙◌, arith, append_assoc, length-append, if◌then◌else◌}
-use Rattle.std.proofs.lemmas.Bool.Decides.{nat_tests}
 use Rattle.std.proofs.lemmas.List.Elements.{All-head, All-tail}
 use Rattle.std.proofs.lemmas.Option.{same_Some, none-some}
 use Rattle.std.specs.List.{sum_by}
@@ -18,7 +17,7 @@ unfolding cells_in
 no_cells = refl
 
 is_no_tab : (b : ℕ) → b ≢ tab → (b == tab) ≡ false
-is_no_tab b other = grind (arith, nat_tests)
+is_no_tab b other = grind arith
 
 -- a cell without a tab, and its tab
 pub first_cell : (cell rest : Text) → HasNoTab cell → cells_in (cell ++ tab ∷ rest) ≡ cell ∷ cells_in rest

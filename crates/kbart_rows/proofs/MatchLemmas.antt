@@ -1,7 +1,7 @@
 -- The rows that match, found by runs through an index.
 use Rattle.std.proofs.Common.{◌≡◌, ℕ, ◌+◌, ◌≤◌, ◌<◌, ◌||◌, Bool, true, false, cond, zero, suc, List, [], ◌∷◌, Option, Some, None, filter, get_or, length, codes}
 use Rattle.std.proofs.lemmas.Grind.{common_steps}
-use Rattle.std.proofs.Common.{refl, sym, subst, arith, nat_le, true≢false}
+use Rattle.std.proofs.Common.{refl, sym, subst, arith, true≢false}
 use Rattle.std.specs.List.{list_any, range_with_len}
 use Rattle.text_model.specs.Texts.{Text}
 use Rattle.kbart_rows.specs.Cells.{Holdings, Row, column_of}
@@ -16,11 +16,6 @@ use Rattle.kbart_rows.specs.declared.runs.Runs.{Runs}
 use Rattle.kbart_rows.proofs.RunLemmas.{HasLow, ahead_passed, head_is, head_low, least_low, left_less, left_of, left_passed, one_of}
 
 -- ---- the rows that match
-
-past_end : (rows : List Row) (row : ℕ) → length rows ≤ row → get_or rows row [] ≡ []
-past_end [] row past = refl
-past_end (first ∷ rows) zero past = absurd (omega (arith, past))
-past_end (first ∷ rows) (suc row) past = past_end rows row (omega (arith, past))
 
 -- a row with an identifier is one of the rows
 pub has_within : (print online : Option ℕ) (rows : List Row) (id : Text) (row : ℕ) → has_identifier (print ∷ online ∷ []) id (get_or rows row []) ≡ true
@@ -115,14 +110,6 @@ first_in : (test : ℕ → Bool) (from row : ℕ) → test row ≡ true → from
 first_in test from row is low least first zero after before = absurd (omega (arith, after, before))
 first_in test from row is low least first (suc n) after before = by_test (first_in test from row is low least (first + 1) n) (test first) refl
   where
-    later : (first + 1 ≤ row → row < first + 1 + n → first_from from (filter test (range_with_len (first + 1) n)) ≡ Some row) → (first ≡ row → ⊥)
-        → first_from from (filter test (range_with_len (first + 1) n)) ≡ Some row
-    later next other = grind (arith, common_steps)
-
-    by_from : (first + 1 ≤ row → row < first + 1 + n → first_from from (filter test (range_with_len (first + 1) n)) ≡ Some row) → test first ≡ true
-        → (b : Bool) → nat_le from first ≡ b → cond b (Some first) (first_from from (filter test (range_with_len (first + 1) n))) ≡ Some row
-    by_from next passes b le = grind (arith, common_steps)
-
     by_test : (first + 1 ≤ row → row < first + 1 + n → first_from from (filter test (range_with_len (first + 1) n)) ≡ Some row) → (b : Bool) → test first ≡ b
         → first_from from (cond b (first ∷ filter test (range_with_len (first + 1) n)) (filter test (range_with_len (first + 1) n))) ≡ Some row
     by_test next b passes = grind (arith, common_steps)
@@ -137,13 +124,9 @@ pub none_in : (test : ℕ → Bool) (from : ℕ) → ((row : ℕ) → test row �
 none_in test from none first zero = refl
 none_in test from none first (suc n) = by_test (none_in test from none (first + 1) n) (test first) refl
   where
-    by_from : first_from from (filter test (range_with_len (first + 1) n)) ≡ None → test first ≡ true → (b : Bool) → nat_le from first ≡ b
-        → cond b (Some first) (first_from from (filter test (range_with_len (first + 1) n))) ≡ None
-    by_from next passes b le = grind (arith, common_steps)
-
     by_test : first_from from (filter test (range_with_len (first + 1) n)) ≡ None → (b : Bool) → test first ≡ b
         → first_from from (cond b (first ∷ filter test (range_with_len (first + 1) n)) (filter test (range_with_len (first + 1) n))) ≡ None
-    by_test next b passes = grind (arith, by_from)
+    by_test next b passes = grind arith
 
 abbrev pub all_left : Runs → ℕ
 all_left runs = left_of runs.entries.now runs.first + left_of runs.entries.now runs.second + left_of runs.entries.now runs.third
@@ -152,4 +135,4 @@ all_left runs = left_of runs.entries.now runs.first + left_of runs.entries.now r
 pub less_left : (old new : Runs) (row : ℕ) → new.entries ≡ old.entries → new.first ≡ passed old.entries.now row old.first
     → new.second ≡ passed old.entries.now row old.second → new.third ≡ passed old.entries.now row old.third → least old ≡ Some row
     → all_left new < all_left old
-less_left old new row entries first second third is = grind (arith, one_of, left_less, left_passed)
+less_left old new row entries first second third is = grind (arith, left_less, left_passed)

@@ -14,7 +14,7 @@ use Rattle.kbart_rows.specs.Identifiers as spec
 use Rattle.kbart_rows.specs.Private.Normal.{normal}
 
 high_counts : (b : ℕ) → 128 ≤ b → spec.counts b ≡ true
-high_counts b high = grind (arith, high, nat_tests)
+high_counts b high = grind (arith, nat_tests)
 
 high_stays : (b : ℕ) → 128 ≤ b → to_ascii_uppercase b ≡ b
 high_stays b high = grind (arith, common_steps)
@@ -37,17 +37,17 @@ high_bytes c high k d within =
   where
     by_test : (x : Bool) → nat_lt (get_or (encode c) k d) 128 ≡ x → get_or (encode c) k d ≡ get_or (encode c) k 0 → 128 ≤ get_or (encode c) k d
     by_test true low same =
-        let small : get_or (encode c) k 0 < 128 = grind (arith, nat_tests) in
+        let small : get_or (encode c) k 0 < 128 = grind arith in
         let is = inside_one c [] (encode c) k (sym (append-nil (encode c))) within small in
         absurd (omega (arith, is, small, high))
-    by_test false past same = grind (arith, nat_tests)
+    by_test false past same = grind arith
 
 one_character : (c : ℕ) → normal (encode c) ≡ cond (spec.counts c) (encode (to_ascii_uppercase c)) []
 one_character c = grind (arith, nat_tests, encode_ascii, uppercase_ascii, all_high, high_bytes, high_counts, high_stays)
 
 characters : (cs : List ℕ) → normal (encode_utf8_all cs) ≡ encode_utf8_all (map to_ascii_uppercase (filter spec.counts cs))
 characters [] = refl
-characters (c ∷ cs) = grind (arith, normal_append, one_character, cond, characters cs)
+characters (c ∷ cs) = grind (arith, normal_append, one_character, characters cs)
 
 pub normal_bytes : (text : Text) → IsUtf8 text → normal text ≡ spec.normalised text
 normal_bytes text utf8 = ap normal (sym (encodes-chars text utf8)) ∙ characters (chars text)

@@ -3,7 +3,7 @@ use Rattle.std.proofs.Common.{Bor, ◌≡◌, ◌≢◌, ℕ, ◌<◌, true, fal
 use Rattle.std.proofs.lemmas.Grind.{common_steps}
 use Rattle.std.proofs.Common.{get_or, IsUtf8, refl, sym, ap, subst, ◌∙◌, inl, inr, arith}
 use Rattle.std.proofs.lemmas.Bool.{and_parts}
-use Rattle.std.proofs.lemmas.List.Elements.{All-append, All-cons, All-nil, All-tail}
+use Rattle.std.proofs.lemmas.List.Elements.{All-append, All-nil, All-tail}
 use lib.Utf8.{encode, encodes, scalar, scalar_cases, scalars}
 use Rattle.csv.specs.Machine.{Read, next_record}
 use Rattle.csv.specs.Reading.{Reached, Ready, ReadRecord, is_bom, source_of, strip_bom}
@@ -21,9 +21,6 @@ use Rattle.kbart_rows.specs.Reading.{tab_separated, AreLines, AreFirstLines}
 use Rattle.kbart_rows.proofs.WholeLines.{AreAlike, IsBetween, IsUnseparated, lines_alike, whole_lines}
 
 -- ---- no byte of UTF-8 text separates fields of whole lines
-
-one : (b : ℕ) (rest : Text) → b < 255 → IsUnseparated rest → IsUnseparated (b ∷ rest)
-one b rest small free = All-cons (λ b. b ≢ no_byte) b rest (λ same. omega (arith, same, small)) free
 
 none : IsUnseparated []
 none = All-nil (λ b. b ≢ no_byte)

@@ -1,7 +1,6 @@
 -- Matching rows one after another.
 use Rattle.std.proofs.Common.{◌≡◌, ℕ, ◌+◌, ◌≤◌, ◌<◌, Bool, true, false, cond, zero, suc, List, [], ◌∷◌, All, Some, None, filter, refl, sym, ap, ◌∙◌, arith}
 use Rattle.std.proofs.Common.{nat_le, get_or, length}
-use Rattle.std.proofs.lemmas.Bool.Decides.{nat_tests}
 use Rattle.std.proofs.lemmas.List.FromFn.{length-range_with_len, get_or-range_with_len}
 use Rattle.std.proofs.lemmas.List.Kept.{AllPairs-filter}
 use Rattle.std.proofs.lemmas.List.Elements.{All-cons, All-head, All-nil, All-tail, All-weaker}
@@ -48,7 +47,7 @@ all_from : (from : ℕ) (rows : List ℕ) → All (λ row. from ≤ row) rows �
 all_from from [] low = refl
 all_from from (row ∷ rows) low =
     let here : from ≤ row = All-head (λ row. from ≤ row) row rows low in
-    let passes : nat_le from row ≡ true = grind (arith, nat_tests) in
+    let passes : nat_le from row ≡ true = grind arith in
     rw passes (ap (λ rest. row ∷ rest) (all_from from rows (All-tail (λ row. from ≤ row) row rows low)))
 
 pub all_from_start : (rows : List ℕ) → filter (nat_le 0) rows ≡ rows
@@ -82,11 +81,11 @@ first_and_rest from row (next ∷ rows) rise found = by_test (nat_le from next) 
         → cond b (next ∷ filter (nat_le from) rows) (filter (nat_le from) rows) ≡ row ∷ filter (nat_le (row + 1)) (next ∷ rows)
     by_test true passes rest here =
         let same : next ≡ row = same_Some next row here in
-        let low : from ≤ next = grind (arith, nat_tests) in
-        let past : nat_le (row + 1) next ≡ false = grind (arith, nat_tests) in
+        let low : from ≤ next = grind arith in
+        let past : nat_le (row + 1) next ≡ false = grind arith in
         let above : (bound : ℕ) → bound ≤ next + 1 → All (λ other. bound ≤ other) rows =
         λ bound small k d within. let more = rise 0 (suc k) d (omega arith) (omega (arith, within)) in omega (arith, more, small) in
         let kept = all_from from rows (above from (omega (arith, low))) in
         let kept_on = all_from (row + 1) rows (above (row + 1) (omega (arith, same))) in
         rw past (ap (λ others. next ∷ others) kept ∙ ap (λ first. first ∷ rows) same ∙ ap (λ others. row ∷ others) (sym kept_on))
-    by_test false fails rest later = grind (arith, first_is_from, nat_tests)
+    by_test false fails rest later = grind (arith, first_is_from)

@@ -2,8 +2,7 @@
 use Rattle.std.proofs.Common.{◌≡◌, ℕ, ◌-◌, ◌≤◌, ◌<◌, ◌==◌, true, zero, suc, List, Option, Some, None, get_or, length, ap, arith}
 use Rattle.std.proofs.lemmas.Grind.{common_steps}
 use Rattle.std.proofs.lemmas.Bool.{eqb-true}
-use Rattle.std.proofs.lemmas.Bool.Decides.{nat_tests}
-use Rattle.std.proofs.lemmas.Option.{get_or_from_slice_get, none-some, same_Some, slice_get-get_or, slice_get_within}
+use Rattle.std.proofs.lemmas.Option.{get_or_from_slice_get, none-some, slice_get-get_or, slice_get_within}
 use Rattle.std.specs.List.{Contains}
 use Rattle.kbart_rows.specs.Private.Index.{IsAhead, IsOrdered, head_of, passed, row_at}
 use Rattle.kbart_rows.specs.Private.Kept.{lesser_of}
@@ -44,12 +43,12 @@ head_low entries from wanted row run order ahead small has low =
 -- a run that has reached a row is at an entry with that row
 pub head_is : (entries : List Entry) (run : Run) (row : ℕ) (d : Entry) → head_of entries run ≡ Some row
     → (run.at < length entries) × ((get_or entries run.at d).row ≡ row)
-head_is entries run row d is = grind (arith, same_Some, none-some, get_or_from_slice_get, slice_get_within)
+head_is entries run row d is = grind (arith, none-some, get_or_from_slice_get, slice_get_within)
 
 -- a run that passes a row is ahead of the later rows
 pub ahead_passed : (entries : List Entry) (from to wanted row : ℕ) (run : Run) → from ≤ to → row < to → IsAhead entries from wanted run
     → IsAhead entries to wanted (passed entries row run)
-ahead_passed entries from to wanted row run later past ahead = grind (arith, head_is, nat_tests, eqb-true)
+ahead_passed entries from to wanted row run later past ahead = grind (arith, head_is, eqb-true)
 
 -- ---- how much is left
 
@@ -62,7 +61,7 @@ left_passed entries row run = grind (arith, common_steps)
 pub left_less : (entries : List Entry) (row : ℕ) (run : Run) → head_of entries run ≡ Some row → left_of entries (passed entries row run) < left_of entries run
 left_less entries row run is =
     let within = (head_is entries run row (record { hash = 0; row = 0 }) is).0 in
-    let same : (row == row) ≡ true = grind (arith, nat_tests) in
+    let same : (row == row) ≡ true = grind arith in
     rw is rw same (omega (arith, within))
 
 -- ---- the least of three rows

@@ -3,7 +3,6 @@ use Rattle.std.proofs.Common.{◌≡◌, ◌≢◌, ℕ, ◌==◌, Bool, true, f
 use Rattle.std.proofs.lemmas.Grind.{common_steps}
 use Rattle.std.proofs.Common.{refl, sym, ap, subst, ◌∙◌, arith, append_assoc, append-nil, if◌then◌else◌}
 use Rattle.std.proofs.lemmas.Bool.{eqb-true}
-use Rattle.std.proofs.lemmas.Bool.Decides.{nat_tests}
 use Rattle.std.proofs.lemmas.List.{flat_map_more}
 use Rattle.std.proofs.lemmas.List.Elements.{All-head, All-nil, All-push, All-tail}
 use Rattle.std.specs.Bool.{⊤}
@@ -62,10 +61,10 @@ between_after : (c : ℕ) → IsBetween (after_end terminator.CRLF c)
 between_after c = elim (c == 13) as (λ b. IsBetween (if b then state.AfterCr else state.StartRecord)) [ true ↦ tt | false ↦ tt ]
 
 no_separator : (c : ℕ) → c ≢ no_byte → (c == no_byte) ≡ false
-no_separator c plain = grind (arith, nat_tests)
+no_separator c plain = grind arith
 
 no_tab : (c : ℕ) → (c == tab) ≡ false → c ≢ tab
-no_tab c other same = grind (arith, nat_tests)
+no_tab c other same = grind arith
 
 byte : (c : ℕ) → c ≢ no_byte → Byte c
 byte c plain = by_tab (c == tab) refl

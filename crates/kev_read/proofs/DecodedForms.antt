@@ -18,16 +18,16 @@ decoded_nothing [] e = percent_decode-nil
 decoded_nothing (b ∷ bytes) e = absurd (omega arith)
 
 percent_before : (b : ℕ) → form.plus_to_space b ≡ 37 → b ≡ 37
-percent_before b e = grind (arith, nat_tests)
+percent_before b e = grind arith
 
 digit_before : (b : ℕ) → digit_value (form.plus_to_space b) < 16 → digit_value b < 16
 digit_before b h = grind (arith, nat_tests)
 
 digit_stays : (b : ℕ) → digit_value b < 16 → form.plus_to_space b ≡ b
-digit_stays b h = grind (arith, nat_tests)
+digit_stays b h = grind arith
 
 not_plus : (b : ℕ) → b ≢ 43 → form.plus_to_space b ≡ b
-not_plus b other = grind (arith, nat_tests)
+not_plus b other = grind arith
 
 -- bytes that begin with no escape
 pub decoded_first : (bytes : List ℕ) → 0 < length bytes

@@ -4,11 +4,11 @@ use Rattle.std.proofs.Common.{sym, ap, ◌∙◌, arith}
 use Rattle.std.specs.Prelude.{if◌then◌else◌}
 use Rattle.std.specs.List.{list_any}
 use Rattle.std.proofs.lemmas.Slice.Eq.{bytes_eq-Decides}
-use Rattle.std.proofs.Math.Bool.{or-false, or-true, or_assoc}
+use Rattle.std.proofs.Math.Bool.{or-false, or_assoc}
 use Rattle.text_model.specs.Texts.{Text}
 use Rattle.environment_model.specs.Environment.{Environment, is_there, text_in, text_of, byte_count, member_count, with_text, with_member}
 use Rattle.environment_model.specs.Lists.{is_list}
-use Rattle.environment_model.proofs.Environments.{look_up-empty, look_up-same, look_up-append, with_text-new, with_text-known}
+use Rattle.environment_model.proofs.Environments.{look_up-empty, look_up-same, look_up-append, with_text-new}
 use Rattle.environment_model.proofs.OtherNames.{with_text-differs, with_member-differs}
 use Rattle.environment_model.proofs.Environments.{byte_count-with_text, byte_count-with_member, member_count-with_text, member_count-with_member}
 use Rattle.kev_read.specs.Pairs.{KeyValue, has_key}
@@ -19,7 +19,7 @@ use Rattle.kev_read.proofs.GatheredValues.{with_member-own, same_text}
 -- ---- which names are defined after a pair
 
 text_there : (env : Environment) (key t : Text) → is_there (with_text env key t) key ≡ true
-text_there env key t = grind (arith, with_text-known, with_text-new, is_some, look_up-append, look_up-same, bytes_eq-Decides)
+text_there env key t = grind (arith, with_text-new, look_up-append, look_up-same, bytes_eq-Decides)
 
 added_there : (list : Bool) (env : Environment) (pair : KeyValue) (key : Text)
     → is_there (cond list (with_member env pair.key pair.value) (with_text env pair.key pair.value)) key ≡ (is_there env key || bytes_eq pair.key key)
@@ -27,8 +27,8 @@ added_there list env pair key = by_key (bytes_eq pair.key key) refl list
   where
     by_key : (b : Bool) → bytes_eq pair.key key ≡ b → (list : Bool)
         → is_there (cond list (with_member env pair.key pair.value) (with_text env pair.key pair.value)) key ≡ (is_there env key || b)
-    by_key true same true = grind (arith, bytes_eq-Decides, is_some, with_member-own, or-true)
-    by_key true same false = grind (arith, bytes_eq-Decides, text_there, or-true)
+    by_key true same true = grind (arith, bytes_eq-Decides, with_member-own)
+    by_key true same false = grind (arith, bytes_eq-Decides, text_there)
     by_key false differs true = ap is_some (with_member-differs env pair.key pair.value key differs) ∙ sym (or-false (is_there env key))
     by_key false differs false = ap is_some (with_text-differs env pair.key pair.value key differs) ∙ sym (or-false (is_there env key))
 
@@ -68,7 +68,7 @@ bytes_added : (list repeated : Bool) (env : Environment) (pair : KeyValue) → i
     → (list ≡ true → is_some (text_of env pair.key) ≡ false)
     → byte_count (cond list (with_member env pair.key pair.value) (with_text env pair.key pair.value)) ≡ byte_count env + adds_bytes list repeated
     (length pair.value)
-bytes_added list repeated env pair there no_text = grind (arith, byte_count-with_member, with_text-known, byte_count-with_text)
+bytes_added list repeated env pair there no_text = grind (arith, byte_count-with_member, byte_count-with_text)
 
 members_added : (list : Bool) (env : Environment) (pair : KeyValue) → (list ≡ true → is_some (text_of env pair.key) ≡ false)
     → member_count (cond list (with_member env pair.key pair.value) (with_text env pair.key pair.value)) ≡ member_count env + (if list then 1 else 0)

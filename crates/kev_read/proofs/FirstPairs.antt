@@ -49,9 +49,6 @@ LacksBoth bytes = All (λ b. (b ≢ 38) × (b ≢ 61)) bytes
 lacks_ampersand : (bytes : List ℕ) → LacksBoth bytes → All (λ b. b ≢ 38) bytes
 lacks_ampersand bytes lacks = All-weaker (λ b. (b ≢ 38) × (b ≢ 61)) (λ b. b ≢ 38) (λ b is. is.0) bytes lacks
 
-lacks_equals : (bytes : List ℕ) → LacksBoth bytes → All (λ b. b ≢ 61) bytes
-lacks_equals bytes lacks = All-weaker (λ b. (b ≢ 38) × (b ≢ 61)) (λ b. b ≢ 61) (λ b is. is.1) bytes lacks
-
 key_first : (bytes : List ℕ) (n : ℕ) → 0 < length bytes → get_or bytes 0 0 ≢ 38 → n ≤ length bytes → LacksBoth (take n bytes)
     → (n < length bytes → get_or bytes n 0 ≡ 38)
     → IsFirstPair bytes (record { key = decoded (take n bytes); value = [] }) (drop (n + 1) bytes)
@@ -61,7 +58,7 @@ key_first bytes n some other within lacks ends =
     let long : length key ≡ n = length-take-le n bytes within in
     let not_none : n ≢ 0 = λ none. other (ap (λ k. get_or bytes k 0) (sym none) ∙ ends (omega (arith, none, some))) in
     let positive : 0 < n = omega (arith, not_none) in
-    let alone : form.split_pair key ≡ (key, []) = grind (arith, split_once_before_none, lacks_equals, split_once_after_none) in
+    let alone : form.split_pair key ≡ (key, []) = grind (arith, split_once_before_none, split_once_after_none) in
     let raw = first_raw bytes key after (omega (arith, long, positive)) (lacks_ampersand key lacks) (parted_at bytes n within ends) in
     let empty : decoded [] ≡ [] = ap utf8_lossy (decoded_nothing [] refl) ∙ utf8_lossy_empty [] refl in
     ap (map decoded_pair) (raw ∙ ap (λ pair. pair ∷ form.raw_pairs after) alone)
@@ -81,7 +78,7 @@ value_first bytes n m inside lacks equals within lacks_value ends =
     let differs : 61 ≢ 38 = λ e. absurd (omega (arith, e)) in
     let lacks_all = All-append (λ b. b ≢ 38) key (61 ∷ value) (lacks_ampersand key lacks) (All-cons (λ b. b ≢ 38) 61 value differs lacks_value) in
     let raw = first_raw bytes (key ++ 61 ∷ value) after (omega (arith, length-append key (61 ∷ value))) lacks_all parted in
-    let both : form.split_pair (key ++ 61 ∷ value) ≡ (key, value) = grind (arith, split_once_before_at, lacks_equals, split_once_after_at) in
+    let both : form.split_pair (key ++ 61 ∷ value) ≡ (key, value) = grind (arith, split_once_before_at, split_once_after_at) in
     ap (map decoded_pair) (raw ∙ ap (λ pair. pair ∷ form.raw_pairs after) both)
 
 -- ---- the same in a query, from a place on

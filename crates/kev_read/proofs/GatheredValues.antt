@@ -29,11 +29,11 @@ with_member-own (e ∷ env) key t = by_name (bytes_eq e.name key) refl (with_mem
 -- ---- all pairs
 
 pub same_text : (env : Environment) (pair : KeyValue) (key : Text) → text_of (gather_one env pair) key ≡ text_of env key
-same_text env pair key = grind (arith, bytes_eq, bytes_eq-Decides, with_member-own, with_member-differs)
+same_text env pair key = grind (arith, bytes_eq-Decides, with_member-own, with_member-differs)
 
 one_value : (env : Environment) (pair : KeyValue) (key : Text) → is_some (text_of env key) ≡ false
     → members_of (gather_one env pair) key ≡ members_of env key ++ all_of (pair ∷ []) key
-one_value env pair key no_text = grind (arith, bytes_eq, is_some, bytes_eq-Decides, with_member-own, with_member-differs, append-nil)
+one_value env pair key no_text = grind (arith, bytes_eq-Decides, with_member-own, with_member-differs, append-nil)
 
 all_of-cons : (pair : KeyValue) (pairs : List KeyValue) (key : Text) → all_of (pair ∷ []) key ++ all_of pairs key ≡ all_of (pair ∷ pairs) key
 all_of-cons pair pairs key = grind (arith, common_steps)
@@ -50,4 +50,4 @@ members_of-from env (pair ∷ pairs) key no_text =
 -- ---- from no entries
 
 pub members_of-gathered : (pairs : List KeyValue) (key : Text) → members_of (gathered pairs) key ≡ all_of pairs key
-members_of-gathered pairs key = grind (arith, members_of-from, is_some, look_up-empty)
+members_of-gathered pairs key = grind (arith, members_of-from, look_up-empty)

@@ -103,23 +103,14 @@ SplitsAt test pairs key = IsPartitionPoint (λ index. test (compared_at pairs ke
 neither : (o : Ordering) → is_lt o ≡ false → is_le o ≡ true → is_eq o ≡ true
 neither o lt le = grind (arith, common_steps)
 
-equal_le : (o : Ordering) → is_eq o ≡ true → is_le o ≡ false → ⊥
-equal_le o eq le = grind (arith, common_steps)
-
 passes_equal : (other : Option Text) (key : Text) → option_map_or (bytes_eq key) other false ≡ is_eq (compared other (Some key))
 passes_equal other key = grind (arith, nat_list_eq_equiv, is_eq-compared_keys)
 
 within_pairs : (pairs : List KeyValue) (key : Text) (index : ℕ) → is_eq (compared_at pairs key index) ≡ true → index < length pairs
-within_pairs pairs key index equal = grind (arith, slice_get_past, length-map, cases_lt)
+within_pairs pairs key index equal = grind (arith, slice_get_past, length-map)
 
 pub has_key_equal : (pairs : List KeyValue) (key : Text) (index : ℕ) → has_key_at key pairs index ≡ is_eq (compared_at pairs key index)
 has_key_equal pairs key index = grind (arith, is_eq-compared_keys)
-
-lt_not_equal : (o : Ordering) → is_lt o ≡ true → is_eq o ≡ false
-lt_not_equal o lt = grind (arith, common_steps)
-
-gt_not_equal : (o : Ordering) → is_le o ≡ false → is_eq o ≡ false
-gt_not_equal o le = grind (arith, common_steps)
 
 -- the indices that a filter of the whole order keeps
 pub run_is : (pairs : List KeyValue) (order : List ℕ) (key : Text) (start count : ℕ) → start ≤ length order → count ≤ length (drop start order)
@@ -129,10 +120,10 @@ run_is pairs order key start count few fewer lt le =
     let p = has_key_at key pairs in
     let rest = drop start order in
     let left = length-drop start order in
-    let before : filter p (take start order) ≡ [] = grind (arith, filter_none, length-take-le, get_or-take, has_key_equal, lt_not_equal) in
+    let before : filter p (take start order) ≡ [] = grind (arith, filter_none, length-take-le, get_or-take, has_key_equal) in
     let within : filter p (take count rest) ≡ take count rest =
-    grind (arith, filter_all, length-take-le, get_or-take, get_or-drop, has_key_equal, neither) in
-    let after : filter p (drop count rest) ≡ [] = grind (arith, filter_none, length-drop, get_or-drop, has_key_equal, gt_not_equal) in
+    grind (arith, filter_all, length-take-le, get_or-take, get_or-drop, has_key_equal) in
+    let after : filter p (drop count rest) ≡ [] = grind (arith, filter_none, length-drop, get_or-drop, has_key_equal) in
     sym (ap (filter p) (sym (take-append-drop start order)) ∙ filter-append p (take start order) rest ∙ ap (λ xs. xs ++ filter p rest) before
     ∙ ap (filter p) (sym (take-append-drop count rest)) ∙ filter-append p (take count rest) (drop count rest)
     ∙ ap (λ xs. xs ++ filter p (drop count rest)) within ∙ ap (λ xs. take count rest ++ xs) after ∙ append-nil (take count rest))
@@ -178,6 +169,6 @@ found pairs order key start count ordered few fewer lt le index =
         let k = j - start in
         let place : start + k ≡ j = omega arith in
         let there : get_or (drop start order) k x ≡ index = get_or-drop start order k x ∙ ap (λ i. get_or order i x) place ∙ here in
-        let below : k < count = grind (arith, equal_le, there, cases_lt) in
+        let below : k < count = grind (arith, there, cases_lt) in
         let l = run_length in
         list_any_at (λ other. other == index) run k x (omega arith) (eq-eqb (get_or run k x) index (get_or-take count (drop start order) k x below ∙ there))

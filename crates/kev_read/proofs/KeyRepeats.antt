@@ -26,7 +26,7 @@ module _ (pairs : List KeyValue) (order : List ℕ) (ordered : IsKeyOrder pairs 
 
   -- the test of a key at a place of the order
   key_test : (key : Text) (i : ℕ) → i < length order → has_key key (at i) ≡ is_eq (compared_at pairs key (get_or order i 0))
-  key_test key i within = grind (arith, same_test, key, has_key_equal)
+  key_test key i within = grind (arith, same_test, has_key_equal)
 
   at_place : (i : ℕ) → i < length order → get_or (pairs_at pairs order) i no_pair ≡ at i
   at_place i within = get_or-map (pair_at pairs) order i 0 no_pair within

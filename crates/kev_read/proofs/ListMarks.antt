@@ -17,7 +17,7 @@ is_list_parts declared key = grind (arith, common_steps)
 pub marked_twice : (declared : List Text) (pairs : List KeyValue) (index : ℕ) (none first second : Bool) → none ≡ false
     → first ≡ (none || passes_at (λ key. is_among key standard_lists) pairs index) → second ≡ (first || passes_at (λ key. is_among key declared) pairs index)
     → second ≡ passes_at (is_list declared) pairs index
-marked_twice declared pairs index none first second unmarked standard all = grind (arith, unmarked, is_list_parts)
+marked_twice declared pairs index none first second unmarked standard all = grind (arith, is_list_parts)
 
 pub unmarked : (count index : ℕ) → get_or (replicate count false) index false ≡ false
 unmarked count index = grind (arith, common_steps)

@@ -25,7 +25,7 @@ neither o = grind (arith, common_steps)
 -- neither key comes before the other exactly if they are the same
 same_key : (key : Text) (other : Option Text)
     → (not (is_lt (compared (Some key) other)) && not (is_lt (compared other (Some key)))) ≡ option_map_or (λ k. bytes_eq k key) other false
-same_key key other = grind (arith, not, keys_total, neither, is_eq-compared_keys)
+same_key key other = grind (arith, keys_total, neither, is_eq-compared_keys)
 
 ties_by_key : (pairs : List KeyValue) (key : Text) (x : ℕ) → key_at pairs x ≡ Some key → (y : ℕ) → ties (key_lt pairs) x y ≡ has_key_at key pairs y
 ties_by_key pairs key x is y =

@@ -32,7 +32,7 @@ IsEnd (b ∷ t) = ends_host b ≡ true
 part_ended : (t more : Text) → IsEnd more → first_part (t ++ more) ≡ first_part t
 part_ended [] [] h = refl
 part_ended [] (c ∷ more) h = part_ends c more h
-part_ended (b ∷ t) more h = grind (arith, part_ends, part_continues, part_ended t more h)
+part_ended (b ∷ t) more h = grind (arith, part_continues, part_ended t more h)
 
 -- ---- states in which a host has begun
 
@@ -57,9 +57,6 @@ after_open s b o e f = grind (arith, common_steps)
 after_at_sign : (s : HostState) (b : ℕ) → IsOpen s → ends_host b ≡ false → (b == at_sign) ≡ true → after_byte s b ≡ Lost
 after_at_sign s b o e f = grind (arith, common_steps)
 
-after_end : (b : ℕ) → ends_host b ≡ true → (after_byte Opened b ≡ Lost) × (after_byte Inside b ≡ Past)
-after_end b e = grind (arith, common_steps)
-
 -- such a state is found only without an `@`
 no_user : (s : HostState) (t : Text) → IsOpen s → IsFound (after_text s t) → list_any is_at_sign (first_part t) ≡ false
 no_user s [] o h = refl
@@ -67,12 +64,12 @@ no_user s (b ∷ t) o h = by_end (ends_host b) (b == at_sign) refl refl h (no_us
   where
     by_end : (ends is : Bool) → ends_host b ≡ ends → (b == at_sign) ≡ is → IsFound (after_text (after_byte s b) t)
         → (IsFound (after_text Inside t) → list_any is_at_sign (first_part t) ≡ false) → list_any is_at_sign (first_part (b ∷ t)) ≡ false
-    by_end ends is e f h later = grind (arith, part_ends, lost_not_found, after_at_sign, part_continues, or_from, after_open)
+    by_end ends is e f h later = grind (arith, lost_not_found, after_at_sign, part_continues, or_from, after_open)
 
 -- and only if there is a host
 not_empty : (t : Text) → IsFound (after_text Opened t) → first_part t ≢ []
 not_empty [] h = absurd h
-not_empty (b ∷ t) h = grind (arith, lost_not_found, after_end, part_continues)
+not_empty (b ∷ t) h = grind (arith, lost_not_found, part_continues)
 
 -- a host that has ended stays as it is
 part_past : (s : HostState) (t more : Text) → IsOpen s → after_text s t ≡ Past → first_part (t ++ more) ≡ first_part t
@@ -81,7 +78,7 @@ part_past s (b ∷ t) more o h = by_end (ends_host b) (b == at_sign) refl refl h
   where
     by_end : (ends is : Bool) → ends_host b ≡ ends → (b == at_sign) ≡ is → after_text (after_byte s b) t ≡ Past
         → (after_text Inside t ≡ Past → first_part (t ++ more) ≡ first_part t) → first_part (b ∷ (t ++ more)) ≡ first_part (b ∷ t)
-    by_end ends is e f h later = grind (arith, part_ends, lost_not_found, after_at_sign, part_continues, after_open)
+    by_end ends is e f h later = grind (arith, part_ends, lost_not_found, part_continues, after_open)
 
 -- ---- the host of a text
 

@@ -62,9 +62,6 @@ parts_end look (Expression op specs ∷ parts) e = by_op (leads_past_host op) re
 
 -- ---- operators
 
-pub simple_style : IsPlainStyle (style_of operator.Simple)
-simple_style = record { unnamed = refl; writing = refl; first = tt; sep = (refl, tt) }
-
 pub dot_style : IsPlainStyle (style_of operator.Dot)
 dot_style = record { unnamed = refl; writing = refl; first = (refl, tt); sep = (refl, tt) }
 

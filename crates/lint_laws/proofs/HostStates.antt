@@ -49,7 +49,7 @@ plain_rest s (b ∷ t) h = grind (arith, common_steps, plain_rest s t h.1)
 
 -- such a text is as good as a letter
 pub plain_state : (s : HostState) (t : Text) → HasByte t → IsPlain t → after_text s t ≡ after_byte s letter
-plain_state s t some h = grind (arith, plain_byte, plain_rest)
+plain_state s t some h = grind (arith, plain_rest)
 
 -- ---- one state covers another
 
@@ -84,7 +84,7 @@ found_covered found s (t ∷ texts) =
 cell_covered_from : (cell_in_row : Row → Option Text) (found s : HostState) (rows : List Row) (row : ℕ) (cell : Text) → row < length rows
     → cell_in_row (get_or rows row []) ≡ Some cell → IsCovered (after_text s cell) (after_texts_from found s (filter_map cell_in_row rows))
 cell_covered_from cell_in_row found s [] row cell within e = absurd (omega (arith, within))
-cell_covered_from cell_in_row found s (cells ∷ rows) zero cell within e = grind (arith, covered_by, second_covered, found_covered)
+cell_covered_from cell_in_row found s (cells ∷ rows) zero cell within e = grind (arith, second_covered, found_covered)
 cell_covered_from cell_in_row found s (cells ∷ rows) (suc row) cell within e =
     by_first (cell_in_row cells) (λ f. cell_covered_from cell_in_row f s rows row cell (omega (arith, within)) e)
   where

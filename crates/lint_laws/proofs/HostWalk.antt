@@ -23,7 +23,7 @@ use Rattle.rule_lint.specs.Host.{is_ended, is_specs_own, leads_past_host, letter
 use Rattle.lint_laws.proofs.CellStates.{written_state}
 use Rattle.lint_laws.proofs.HostEnds.{host_plain}
 use Rattle.lint_laws.proofs.HostPairs.{HaveOneHost, both_ended, both_past, covered_inside, covered_past, dot_style, end_more, expression_ends}
-use Rattle.lint_laws.proofs.HostPairs.{first_is_end, no_first, none_of_both, parts_end, simple_style}
+use Rattle.lint_laws.proofs.HostPairs.{first_is_end, no_first, none_of_both, parts_end}
 use Rattle.lint_laws.proofs.HostStates.{IsCovered, after_append, covered_text, past_stays, plain_state}
 use Rattle.lint_laws.proofs.PieceLemmas.{AreTexts, IsPlainStyle, LedText, expression_plain, has_text, led_text}
 use Rattle.lint_laws.proofs.RowLooks.{RowLooks}
@@ -51,7 +51,7 @@ module _ (rules : RuleSet) (table : Holdings) (row : ℕ) (cells : Row) (look al
   own_text : (style : Style) (specs : List Spec) → 0 < length specs → are_rows_own rules table specs ≡ true
       → LedText style (led style (pieces alone style specs))
   own_text style [] some e = absurd (omega arith)
-  own_text style (spec ∷ specs) some e = grind (arith, and_parts, led_text)
+  own_text style (spec ∷ specs) some e = grind (arith, led_text)
 
   module _ (specs : List Spec) (some : 0 < length specs) (own : are_rows_own rules table specs ≡ true) where
     -- values without reserved characters
@@ -82,11 +82,11 @@ module _ (rules : RuleSet) (table : Holdings) (row : ℕ) (cells : Row) (look al
   -- its state is covered by what is known of it
   own_state : (s : HostState) (op : Op) (specs : List Spec) → 0 < length specs → are_rows_own rules table specs ≡ true
       → IsCovered (after_text s (part_text alone (Expression op specs))) (after_own table s op specs)
-  own_state s op specs some own = grind (arith, past_stays, plain_expression, simple_style, dot_style, whole_cells, past_expression)
+  own_state s op specs some own = grind (arith, past_stays, plain_expression, dot_style, whole_cells, past_expression)
 
   own_covered : (c a : HostState) (op : Op) (specs : List Spec) → IsCovered c a → 0 < length specs → are_rows_own rules table specs ≡ true
       → IsCovered (after_text c (part_text alone (Expression op specs))) (after_own table a op specs)
-  own_covered c a op specs h some own = grind (arith, past_stays, own_state)
+  own_covered c a op specs h some own = grind (arith, own_state)
 
   -- ---- an expression that it does not decide
 
@@ -106,7 +106,7 @@ module _ (rules : RuleSet) (table : Holdings) (row : ℕ) (cells : Row) (look al
 
   -- where the host is found or there is none
   end_of_parts : (c a : HostState) (t : Text) → state_of t ≡ c → IsCovered c a → is_hostless a ≡ false → HaveOneHost (t ++ []) (t ++ [])
-  end_of_parts c a t is h found = grind (arith, append-nil, both_ways, host_plain)
+  end_of_parts c a t is h found = grind (arith, append-nil, host_plain)
 
   -- the parts after a text that is the same for every request
   walk : (a : HostState) (t : Text) (parts : List Part) → AllByRecursion IsSoundPart parts → IsCovered (state_of t) a
@@ -131,7 +131,7 @@ module _ (rules : RuleSet) (table : Holdings) (row : ℕ) (cells : Row) (look al
       -- the state that is found
       state_is : (next : HostState) → after_part rules table a part parts ≡ next
           → (open_names_after rules table next parts ≡ []) × (is_hostless (after_parts rules table next parts) ≡ false)
-      state_is next e = grind (arith, none_of_both, part)
+      state_is next e = grind (arith, none_of_both)
 
       ended_here : (is_past a || is_ended a op parts) ≡ true → HaveOneHost (t ++ (part_text look part ++ expansion look parts))
           (t ++ (part_text alone part ++ expansion alone parts))
@@ -159,7 +159,7 @@ module _ (rules : RuleSet) (table : Holdings) (row : ℕ) (cells : Row) (look al
           (later next more
           (subst (λ (s : HostState). IsCovered s next) (sym (after_append Outside t more)) (own_covered (state_of t) a op specs h sound.0.0 own))
           rest.0 rest.1))
-      by_own false own later = grind (arith, none_of_both, part, ended_here, open_is_some)
+      by_own false own later = grind (arith, none_of_both, ended_here, open_is_some)
 
   -- ---- a template
 

@@ -48,7 +48,7 @@ has_item U (b ∷ t) h = subst HasItem (sym (code_points-next b t)) tt
 has_item UR (b ∷ t) h = grind (arith, code_points-next, has_front)
 
 has_prefix : (w : Writing) (n : ℕ) (t : Text) → HasByte t → HasByte (prefix w n t)
-has_prefix w n t h = grind (arith, has_item, has_front)
+has_prefix w n t h = grind (arith, has_item)
 
 -- ---- the piece of a variable whose text is not empty
 

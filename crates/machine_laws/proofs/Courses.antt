@@ -1,8 +1,7 @@
 -- Each run has one course, and the function that computes it finds it.
 use Rattle.std.proofs.Common.{◌≡◌, ℕ, zero, suc, ◌+◌, ◌-◌, ◌<◌, Option, Some, None, refl, subst, arith, add-one, ⊎_elim}
 use Rattle.std.specs.Prelude.{◌↔◌}
-use Rattle.std.proofs.lemmas.Bool.{cases_lt, cases_order}
-use Rattle.std.proofs.lemmas.Grind.{common_steps}
+use Rattle.std.proofs.lemmas.Bool.{cases_order}
 use Rattle.environment_model.specs.Environment.{Environment}
 use Rattle.code_model.specs.Code.{Code}
 use Rattle.machine_model.specs.States.{Frame, End, Link, NoLink, State, Running, Ended, start}
@@ -46,13 +45,9 @@ module _ (c : Code) (v : Environment) where
 
   -- a running state comes before the end
   pub running_before : (k m : ℕ) (s : Frame) (b : End) → After c v k (Running s) → After c v m (Ended b) → k < m
-  running_before k m s b h g = grind (arith, no_later, after_one, cases_lt)
+  running_before k m s b h g = grind (arith, no_later, after_one)
 
   -- ---- courses
-
-  -- the outcome of a run is that of its last state
-  last_state : (k : ℕ) (o : Outcome) → EndsWith c v k o → (s : State) × After c v k s × ((new : State) → StepsTo c v s new → ⊥) × (outcome_at s ≡ o)
-  last_state k o h = grind (arith, common_steps)
 
   ends_with : (k : ℕ) (s : State) → After c v k s → ((new : State) → StepsTo c v s new → ⊥) → EndsWith c v k (outcome_at s)
   ends_with k (Ended (Link t)) h f = h
@@ -61,7 +56,7 @@ module _ (c : Code) (v : Environment) where
 
   -- a run has one course
   pub one_course : (k m : ℕ) (o p : Outcome) → EndsWith c v k o → EndsWith c v m p → (k ≡ m) × (o ≡ p)
-  one_course k m o p h g = grind (arith, last_state, last_once, after_one)
+  one_course k m o p h g = grind (arith, last_once, after_one)
 
   found : (n k : ℕ) (s : State) → n + k ≡ step_limit c v → After c v k s → EndsWith c v (course_from c v n k s).steps (course_from c v n k s).outcome
   unfolding course_from
@@ -79,12 +74,9 @@ module _ (c : Code) (v : Environment) where
   unfolding After
   course_found = found (step_limit c v) 0 (Running start) (omega arith) refl
 
-  courses_same : (x : Course) (k : ℕ) (o : Outcome) → (x.steps ≡ k) × (x.outcome ≡ o) → x ≡ record { outcome = o; steps = k }
-  courses_same x k o h = λ i. record { outcome = h.1 i; steps = h.0 i }
-
   -- a run has exactly the course that is computed
   pub course_decided : (k : ℕ) (o : Outcome) → EndsWith c v k o ↔ (course_of c v ≡ record { outcome = o; steps = k })
-  course_decided k o = grind (arith, courses_same, one_course, course_found)
+  course_decided k o = grind (arith, one_course, course_found)
 
   pub outcome_decided : (o : Outcome) → HasOutcome c v o ↔ (outcome_of c v ≡ o)
   outcome_decided o = grind (arith, one_course, course_found)

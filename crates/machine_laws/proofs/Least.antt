@@ -54,10 +54,6 @@ all_met ks (n ∷ ns) h = by_test (all_met ks ns) (kind_le (ks n.register) n.kin
         → (if t then first_unmet ks ns else Some n.register) ≡ None → AllByRecursion (IsMet ks) (n ∷ ns)
     by_test rest t e h = grind (arith, common_steps)
 
-none_unmet : (ks : Kinds) (ns : List Need) → AllByRecursion (IsMet ks) ns → first_unmet ks ns ≡ None
-none_unmet ks [] h = refl
-none_unmet ks (n ∷ ns) h = rw h.0 (none_unmet ks ns h.1)
-
 -- past the code nothing is needed
 needs_past : (c : Code) (p : ℕ) → length c.instrs ≤ p → needs_at c p ≡ []
 needs_past c p le = ap (λ o. for_instruction o needs) (ap (option_and_then (reading c.version)) (slice_get_past c.instrs p le))

@@ -30,12 +30,6 @@ step_past W p q k one lt h = let le : p + 1 ≤ q = omega arith in let m = mul-l
 turn_over : (x turns B e k : ℕ) → e + 1 ≡ B → k ≤ x + turns * B + e → k + 1 ≤ x + (turns + 1) * B
 turn_over x turns B e k same h = omega arith
 
-parts : (W a b z : ℕ) → z ≡ a + b → W * z ≡ W * a + W * b
-parts W a b z e = rw e (omega arith)
-
-at_least : (m n : ℕ) → n ≤ (m + 1) * n
-at_least m n = omega arith
-
 module _ (c : Code) (v : Environment) where
   -- place p of a loop has been reached after at most k steps
   pub record InTurn (l : Loop) (p k : ℕ) : Type 0 where

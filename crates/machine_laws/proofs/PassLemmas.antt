@@ -2,7 +2,6 @@
 use Rattle.std.proofs.Common.{◌≡◌, ℕ, zero, suc, ◌-◌, ◌<◌, ◌≤◌, List, [], ◌∷◌, length, Option, Some, None, true, refl, sym, ap, ◌∙◌, subst, arith, ⊎_elim}
 use Rattle.std.specs.Prelude.{option_map}
 use Rattle.std.specs.List.{list_all, AllByRecursion}
-use Rattle.std.proofs.Math.Path.{fun_ext}
 use Rattle.std.proofs.lemmas.Bool.{and_parts, cases_lt}
 use Rattle.std.proofs.lemmas.Option.{same_Some, slice_get_past}
 use Rattle.std.proofs.lemmas.Grind.{common_steps}
@@ -123,7 +122,7 @@ module _ (c : Code) (form : HasGoodForm c) (u : Table) (closed : IsClosed c u) w
   none_there (suc n) (suc p) row e = none_there n p row e
 
   first_below : AllRows IsBelowAt (first_rows c)
-  first_below zero row e = grind (arith, same_Some, listed_kinds)
+  first_below zero row e = grind (arith, listed_kinds)
   first_below (suc p) row e = absurd (none_there (length c.instrs - 1) p row e)
 
   passes_stay_below : (n : ℕ) → AllRows IsBelowAt (passes c n)
@@ -173,14 +172,14 @@ module _ (c : Code) (rows : Rows) where
   closed_rows h = record { first = starts; along = along }
     where
       starts : table_in rows 0 ≡ Some any_kinds
-      starts = grind (arith, covered, first_closed, fun_ext, above_any)
+      starts = grind (arith, covered, first_closed, above_any)
 
       along : (p : ℕ) (ks : Kinds) → table_in rows p ≡ Some ks → AllByRecursion (Holds (table_in rows)) (edges_at c p ks)
       along p ks known = ⊎_elim within past (cases_lt p (length c.instrs))
         where
           by_row : (o : Option Row) → option_map kinds_in o ≡ Some ks → list_all (is_reached rows) (edges_from c p o) ≡ true
               → AllByRecursion (Holds (table_in rows)) (edges_at c p ks)
-          by_row o e k = grind (arith, same_Some, all_hold)
+          by_row o e k = grind (arith, all_hold)
 
           within : p < length c.instrs → AllByRecursion (Holds (table_in rows)) (edges_at c p ks)
           within lt = by_row (row_at rows p) known (closed_at (length c.instrs) p h lt)

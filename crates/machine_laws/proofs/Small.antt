@@ -13,7 +13,7 @@ use Rattle.machine_model.specs.Operands.{is_compared, has_right_operands, name_a
 use Rattle.machine_model.specs.Values.{Value, Nothing, Undefined, Text as TextValue, List as ListValue, Number as NumberValue, text_or_undefined}
 use Rattle.machine_model.specs.States.{Loop, Frame, State, Running, Ended, put}
 use Rattle.machine_model.specs.Step.{Move, Ends, MovesTo, Returns, Does, halt, fail, text, list, const, number, no_turn, enter, next_member, leave, count}
-use Rattle.machine_model.specs.Step.{Leads, StepsTo}
+use Rattle.machine_model.specs.Step.{StepsTo}
 use Rattle.machine_model.specs.Runs.{After}
 use Rattle.machine_model.specs.Budget.{compared_length, longest_compared}
 
@@ -110,11 +110,8 @@ module _ (c : Code) (v : Environment) where
   small_move s _ _ h ok (no_turn a b d e lt f) = record { registers = h.registers; left = h.left }
   small_move s _ _ h ok _ = record { registers = h.registers; left = h.left }
 
-  small_lead : (from : ℕ) (m : Move) (new : State) → MoveSmall (member_count v) (byte_count v) (text_limit c v) m → Leads c from m new → Small new
-  small_lead from m new k led = grind (arith, common_steps)
-
   small_step : (s new : State) → Small s → StepsTo c v s new → Small new
-  small_step s new h st = grind (arith, small_lead, small_move)
+  small_step s new h st = grind (arith, small_move)
 
   -- for any code
   pub small_after : (k : ℕ) (s : State) → After c v k s → Small s

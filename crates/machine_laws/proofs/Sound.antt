@@ -48,7 +48,7 @@ module _ (c : Code) (t : Table) where
   pub along : (v : Environment) (s : Frame) (op : Instruction) (e : Edge) (regs : ℕ → Value) (turn : Option Loop) (out : Text)
       → Does c v s op (MovesTo (record { place = e.to; registers = regs; loop = turn; output = out })) → Holds t e → Fits e.kinds regs → s.place < e.to
       → e.to < length c.instrs → option_map body_of turn ≡ body_at c e.to → Continues v s op
-  along v s op e regs turn out d h f lt within b = grind (arith, lt, within, inside_of, fits_below)
+  along v s op e regs turn out d h f lt within b = grind (arith, within, inside_of, fits_below)
 
   module _ (v : Environment) (s : Frame) (k : Conforms c t s) where
     -- to the next place
@@ -143,7 +143,7 @@ module _ (c : Code) (t : Table) where
         within = ltb-true d (length c.instrs) g.placed.within
 
         further : s.place + 1 < d
-        further = grind (arith, lt, cases_lt)
+        further = grind (arith, cases_lt)
 
         opened : body_at c s.place ≡ None → body_at c (s.place + 1) ≡ Some (record { start = s.place + 1; end = d; element = a })
         opened e = rw add-one (rw (body_suc c s.place, e, g.read, g.placed.forward, g.placed.within, g.placed.looped) refl)

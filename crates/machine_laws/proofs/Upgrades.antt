@@ -1,8 +1,8 @@
 -- A code does the same after it is upgraded to version 2.
 
-use Rattle.std.proofs.Common.{◌≡◌, ℕ, zero, suc, List, [], ◌∷◌, ◌++◌, Option, Some, None, Bool, true, refl, sym, ◌∙◌, arith, ◌⊎◌, inl, inr, ⊎_elim}
+use Rattle.std.proofs.Common.{◌≡◌, ℕ, zero, suc, Option, Some, None, Bool, true, refl, sym, ◌∙◌, arith, ◌⊎◌, ⊎_elim}
 use Rattle.std.proofs.lemmas.Grind.{common_steps}
-use Rattle.std.specs.Prelude.{slice_get, unwrap_or, nat_lt, ◌==◌, if◌then◌else◌}
+use Rattle.std.specs.Prelude.{nat_lt, ◌==◌, if◌then◌else◌}
 use Rattle.text_model.specs.Texts.{Text}
 use Rattle.environment_model.specs.Environment.{Environment}
 use Rattle.code_model.specs.Code.{Code, reading, reading_at, upgraded}
@@ -18,14 +18,6 @@ use Rattle.machine_model.specs.Next.{move_of}
 use Rattle.machine_model.proofs.Moves.{move_of-does, does-move_of}
 
 -- ---- version 2 reads what another version reads; where that reads nothing, version 2 reads nothing or a COUNT
-
-one_more : {X : Type 0} (xs : List (Option X)) (y : Option X) (n : ℕ)
-    → (unwrap_or (slice_get (xs ++ None ∷ []) n) None ≡ unwrap_or (slice_get (xs ++ y ∷ []) n) None)
-    ⊎ ((unwrap_or (slice_get (xs ++ None ∷ []) n) None ≡ None) × (unwrap_or (slice_get (xs ++ y ∷ []) n) None ≡ y))
-one_more [] y zero = inr (refl, refl)
-one_more [] y (suc n) = inl refl
-one_more (z ∷ xs) y zero = inl refl
-one_more (z ∷ xs) y (suc n) = one_more xs y n
 
 readings : (v : ℕ) (f : Instr) → (reading v f ≡ reading 2 f) ⊎ ((reading v f ≡ None) × (reading 2 f ≡ Some (Count f.a f.b)))
 unfolding reading

@@ -51,7 +51,7 @@ module _ (c : Code) (v : Environment) where
   uri_move s _ _ k ok h _ = h
 
   uri_step : (s new : State) → IsFileCode c → IsUriText (output_of s) → StepsTo c v s new → IsUriText (output_of new)
-  uri_step s new k h st = grind (arith, lead_output, uri_move)
+  uri_step s new k h st = grind (arith, uri_move)
 
   -- for any code whose link texts are URI text
   pub uri_after : IsFileCode c → (k : ℕ) (s : State) → After c v k s → IsUriText (output_of s)

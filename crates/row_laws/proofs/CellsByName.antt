@@ -9,7 +9,7 @@ use Rattle.std.specs.Option.{option_map_or}
 use Rattle.text_model.specs.Texts.{Text}
 use Rattle.environment_model.specs.Environment.{Environment, Meaning, Single, look_up, text_of}
 use Rattle.environment_model.proofs.Environments.{look_up-empty}
-use Rattle.kbart_rows.specs.Cells.{Row, cell_in, cell_of, column_of, defined, is_first, name_cell, named_cell, named_cells}
+use Rattle.kbart_rows.specs.Cells.{Row, cell_of, column_of, defined, is_first, name_cell, named_cell, named_cells}
 use Rattle.kbart_rows.specs.Filling.{with_defined}
 use Rattle.row_laws.specs.Shadowing.{row_of}
 use Rattle.row_laws.proofs.Columns.{entries_of, entries_more}
@@ -60,7 +60,7 @@ own_column env header cells n name first is none =
 -- ---- where the first column of a name is
 
 no_column : (header : Row) (name : Text) (n : ℕ) → column_of header name ≡ None → n < length header → bytes_eq name (get_or header n []) ≡ false
-no_column header name n none within = grind (arith, fails_before_first, bytes_eq, lt-ltb, cases_lt)
+no_column header name n none within = grind (arith, fails_before_first, cases_lt)
 
 -- whether a column with the name is the first one
 first_is : (header : Row) (name : Text) (n k : ℕ) → get_or header n [] ≡ name → column_of header name ≡ Some k → is_first header n ≡ (k == n)
@@ -101,10 +101,10 @@ step env header cells n name (Some k) found within so_far =
         other_column env header cells n name differs ∙ so_far ∙ was ∙ sym now
 
     later : k < n → Goal
-    later lt = grind (arith, lt-ltb, bytes_eq, other_column, bytes_eq-Decides, first_is, later_column, eqb-true)
+    later lt = grind (arith, lt-ltb, other_column, bytes_eq-Decides, later_column, eqb-true)
 
 pub up_to : (header cells : Row) (name : Text) (n : ℕ) → n ≤ length header → look_up (entries_of header cells n) name ≡ before cells n (column_of header name)
-up_to header cells name zero within = grind (arith, look_up-empty, le-ltb)
+up_to header cells name zero within = grind (arith, look_up-empty)
 up_to header cells name (suc n) within =
     let so_far = up_to header cells name n (omega (arith, within)) in
     let one : suc n ≡ n + 1 = omega arith in
@@ -112,15 +112,8 @@ up_to header cells name (suc n) within =
     ∙ step (entries_of header cells n) header cells n name (column_of header name) refl (omega (arith, within)) so_far
     ∙ ap (λ m. before cells m (column_of header name)) (sym one)
 
-all_columns : (header cells : Row) (name : Text) (found : Option ℕ) → column_of header name ≡ found
-    → before cells (length header) found ≡ single (cell_in cells found)
-all_columns header cells name None is = refl
-all_columns header cells name (Some k) is =
-    let at = position-Some (bytes_eq name) header k [] is in
-    ap (λ b. if b then single (defined (get_or cells k [])) else None) (lt-ltb k (length header) at.0)
-
 pub text_of_row : (header cells : Row) (name : Text) → text_of (row_of (named_cells header cells)) name ≡ cell_of header cells name
-text_of_row header cells name = grind (arith, up_to, all_columns)
+text_of_row header cells name = grind (arith, up_to)
 
 pub in_row : (header cells : Row) (name : Text) → is_some (look_up (row_of (named_cells header cells)) name) ≡ is_some (cell_of header cells name)
-in_row header cells name = grind (arith, is_some, up_to, all_columns)
+in_row header cells name = grind (arith, up_to)

@@ -27,9 +27,6 @@ module _ (f : Meaning → ℕ) where
   one_name e row [] new once = ap (λ o. found_in f o + 0) (sym (look_up-empty e.name))
   one_name e row (x ∷ env) new once = by_name (bytes_eq e.name x.name) refl (one_name e row env new once.1)
     where
-      Claim : Environment → Type 0
-      Claim es = sum_by weigh (hidden (e ∷ row) es) ≡ found_in f (look_up es e.name) + sum_by weigh (hidden row es)
-
       by_name : (b : Bool) → bytes_eq e.name x.name ≡ b
           → sum_by weigh (hidden (e ∷ row) env) ≡ found_in f (look_up env e.name) + sum_by weigh (hidden row env)
           → sum_by weigh (hidden (e ∷ row) (x ∷ env)) ≡ found_in f (look_up (x ∷ env) e.name) + sum_by weigh (hidden row (x ∷ env))

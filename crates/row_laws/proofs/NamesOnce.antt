@@ -3,7 +3,7 @@ use Rattle.std.proofs.Common.{Bool, true, false, List, [], ◌∷◌, arith}
 use Rattle.text_model.specs.Texts.{Text}
 use Rattle.environment_model.specs.Environment.{Environment, with_text}
 use Rattle.environment_model.specs.Lists.{is_list}
-use Rattle.environment_model.proofs.Environments.{with_text-new, with_text-known}
+use Rattle.environment_model.proofs.Environments.{with_text-new}
 use Rattle.target_vars.specs.EnvValue.{EachNameOnce}
 use Rattle.target_vars.proofs.Once.{once-push, once-with_member}
 use Rattle.kev_read.specs.Pairs.{KeyValue}
@@ -13,7 +13,7 @@ use Rattle.kbart_rows.specs.Filling as by_cells
 use Rattle.row_laws.specs.Shadowing.{requested, row_of}
 
 once-with_text : (env : Environment) (name t : Text) → EachNameOnce env → EachNameOnce (with_text env name t)
-once-with_text env name t once = grind (arith, with_text-known, with_text-new, once-push)
+once-with_text env name t once = grind (arith, with_text-new, once-push)
 
 -- ---- all cells, all pairs
 

@@ -79,7 +79,7 @@ pair_bytes lists pairs pair = by_list (is_list lists pair.key) refl
     by_list : (b : Bool) → is_list lists pair.key ≡ b
         → byte_count (fill_one lists (requested lists pairs) pair)
         ≡ byte_count (requested lists pairs) + weight (all_of pairs pair.key) (is_list lists pair.key) (length pair.value)
-    by_list true is = grind (arith, is_some, text_requested, byte_count-with_member, always)
+    by_list true is = grind (arith, text_requested, byte_count-with_member)
     by_list false is =
         ap (λ b. byte_count (added b (requested lists pairs) pair)) is
         ∙ by_values (all_of pairs pair.key) refl is
@@ -87,7 +87,7 @@ pair_bytes lists pairs pair = by_list (is_list lists pair.key) refl
 
 pair_members : (lists : List Text) (pairs : List KeyValue) (pair : KeyValue)
     → member_count (fill_one lists (requested lists pairs) pair) ≡ member_count (requested lists pairs) + (if is_list lists pair.key then 1 else 0)
-pair_members lists pairs pair = grind (arith, is_some, text_requested, member_count-with_member, member_count-with_text)
+pair_members lists pairs pair = grind (arith, text_requested, member_count-with_member, member_count-with_text)
 
 -- ---- all pairs
 
@@ -149,8 +149,8 @@ module _ (l : Text) (lists : List Text) (new : is_list lists l ≡ false) where
   members_next pairs pair before = by_key (bytes_eq pair.key l) refl
     where
       by_key : (b : Bool) → bytes_eq pair.key l ≡ b → MembersAre (pairs ++ pair ∷ [])
-      by_key true same = grind (arith, requested-push, pair_members, own_list, own_new, all_of-push, all_of-one, length-append)
-      by_key false differs = grind (arith, requested-push, pair_members, other_list, all_of-push, all_of-none, append-nil)
+      by_key true same = grind (arith, requested-push, pair_members, own_list, own_new, all_of-push, length-append)
+      by_key false differs = grind (arith, requested-push, pair_members, other_list, all_of-push, append-nil)
 
   bytes_all : (rest pairs : List KeyValue) → BytesAre pairs → BytesAre (pairs ++ rest)
   bytes_all [] pairs h = subst BytesAre (sym (append-nil pairs)) h

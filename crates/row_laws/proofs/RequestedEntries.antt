@@ -1,5 +1,5 @@
 -- What a request without a row has under a key.
-use Rattle.std.proofs.Common.{◌≡◌, Bool, true, false, List, [], ◌∷◌, ◌++◌, Option, Some, None, is_some, bytes_eq, refl, sym, ap, ◌∙◌}
+use Rattle.std.proofs.Common.{◌≡◌, Bool, true, false, List, [], ◌∷◌, ◌++◌, Option, Some, None, bytes_eq, refl, sym, ap, ◌∙◌}
 use Rattle.std.proofs.Common.{append_assoc, arith}
 use Rattle.std.specs.Prelude.{if◌then◌else◌}
 use Rattle.std.proofs.lemmas.Slice.Eq.{bytes_eq-Decides}
@@ -8,7 +8,7 @@ use Rattle.environment_model.specs.Environment.{Environment, Meaning, Single, Se
 use Rattle.environment_model.specs.Environment.{meaning_bytes, meaning_members, with_text, with_member, more}
 use Rattle.environment_model.specs.Lists.{is_list}
 use Rattle.environment_model.proofs.Environments.{look_up-empty, look_up-same, look_up-other, look_up-append, with_member-empty, with_member-same}
-use Rattle.environment_model.proofs.Environments.{with_member-other, with_text-new, with_text-known}
+use Rattle.environment_model.proofs.Environments.{with_member-other, with_text-known}
 use Rattle.environment_model.proofs.NameTests.{itself}
 use Rattle.environment_model.proofs.OtherNames.{with_text-differs, with_member-differs}
 use Rattle.kev_read.specs.Pairs.{KeyValue, all_of, first_of}
@@ -38,7 +38,7 @@ grown-more v (w ∷ ws) false (Some (Several ts)) = refl
 -- ---- one pair
 
 pub with_text-same : (env : Environment) (key t : Text) → look_up (with_text env key t) key ≡ grown (t ∷ []) false (look_up env key)
-with_text-same env key t = grind (arith, is_some, with_text-new, look_up-append, look_up-same, itself, with_text-known)
+with_text-same env key t = grind (arith, look_up-append, look_up-same, itself, with_text-known)
 
 with_member-grows : (env : Environment) (key t : Text) → look_up (with_member env key t) key ≡ grown (t ∷ []) true (look_up env key)
 with_member-grows [] key t =
@@ -72,9 +72,6 @@ other_pair env false pair key differs = with_text-differs env pair.key pair.valu
 
 -- ---- all pairs
 
-all_of-own : (pair : KeyValue) (pairs : List KeyValue) (key : Text) → bytes_eq pair.key key ≡ true → all_of (pair ∷ pairs) key ≡ pair.value ∷ all_of pairs key
-all_of-own pair pairs key same = rw same refl
-
 all_of-other : (pair : KeyValue) (pairs : List KeyValue) (key : Text) → bytes_eq pair.key key ≡ false → all_of (pair ∷ pairs) key ≡ all_of pairs key
 all_of-other pair pairs key differs = rw differs refl
 
@@ -86,7 +83,7 @@ look_up-filled lists env (pair ∷ pairs) key = look_up-filled lists (fill_one l
     by_key : (b : Bool) → bytes_eq pair.key key ≡ b
         → grown (all_of pairs key) (is_list lists key) (look_up (fill_one lists env pair) key)
         ≡ grown (all_of (pair ∷ pairs) key) (is_list lists key) (look_up env key)
-    by_key true same = grind (arith, bytes_eq-Decides, own_pair, grown-more, all_of-own)
+    by_key true same = grind (arith, bytes_eq-Decides, own_pair, grown-more)
     by_key false differs =
         ap (grown (all_of pairs key) (is_list lists key)) (other_pair env (is_list lists pair.key) pair key differs)
         ∙ ap (λ vs. grown vs (is_list lists key) (look_up env key)) (sym (all_of-other pair pairs key differs))

@@ -53,7 +53,7 @@ module _ (weigh : Entry → ℕ) (header cells : Row) where
   one_column : (n : ℕ) → n ≤ length header
       → sum_by weigh (with_defined (entries_of header cells n) (named_cell header cells n))
       ≡ sum_by weigh (entries_of header cells n) + of_cell (named_cell header cells n)
-  one_column n within = grind (arith, entries_of, with_text-new, is_new, sum_by_push)
+  one_column n within = grind (arith, with_text-new, is_new, sum_by_push)
 
   columns_up_to : (n : ℕ) → n ≤ length header
       → sum_by weigh (entries_of header cells n) ≡ sum_by (λ column. of_cell (named_cell header cells column)) (range_with_len 0 n)

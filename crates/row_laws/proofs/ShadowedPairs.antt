@@ -11,7 +11,7 @@ use Rattle.environment_model.specs.Environment.{Environment, Several, look_up, i
 use Rattle.environment_model.specs.Environment.{with_text, with_member}
 use Rattle.environment_model.specs.Lists.{is_list}
 use Rattle.environment_model.proofs.Environments.{look_up-append, with_member-empty, with_member-same}
-use Rattle.environment_model.proofs.Environments.{with_member-other, with_member-append, with_member-text, with_text-new, with_text-known}
+use Rattle.environment_model.proofs.Environments.{with_member-other, with_member-append, with_member-text, with_text-known}
 use Rattle.kev_read.specs.Pairs.{KeyValue}
 use Rattle.kev_read.specs.Filling as by_pairs
 use Rattle.kev_read.specs.Filling.{added, fill_one}
@@ -30,8 +30,8 @@ with_member-hidden row (e ∷ env) name t there = by_name (bytes_eq e.name name)
   where
     by_name : (b : Bool) → bytes_eq e.name name ≡ b → visible row (with_member env name t) ≡ visible row env
         → visible row (with_member (e ∷ env) name t) ≡ visible row (e ∷ env)
-    by_name true same after = grind (arith, same_name, with_member-same, visible-hidden)
-    by_name false other after = grind (arith, with_member-other, visible-hidden, visible-seen)
+    by_name true same after = grind (arith, same_name, with_member-same)
+    by_name false other after = grind (arith, with_member-other, visible-hidden)
 
 -- ---- a pair whose key the row does not have
 
@@ -44,7 +44,7 @@ with_text-visible row env name t absent = by_test (is_there env name) refl
 
     by_test : (b : Bool) → is_there env name ≡ b → visible row (with_text env name t) ≡ with_text (visible row env) name t
     by_test true known = ap (visible row) (with_text-known env name t known) ∙ sym (with_text-known (visible row env) name t (same_test ∙ known))
-    by_test false new = grind (arith, with_text-new, filter-append, visible-seen, same_test)
+    by_test false new = grind (arith, filter-append, visible-seen, same_test)
 
 with_member-visible : (row env : Environment) (name t : Text) → is_there row name ≡ false
     → visible row (with_member env name t) ≡ with_member (visible row env) name t
@@ -55,8 +55,8 @@ with_member-visible row (e ∷ env) name t absent = by_name (bytes_eq e.name nam
   where
     by_name : (b : Bool) → bytes_eq e.name name ≡ b → visible row (with_member env name t) ≡ with_member (visible row env) name t
         → visible row (with_member (e ∷ env) name t) ≡ with_member (visible row (e ∷ env)) name t
-    by_name true same after = grind (arith, same_name, with_member-same, visible-seen)
-    by_name false other after = grind (arith, with_member-other, visible-hidden, visible-seen)
+    by_name true same after = grind (arith, same_name, with_member-same)
+    by_name false other after = grind (arith, with_member-other, visible-seen)
 
 -- ---- all pairs
 

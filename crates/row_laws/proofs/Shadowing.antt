@@ -6,7 +6,7 @@ use Rattle.text_model.specs.Texts.{Text}
 use Rattle.environment_model.specs.Environment.{Environment, Entry, Meaning, Single, Several, look_up, is_there, text_in, text_of, member_count}
 use Rattle.environment_model.specs.Environment.{meaning_members, with_text}
 use Rattle.environment_model.proofs.Environments.{look_up-empty, look_up-same, look_up-other, look_up-append}
-use Rattle.environment_model.proofs.Environments.{with_text-new, with_text-known, member_count-cons}
+use Rattle.environment_model.proofs.Environments.{with_text-new, member_count-cons}
 use Rattle.kbart_rows.specs.Cells.{NamedCell}
 use Rattle.kbart_rows.specs.Filling as by_cells
 use Rattle.row_laws.specs.Shadowing.{row_of, visible}
@@ -76,7 +76,7 @@ look_up-front (e ∷ front) back name there = by_name (bytes_eq e.name name) ref
 
 pub with_text-append : (front back : Environment) (name t : Text) → is_there front name ≡ false → with_text (front ++ back) name t
     ≡ front ++ with_text back name t
-with_text-append front back name t absent = grind (arith, is_some, look_up-append, with_text-known, with_text-new, append_assoc)
+with_text-append front back name t absent = grind (arith, look_up-append, with_text-new, append_assoc)
 
 -- ---- what is not hidden
 

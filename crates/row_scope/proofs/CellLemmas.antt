@@ -1,16 +1,11 @@
 -- Cells of a row's line, each at the place that a cursor gives.
-use Rattle.std.proofs.Common.{◌≡◌, ℕ, ◌<◌, [], get_or, Some, None, sym, ap, ◌∙◌, subst}
+use Rattle.std.proofs.Common.{◌≡◌, ℕ, [], get_or, None, sym, ap, ◌∙◌}
 use Rattle.text_model.specs.Texts.{Text}
 use Rattle.target_vars.specs.EnvValue.{piece_at}
 use Rattle.kbart_rows.specs.Cells.{defined}
 use Rattle.kbart_rows.specs.Lines.{IsCellAt, cells_in}
-use Rattle.row_scope.proofs.BindingLemmas.{defined_text, undefined_text}
+use Rattle.row_scope.proofs.BindingLemmas.{undefined_text}
 use Rattle.row_scope.proofs.Pieces.{piece_length}
-
-pub cell_there : (line : Text) (column start len : ℕ) → IsCellAt line column start len → 0 < len
-    → defined (get_or (cells_in line) column []) ≡ Some (piece_at line (start, len))
-cell_there line column start len at some =
-    ap defined (sym at.is) ∙ defined_text (piece_at line (start, len)) (subst (λ n. 0 < n) (sym (piece_length line (start, len) at.within)) some)
 
 pub cell_missing : (line : Text) (column start len : ℕ) → IsCellAt line column start len → len ≡ 0 → defined (get_or (cells_in line) column []) ≡ None
 cell_missing line column start len at none =

@@ -1,8 +1,7 @@
 -- Keys of a request that a row hides, column by column.
-use Rattle.std.proofs.Common.{◌≡◌, ℕ, ◌+◌, ◌≤◌, zero, suc, Bool, true, false, ◌&&◌, nat_lt, List, [], ◌∷◌, ◌++◌, All, length, get_or, Option, Some, None}
+use Rattle.std.proofs.Common.{◌≡◌, ℕ, ◌+◌, ◌≤◌, zero, suc, ◌&&◌, nat_lt, List, [], ◌∷◌, ◌++◌, All, length, get_or, Option, Some, None}
 use Rattle.std.proofs.lemmas.Grind.{common_steps}
 use Rattle.std.proofs.Common.{refl, sym, ap, ◌∙◌, arith, if◌then◌else◌}
-use borrow.Author.Tests.{ltb-false}
 use Rattle.std.specs.Prelude.{sum_by}
 use Rattle.std.specs.List.{filter_map, cons_option, range_with_len}
 use Rattle.std.specs.List.Sorted.{IsNonDecreasingBy}
@@ -77,31 +76,12 @@ module _ {X Y : Type 0} (f : X → Option Y) (g : Y → ℕ) (h : X → ℕ) (sa
   sum-filter_map (x ∷ xs) =
       omega (arith, sum-cons_option (f x) (h x) (filter_map f xs) (same x), sum_by-cons h x xs, sum-filter_map xs)
 
-no_values : (values : List Text) → nat_lt 0 (length values) ≡ false → values ≡ []
-no_values [] none = refl
-no_values (v ∷ vs) none = absurd (omega (arith, ltb-false 0 (length (v ∷ vs)) none))
-
-no_sums : (lists : List Text) (pairs : List KeyValue) (key : Text) → nat_lt 0 (length (all_of pairs key)) ≡ false
-    → (requested_bytes lists pairs key ≡ 0) × (requested_members lists pairs key ≡ 0)
-no_sums lists pairs key none = grind (arith, common_steps)
-
 -- `part` is the first of two sums, of bytes, or the second, of members
 module _ (part : ℕ × ℕ → ℕ) (nothing : part (0, 0) ≡ 0) (header cells : Row) (lists : List Text) (pairs : List KeyValue) where
   abbrev pub hidden_at : ℕ → ℕ
   hidden_at n =
       let key = get_or header n [] in
       if has_cell header cells n then part (requested_bytes lists pairs key, requested_members lists pairs key) else 0
-
-  abbrev key_of : ℕ → ℕ → ℕ → HiddenKey
-  key_of n x y = record { column = n; bytes = x; members = y }
-
-  part_hidden : (b : Bool) (x y : ℕ) → part (if b then (x, y) else (0, 0)) ≡ (if b then part (x, y) else 0)
-  part_hidden true x y = refl
-  part_hidden false x y = nothing
-
-  none_hidden : (b : Bool) (x y : ℕ) → (x ≡ 0) × (y ≡ 0) → (if b then part (x, y) else 0) ≡ 0
-  none_hidden true x y are = ap (λ n. part (n, y)) are.0 ∙ ap (λ n. part (0, n)) are.1 ∙ nothing
-  none_hidden false x y are = refl
 
   of_column : (n : ℕ) → option_map_or (λ key. part (hidden_of cells key)) (hidden_key header lists pairs n) 0 ≡ hidden_at n
   of_column n = grind (arith, common_steps)

@@ -72,10 +72,6 @@ abbrev pub AreBoundSoFar : TargetRequestValue → Text → List NameColumn → �
 AreBoundSoFar t line places k bindings =
     (i : ℕ) (name : Text) (b : Binding) → slice_get (names_of t.code) i ≡ Some name → slice_get bindings i ≡ Some b → IsBoundSoFar t line places k i name b
 
-pub none_so_far : (t : TargetRequestValue) (line : Text) (places : List NameColumn) (bindings : List Binding)
-    → AreBound (laid_in t.request.values (of_request t)) (names_of t.code) bindings → AreBoundSoFar t line places 0 bindings
-none_so_far t line places bindings are i name b named is = inr (are.bound i name b named is, λ j place below at same. absurd (omega (arith, below)))
-
 module _ (t : TargetRequestValue) (line : Text) (places : List NameColumn)
     (shadow : (name : Text)
     → look_up (of_both t line) name ≡ (if is_there (of_row t line) name then look_up (of_row t line) name else look_up (of_request t) name))

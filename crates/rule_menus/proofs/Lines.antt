@@ -85,4 +85,4 @@ last_joined front lines line is = last_joined_after None front lines line is
 
 -- lines before them do not matter
 pub end_joined : (front lines : List Text) (r : Resolution) → EndAs lines r → EndAs (front ++ lines) r
-end_joined front lines r is = grind (arith, last_joined, lines, not, filter-append)
+end_joined front lines r is = grind (arith, last_joined, lines, filter-append)

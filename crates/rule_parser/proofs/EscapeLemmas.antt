@@ -122,7 +122,7 @@ plain_first (d ∷ bs) next p l h = not_both d h.0 p.0 (same_parts _ _ _ _ h.2).
 pub escaped_more : (whole t rest next : Text) (c : ℕ) (waits : Bool) → is_special c ≡ waits → whole ≡ escaped t ++ waiting waits rest
     → rest ≡ encode_utf8 c ++ next
     → whole ≡ escaped (t ++ encode_utf8 c) ++ next
-escaped_more whole t rest next c true s w r = grind (arith, encode_ascii, special_is_ascii, escaped_special, escaped-append, append_assoc)
+escaped_more whole t rest next c true s w r = grind (arith, encode_ascii, escaped_special, escaped-append, append_assoc)
 escaped_more whole t rest next c false s w r = grind (arith, escaped_plain_text, plain_bytes, escaped-append, append_assoc)
 
 -- no escaped text begins with the next character
@@ -145,7 +145,7 @@ pub not_escaped_at_end : (whole t rest : Text) (waits : Bool) → waits ≡ true
     → whole ≡ escaped u → ⊥
 not_escaped_at_end whole t (b ∷ rest) waits x l w u e = absurd (omega (arith, l))
 not_escaped_at_end whole t [] false x l w u e = cc
-not_escaped_at_end whole t [] true x l w u e = grind (arith, escaped_rest, after_backslash, not_empty)
+not_escaped_at_end whole t [] true x l w u e = grind (arith, escaped_rest, after_backslash)
 
 -- ---- a test whether two Booleans are equal
 

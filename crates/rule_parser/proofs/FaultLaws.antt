@@ -83,7 +83,7 @@ content_same tree none fault b (Link text) k other (inr p) (inl q) = absurd (non
 content_same tree none fault b (Link text) k other (inr p) (inr q) = p.3 ∙ sym q.3
 
 bad_same : OneTree → NoFault → OneFault → (b : RulesSoFar) (s : Statement) (k other : RuleErrorKind) → IsBad b s k → IsBad b s other → k ≡ other
-bad_same tree none fault b s k other h h2 = grind (arith, both_ways, content_same)
+bad_same tree none fault b s k other h h2 = grind (arith, content_same)
 
 pub bad_text_same : OneTree → NoFault → OneFault → (b : RulesSoFar) (line : Text) (k other : RuleErrorKind) → IsBadText b line k → IsBadText b line other
     → k ≡ other

@@ -23,7 +23,7 @@ use Rattle.rule_parser.proofs.FaultLaws.{faulty_is_no_next, so_far_are_statement
 extends_not : OneTree → NoFault → (b c : RulesSoFar) (line : Text) (k : RuleErrorKind) (rest : List Text) → AreSoundSoFar b → AreSoundSoFar c
     → IsLineFault b line k
     → HasNext (statements_so_far b) (statements_so_far c) (line ∷ rest) → ⊥
-extends_not tree none b c line k rest s t fault n = grind (arith, continues, faulty_is_no_next, same_parts)
+extends_not tree none b c line k rest s t fault n = grind (arith, continues, faulty_is_no_next)
 
 nothing_next : (ss ts : List Statement) → HasNext ss ts [] → ⊥
 nothing_next ss ts n = grind (arith, common_steps)

@@ -84,7 +84,7 @@ special_more b t s (None, n) = (
 )
 
 no_special : (b : ℕ) (t : Text) → is_special b ≡ false → (v : Text) → 92 ∷ b ∷ t ≡ escaped v → ⊥
-no_special b t p v e = grind (arith, after_backslash, both_ways)
+no_special b t p v e = grind (arith, after_backslash)
 
 no_end : (v : Text) → 92 ∷ [] ≡ escaped v → ⊥
 no_end v e = let following = after_backslash v [] (sym e) in let none : [] ≡ following.0 ∷ following.1 = following.2 in cc

@@ -1,10 +1,9 @@
 -- A line has at most one statement, and lines have at most one list of statements.
-use Rattle.std.proofs.Common.{arith, ◌≡◌, ℕ, List, [], ◌∷◌, ◌++◌, true, false, ◌⊎◌, inl, inr, map, refl, ap, sym, ◌∙◌, codes, if◌then◌else◌, ◌==◌, rules}
+use Rattle.std.proofs.Common.{arith, ◌≡◌, ℕ, List, [], ◌∷◌, ◌++◌, false, ◌⊎◌, inl, inr, map, refl, ap, sym, ◌∙◌, codes, if◌then◌else◌, ◌==◌, rules}
 use Rattle.std.proofs.lemmas.Grind.{common_steps}
-use Rattle.std.specs.List.{list_all, AllByRecursion}
+use Rattle.std.specs.List.{AllByRecursion}
 use Rattle.std.specs.Str.{bytes_eq}
-use Rattle.std.specs.Char.{is_ascii_digit}
-use Rattle.std.proofs.lemmas.Bool.{both_ways, eqb-false}
+use Rattle.std.proofs.lemmas.Bool.{eqb-false}
 use Rattle.std.proofs.lemmas.List.{append_cancel_left, append_cancel_right}
 use Rattle.text_model.specs.Texts.{Text}
 use Rattle.text_model.proofs.Lists.{same_parts}
@@ -22,14 +21,11 @@ use Rattle.rule_parser.proofs.GuardLemmas.{IsDefined, defined_tokens, IsCompared
 quoted_same : (t u : Text) → quoted t ≡ quoted u → t ≡ u
 quoted_same t u e = escaped_same t u (append_cancel_right (escaped t) (escaped u) (34 ∷ []) (same_tails 34 34 _ _ e))
 
-digits_or_not : (t u : Text) → list_all is_ascii_digit t ≡ true → list_all is_ascii_digit u ≡ false → t ≡ u → ⊥
-digits_or_not t u a b e = both_ways (list_all is_ascii_digit u) b (ap (list_all is_ascii_digit) (sym e) ∙ a)
-
 bound_same : (b c : Bound) → IsBound b → IsBound c → bound_text b ≡ bound_text c → b ≡ c
-bound_same b c h k e = grind (arith, digits_or_not, star_is_no_name)
+bound_same b c h k e = grind (arith, star_is_no_name)
 
 bounds_same : (b c d f : Bound) → AreBounds b c → AreBounds d f → bounds_text b c ≡ bounds_text d f → (b ≡ d) × (c ≡ f)
-bounds_same b c d f h k e = grind (arith, token_split, bound_is_token, bound_same, append_cancel_left)
+bounds_same b c d f h k e = grind (arith, token_split, bound_is_token, bound_same)
 
 -- ---- guards
 

@@ -50,7 +50,7 @@ significant_around ls front rest line e h = grind (arith, common_steps)
 -- the number of a line after those of these statements
 number_after : (ls front following : List Text) (line : Text) (ss : List Statement) → ls ≡ front ++ line ∷ following → is_significant line ≡ true
     → significant front ≡ map line_of ss → line_number ls (length ss) ≡ length front + 1
-number_after ls front following line ss e h s = grind (arith, front, length-map, number_at)
+number_after ls front following line ss e h s = grind (arith, length-map, number_at)
 
 -- the number of the line after those that were read
 pub number_is : (ls : List Text) (i : ℕ) (ss : List Statement) (line : Text) → i < length ls → get_or ls i line ≡ line → is_significant line ≡ true

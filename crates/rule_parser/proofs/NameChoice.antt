@@ -2,7 +2,7 @@
 use Rattle.std.proofs.Common.{◌≡◌, ◌≢◌, ℕ, [], ◌∷◌, ◌++◌, Bool, true, false, ◌==◌, ◌⊎◌, inl, inr, length, fold, if◌then◌else◌, refl, ap, subst, sym, ◌∙◌, arith}
 use Rattle.std.proofs.lemmas.Grind.{common_steps}
 use Rattle.std.specs.Prelude.{nat_le}
-use Rattle.std.proofs.lemmas.Bool.{and_parts, and_from, cases_lt, leb-true, eqb-true}
+use Rattle.std.proofs.lemmas.Bool.{and_from, cases_lt, leb-true, eqb-true}
 use Rattle.std.proofs.lemmas.List.{append-nil, append_assoc}
 use Rattle.std.proofs.lemmas.List.Sums.{fold-append}
 use Rattle.text_model.specs.Texts.{Text, is_hexadecimal}
@@ -87,7 +87,7 @@ varchar_ends_named v (triplet_varchar c high low h) = grind (arith, common_steps
 -- a varchar does not begin with a dot
 varchar_continues : (v : Text) → IsVarchar v → after Named v ≡ after Wanting v
 varchar_continues v (character_varchar c h) = grind (arith, common_steps)
-varchar_continues v (triplet_varchar c high low h) = grind (arith, and_parts, eqb-true)
+varchar_continues v (triplet_varchar c high low h) = grind (arith, eqb-true)
 
 name_ends_named : (name : Text) → IsVarname name → after Wanting name ≡ Named
 name_ends_named name (first_varchar v h) = varchar_ends_named v h

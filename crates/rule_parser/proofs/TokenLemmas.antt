@@ -62,7 +62,7 @@ IsNoNameByte x = (is_name_character x ≡ false) × ((x == 37) ≡ false) × (is
 
 varchar_lacks : (x : ℕ) → IsNoNameByte x → (v : List ℕ) → IsVarchar v → LacksByte x v
 varchar_lacks x n v (character_varchar c h) = (class_lacks is_name_character x n.0 c h, tt)
-varchar_lacks x n v (triplet_varchar c high low h) = grind (arith, and_parts, class_lacks)
+varchar_lacks x n v (triplet_varchar c high low h) = grind (arith, and_parts)
 
 varname_lacks : (x : ℕ) → IsNoNameByte x → (name : List ℕ) → IsVarname name → LacksByte x name
 varname_lacks x n name (first_varchar v h) = varchar_lacks x n v h

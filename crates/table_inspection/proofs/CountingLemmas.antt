@@ -3,8 +3,8 @@ use Rattle.std.proofs.Common.{◌≡◌, ℕ, ◌+◌, ◌||◌, ◌≤◌, ◌+
 use Rattle.std.proofs.lemmas.Grind.{common_steps}
 use Rattle.std.proofs.Common.{◌==◌, ◌&&◌, take, drop, if◌then◌else◌, append-nil, append_assoc, length-append}
 use Rattle.std.specs.Prelude.{filter}
-use Rattle.std.specs.List.{cons_option, filter_map, flat_map, list_any}
-use Rattle.std.specs.Option.{option_and_then, option_to_list}
+use Rattle.std.specs.List.{flat_map, list_any}
+use Rattle.std.specs.Option.{option_to_list}
 use Rattle.std.specs.Str.{bytes_eq}
 use Rattle.std.proofs.lemmas.Grind.{flat_map-append}
 use Rattle.std.proofs.lemmas.List.{take-append-drop}
@@ -14,7 +14,6 @@ use Rattle.std.proofs.lemmas.List.Sums.{count_by-le-length, sum_by-append, sum_b
 use Rattle.std.proofs.Math.Bool.{or-false}
 use Rattle.text_model.specs.Texts.{Text}
 use Rattle.kbart_rows.specs.Cells.{Row, cell_in, defined}
-use Rattle.kbart_rows.specs.Identifiers.{identifier_in}
 use Rattle.table_inspection.specs.Columns.{is_empty_text}
 use Rattle.table_inspection.specs.Private.Forms.{normal_form}
 use Rattle.table_inspection.proofs.Ranges.{not_none}
@@ -50,24 +49,6 @@ new_among_same f g same (Some id) = ap (λ b. if b then 0 else 1) (same id)
 pub is_in_option : (id : Text) (o : Option Text) → list_any (bytes_eq id) (option_to_list o) ≡ is_same_id id o
 is_in_option id None = refl
 is_in_option id (Some x) = or-false (bytes_eq id x)
-
-abbrev two : Option Text → Option Text → List Text
-two first second = option_to_list (option_and_then defined first) ++ option_to_list (option_and_then defined second)
-
-two_defined : (first second : Option Text) → filter_map defined (cons_option first (cons_option second [])) ≡ two first second
-two_defined None None = refl
-two_defined None (Some []) = refl
-two_defined None (Some (b ∷ text)) = refl
-two_defined (Some []) None = refl
-two_defined (Some []) (Some []) = refl
-two_defined (Some []) (Some (b ∷ text)) = refl
-two_defined (Some (b ∷ text)) None = refl
-two_defined (Some (b ∷ text)) (Some []) = refl
-two_defined (Some (b ∷ text)) (Some (c ∷ other)) = refl
-
-pub identifiers_of_row : (a b : Option ℕ) (cells : Row) → row_identifiers (a ∷ b ∷ []) cells
-    ≡ option_to_list (option_and_then defined (identifier_in cells a)) ++ option_to_list (option_and_then defined (identifier_in cells b))
-identifiers_of_row a b cells = two_defined (identifier_in cells a) (identifier_in cells b)
 
 -- ---- one more row
 

@@ -5,7 +5,6 @@ use Rattle.std.proofs.Common.{◌==◌, length, not}
 use Rattle.std.proofs.Common.{append-nil, append_assoc, nat_le}
 use Rattle.std.specs.Prelude.{nat_lt}
 use Rattle.std.proofs.lemmas.Bool.{false≢true}
-use Rattle.std.proofs.lemmas.Bool.Decides.{nat_tests}
 use Rattle.std.proofs.lemmas.List.Elements.{All-nil, All-cons, All-head, All-tail, All-weaker, All-append, All-push}
 use Rattle.std.specs.List.{find, list_all}
 use Rattle.std.specs.Option.{option_map_or, option_to_list}
@@ -45,7 +44,7 @@ all_from : (number : Text → ℕ) (n : ℕ) (texts : List Text) → All (λ oth
 all_from number n [] all = refl
 all_from number n (text ∷ texts) all =
     let here : number text ≤ n = All-head (λ other. number other ≤ n) text texts all in
-    let yes : nat_le (number text) n ≡ true = grind (arith, nat_tests) in
+    let yes : nat_le (number text) n ≡ true = grind arith in
     rw yes (all_from number n texts (All-tail (λ other. number other ≤ n) text texts all))
 
 not_all : (number : Text → ℕ) (n : ℕ) (front : List Text) (text : Text) (back : List Text) → n < number text
@@ -101,7 +100,7 @@ pub most_taken : (number : Text → ℕ) (texts : List Text) (first second : Tex
 most_taken number texts [] second rows rows_is more most = most_of_none number texts (Some second) most
 most_taken number texts (b ∷ first) second rows rows_is more most =
     let less : nat_lt rows (number second) ≡ true = ap (λ empty. empty || nat_lt rows (number second)) (sym (not_none (length first))) ∙ more in
-    let below : rows < number second = grind (arith, nat_tests) in
+    let below : rows < number second = grind arith in
     most_is_later number texts (b ∷ first) second (omega (arith, rows_is, below)) most
 
 pub most_kept : (number : Text → ℕ) (texts : List Text) (first second : Text) (rows : ℕ) → rows ≡ option_map_or number (defined first) 0
@@ -109,7 +108,7 @@ pub most_kept : (number : Text → ℕ) (texts : List Text) (first second : Text
 most_kept number texts [] second rows rows_is more most = absurd (false≢true (sym more))
 most_kept number texts (b ∷ first) second rows rows_is more most =
     let less : nat_lt rows (number second) ≡ false = ap (λ empty. empty || nat_lt rows (number second)) (sym (not_none (length first))) ∙ more in
-    let above : number second ≤ rows = grind (arith, nat_tests) in
+    let above : number second ≤ rows = grind arith in
     most_stays number texts (b ∷ first) second (omega (arith, rows_is, above)) most
 
 -- one that no text exceeds stays, whatever follows
@@ -129,5 +128,5 @@ pub most_has_all : (number : Text → ℕ) (texts more : List Text) (text : Text
 most_has_all number texts more [] rows largest has rows_is few most = absurd (false≢true has)
 most_has_all number texts more (b ∷ text) rows largest has rows_is few most =
     let same : (rows == largest) ≡ true = ap (λ empty. not empty && rows == largest) (sym (not_none (length text))) ∙ has in
-    let all : rows ≡ largest = grind (arith, nat_tests) in
+    let all : rows ≡ largest = grind arith in
     most_settled number texts more (b ∷ text) (λ other. omega (arith, few other, rows_is, all)) most

@@ -3,7 +3,6 @@ use Rattle.std.proofs.Common.{◌≡◌, ℕ, ◌+◌, ◌&&◌, ◌==◌, ◌�
 use Rattle.std.proofs.lemmas.Grind.{common_steps}
 use Rattle.std.proofs.Common.{refl, sym, ap, ◌∙◌, arith}
 use Rattle.std.proofs.Common.{if◌then◌else◌, append-nil, length-append}
-use Rattle.std.proofs.lemmas.Bool.Decides.{nat_tests}
 use Rattle.std.proofs.lemmas.Grind.{flat_map-append}
 use Rattle.std.proofs.lemmas.List.Elements.{filter-append}
 use Rattle.std.specs.List.{flat_map, range_with_len}
@@ -24,7 +23,7 @@ flat_more f n =
     ∙ ap (λ last. flat_map f (range_with_len 0 n) ++ last) (append-nil (f (0 + n)) ∙ ap f (omega arith))
 
 pub not_none : (n : ℕ) → (suc n == 0) ≡ false
-not_none n = grind (arith, nat_tests)
+not_none n = grind arith
 
 -- the first of a list to which an item was added
 pub first_more : {X : Type 0} (xs : List X) (x d : X) → get_or (xs ++ x ∷ []) 0 d ≡ (if length xs == 0 then x else get_or xs 0 d)
@@ -34,9 +33,6 @@ first_more (y ∷ xs) x d =
     rw some refl
 
 -- ---- rows
-
-pub no_rows : AreRows [] 0 0
-no_rows = record { counts = refl; starts = refl }
 
 pub row_step : (test : ℕ → Bool) (n count first new_count new_first : ℕ) (has : Bool) → has ≡ test n → AreRows (filter test (range_with_len 0 n)) count first
     → new_count ≡ (if has then count + 1 else count) → new_first ≡ (if has && count == 0 then n else first)
@@ -52,9 +48,6 @@ row_step test n count first new_count new_first true is old count_is first_is =
 row_step test n count first new_count new_first false is old count_is first_is = grind (arith, filter_more, append-nil)
 
 -- ---- cells
-
-pub no_cells : AreCells [] 0 0 []
-no_cells = record { counts = refl; starts = refl; shows = refl }
 
 abbrev pub cell_if : Bool → CellAt → List CellAt
 cell_if has cell = if has then cell ∷ [] else []
@@ -94,11 +87,3 @@ pub nothing_of_cells : (finding : ℕ → ℕ → List ℕ → TableFinding) (ce
     → count ≡ 0 → of_cells finding cells ≡ []
 nothing_of_cells finding [] count first text are none = refl
 nothing_of_cells finding (cell ∷ cells) count first text are none = absurd (omega (arith, are.counts, none))
-
-pub finding_of_cells : (finding : ℕ → ℕ → List ℕ → TableFinding) (cells : List CellAt) (count first : ℕ) (text : List ℕ) → AreCells cells count first text
-    → (count ≡ 0 → ⊥)
-    → of_cells finding cells ≡ finding count first text ∷ []
-finding_of_cells finding [] count first text are some = absurd (some are.counts)
-finding_of_cells finding (cell ∷ cells) count first text are some =
-    sym (ap (λ n. finding n first text ∷ []) are.counts ∙ ap (λ r. finding (length (cell ∷ cells)) r text ∷ []) are.starts
-    ∙ ap (λ t. finding (length (cell ∷ cells)) cell.row t ∷ []) are.shows)

@@ -40,13 +40,6 @@ pub record AreRowsSoFar (test : Row → Bool) (table : Holdings) (row count firs
   pub gathered : AreRows (filter (λ row. test (get_or table.rows row [])) (range_with_len 0 row)) count first
   pub few : count ≤ row
 
-pub no_cells_yet : (test : Text → Bool) (columns : List (Option ℕ)) (table : Holdings) (count first : ℕ) (text : Text) → AreCells [] count first text
-    → AreCellsSoFar test columns table 0 count first text
-no_cells_yet test columns table count first text are = record { gathered = are; few = omega (arith, are.counts) }
-
-pub no_rows_yet : (test : Row → Bool) (table : Holdings) (count first : ℕ) → AreRows [] count first → AreRowsSoFar test table 0 count first
-no_rows_yet test table count first are = record { gathered = are; few = omega (arith, are.counts) }
-
 -- a cell is added
 pub record AddsCell (test : Text → Bool) (row : ℕ) (cell : Option Text) (count first : ℕ) (text : Text) (new_count new_first : ℕ)
     (new_text : Text) : Type 0 where

@@ -1,41 +1,18 @@
 -- Spelling a name byte by byte.
-use Rattle.std.proofs.Common.{◌≡◌, ℕ, ◌+◌, ◌&&◌, ◌<◌, ◌≤◌, ◌++◌, Bool, true, false, not, [], ◌∷◌, length, drop, get_or}
+use Rattle.std.proofs.Common.{◌≡◌, ℕ, ◌+◌, ◌<◌, ◌≤◌, ◌++◌, Bool, not, ◌∷◌, length, drop, get_or}
 use Rattle.std.proofs.lemmas.Grind.{common_steps}
-use Rattle.std.proofs.Common.{refl, arith}
-use Rattle.std.proofs.Common.{if◌then◌else◌, append-nil}
+use Rattle.std.proofs.Common.{arith}
 use Rattle.std.specs.Char.{is_ascii_alphabetic}
 use Rattle.std.proofs.lemmas.List.{drop_more}
 use Rattle.text_model.specs.Texts.{Text}
-use Rattle.table_inspection.specs.Columns.{is_empty_text, spelled, spelling, underscore}
+use Rattle.table_inspection.specs.Columns.{spelled, spelling}
 use Rattle.table_inspection.specs.Private.Spelling.{continued, next_name}
-use Rattle.table_inspection.proofs.Ranges.{not_none}
-
-later : (name : Text) (l : ℕ) (after : Bool) (rest : Text)
-    → continued (if after && not (is_empty_text name) then (name ++ underscore ∷ []) ++ l ∷ [] else name ++ l ∷ []) false rest ≡ rest
-later [] l true rest = refl
-later [] l false rest = refl
-later (n ∷ name) l true rest =
-    let some = not_none (length name) in
-    let more = not_none (length ((name ++ underscore ∷ []) ++ l ∷ [])) in
-    rw (some, more) refl
-later (n ∷ name) l false rest =
-    let more = not_none (length (name ++ l ∷ [])) in
-    rw more refl
 
 pub spelled_step : (name : Text) (after : Bool) (b : ℕ) (rest : Text)
     → name ++ continued name after (spelled (b ∷ rest)) ≡ next_name name after b
     ++ continued (next_name name after b) (not (is_ascii_alphabetic b)) (spelled rest)
 unfolding spelled
 spelled_step name after b rest = grind (arith, common_steps)
-
-pub spelled_end : (name : Text) (after : Bool) → name ++ continued name after [] ≡ name
-spelled_end [] after = refl
-spelled_end (n ∷ name) true =
-    let some = not_none (length name) in
-    rw some (append-nil (n ∷ name))
-spelled_end (n ∷ name) false =
-    let some = not_none (length name) in
-    rw some (append-nil (n ∷ name))
 
 pub spelled_next : (text : Text) (i : ℕ) (name new : Text) (after new_after : Bool) (b : ℕ) → i < length text → b ≡ get_or text i 0
     → name ++ continued name after (spelled (drop i text)) ≡ spelling text → new ≡ next_name name after b → new_after ≡ not (is_ascii_alphabetic b)

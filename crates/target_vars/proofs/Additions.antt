@@ -121,7 +121,7 @@ ready b t spans names places name names' places' k laid has = ⊎_elim known_lis
         let more_places = length-append places (Many ∷ []) in
         rw (h.1, h.2) (record {
           once = subst EachNameOnce (sym entries) (once-push env e laid.once absent);
-          same = grind (arith, entries, with_member-append, e, absent, with_member-same, itself, with_member-new);
+          same = grind (arith, with_member-append, e, absent, with_member-same, itself, with_member-new);
           placed = All-push (IsPlace b) places Many laid.placed tt;
           one_each = omega arith;
           known = All-weaker (λ s. s.list < length names) (λ s. s.list < length (names ++ name ∷ [])) (λ s below. omega arith) spans laid.known;

@@ -38,7 +38,7 @@ entries_from-short b m i n ns = refl
 
 pub entries_from-push : (b : Text) (m : Lists) (i : ℕ) (ns : List Text) (ps : List Place) (n : Text) (p : Place) → length ps ≡ length ns
     → entries_from b m i (ns ++ n ∷ []) (ps ++ p ∷ []) ≡ entries_from b m i ns ps ++ entry b (m (i + length ns)) n p ∷ []
-entries_from-push b m i [] [] n p long = grind (arith, entries_from-cons, entries_from-empty, add-zero)
+entries_from-push b m i [] [] n p long = grind (arith, entries_from-cons, entries_from-empty)
 entries_from-push b m i [] (q ∷ ps) n p long = absurd (omega arith)
 entries_from-push b m i (x ∷ ns) [] n p long = absurd (omega arith)
 entries_from-push b m i (x ∷ ns) (q ∷ ps) n p long =
@@ -85,11 +85,11 @@ is_there-entries b m i (n ∷ ns) (p ∷ ps) name long =
   where
     by_cases : (r : Bool) → bytes_eq n name ≡ r → is_there (entries_from b m (suc i) ns ps) name ≡ is_among name ns
         → is_there (entry b (m i) n p ∷ entries_from b m (suc i) ns ps) name ≡ is_among name (n ∷ ns)
-    by_cases r same following = grind (arith, is_some, look_up-same, look_up-other)
+    by_cases r same following = grind (arith, look_up-same, look_up-other)
 
 -- a name of a later entry is not that of the first
 not_in_front : (e : Entry) (env : Environment) (name : Text) → EachNameOnce (e ∷ env) → is_there env name ≡ true → bytes_eq e.name name ≡ false
-not_in_front e env name once there = grind (arith, bytes_eq, bytes_eq-Decides)
+not_in_front e env name once there = grind (arith, bytes_eq-Decides)
 
 pub look_up-at : (b : Text) (m : Lists) (i : ℕ) (ns : List Text) (ps : List Place) (name : Text) (k : ℕ) (p : Place) → EachNameOnce (entries_from b m i ns ps)
     → slice_get ns k ≡ Some name → slice_get ps k ≡ Some p

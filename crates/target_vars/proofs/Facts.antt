@@ -14,7 +14,6 @@ use Rattle.target_vars.specs.declared.place.Span.{Span}
 use Rattle.target_vars.specs.declared.place.Place.{Place}
 use Rattle.target_vars.specs.declared.place.Place.TheVariants.{One, Many}
 use Rattle.std.proofs.lemmas.List.{length-map, map-append, take-map, drop-map}
-use Rattle.target_vars.proofs.Additions.{within}
 use Rattle.target_vars.proofs.Laid.{seen, is_there-laid, look_up-lacking, look_up-laid}
 
 abbrev pub held : Inside → EnvValue
@@ -58,7 +57,7 @@ no_text r v name places (Ok number) laid is same at =
     ap (λ (x : EnvValue). denotes_text x.entries name) (sym is)
     ∙ ap (λ o. is_some (text_in o)) (look_up-laid (string_bytes r.buffer) r.spans.items r.names.listed r.places.items name number Many laid at.0
     (subst (λ ps. slice_get ps number ≡ Some Many) same at.1))
-no_text r v name places (Err gap) laid is same at = grind (arith, is_some, look_up-lacking, string_bytes)
+no_text r v name places (Err gap) laid is same at = grind (arith, look_up-lacking)
 
 -- ---- the limits
 
@@ -78,4 +77,4 @@ laid_insert spans place s = grind (arith, map-append, take-map, drop-map)
 pub span_put : (r : Inside) (v : EnvValue) (s : Span) (new : List Span) (n : ℕ) → held r ≡ v → IsPutLast r.spans.items s new
     → s.part.start ≡ length (string_bytes r.buffer) → s.part.len ≡ n
     → (place : ℕ) × (place ≤ length v.spans) × (laid_spans new ≡ insert v.spans place (length v.buffer, n))
-span_put r v s new n is put start len = grind (arith, length-map, within, string_bytes, insert, laid_insert)
+span_put r v s new n is put start len = grind (arith, length-map, string_bytes, insert, laid_insert)

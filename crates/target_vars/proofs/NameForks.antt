@@ -5,7 +5,7 @@ use Rattle.std.proofs.lemmas.Grind.{common_steps}
 use Rattle.std.proofs.Common.{Some, bytes_eq, refl, sym, ap, ◌∙◌, subst, arith, length-append}
 use Rattle.std.specs.Prelude.{slice_range}
 use Rattle.std.specs.Option.{option_map}
-use Rattle.std.proofs.lemmas.Bool.{cases_eq, cases_lt}
+use Rattle.std.proofs.lemmas.Bool.{cases_eq}
 use Rattle.std.proofs.lemmas.List.{length-map, length-set}
 use Rattle.std.proofs.lemmas.List.Elements.{All-from_get_or}
 use Rattle.std.proofs.lemmas.List.Folds.{list_any_none}
@@ -23,7 +23,7 @@ use Rattle.target_vars.specs.declared.names.forks.Branch.TheVariants.{Further, E
 
 -- there is a fork where a search continues
 pub fork_there : (forks : List Fork) (text : Text) (at : ℕ) (branch : Branch) → branch_at forks text at ≡ Some branch → at < length forks
-fork_there forks text at branch is = grind (arith, slice_get_past, cases_lt)
+fork_there forks text at branch is = grind (arith, slice_get_past)
 
 pub ends_there : (path : List ℕ) (forks : List Fork) (text : Text) (from last number : ℕ) → Passes path forks text from last number
     → branch_at forks text last ≡ Some (Ends number)
@@ -137,19 +137,10 @@ forked_by forks changed name gap fork last turn is turns long kept own of_text =
     here : (text : Text) → gap < length forks → branch_at (changed ++ fork ∷ []) text gap ≡ Some (branch_of turn text)
     here text below = before text gap below ∙ ap (option_map (λ (f : Fork). branch_of f text)) turns
 
-    there : (text : Text) → branch_at forks text gap ≡ Some (branch_of last text)
-    there text = ap (option_map (λ (f : Fork). branch_of f text)) is
-
-    at_gap : (text : Text) → gap < length forks → (branch_of turn text ≡ branch_of last text)
-        ⊎ ((branch_of turn text ≡ Further (length forks)) × (branch_of last text ≡ branch_of last name))
-        → (branch_at (changed ++ fork ∷ []) text gap ≡ branch_at forks text gap)
-        ⊎ ((gap ≡ gap) × (branch_at (changed ++ fork ∷ []) text gap ≡ Some (Further (length forks))) × (branch_at forks text gap ≡ branch_at forks name gap))
-    at_gap text below h = grind (arith, here, there)
-
     by_cases : (text : Text) (at : ℕ) → at < length forks → (gap ≡ at) ⊎ (gap ≡ at → ⊥)
         → (branch_at (changed ++ fork ∷ []) text at ≡ branch_at forks text at)
         ⊎ ((at ≡ gap) × (branch_at (changed ++ fork ∷ []) text at ≡ Some (Further (length forks))) × (branch_at forks text gap ≡ branch_at forks name gap))
-    by_cases text at below h = grind (arith, before, at_gap)
+    by_cases text at below h = grind (arith, before)
 
 pub forked_at : (forks : List Fork) (name : Text) (gap : ℕ) (fork last : Fork) → slice_get forks gap ≡ Some last
     → IsForked forks name gap fork (set forks gap (turned last name (Further (length forks))) ++ fork ∷ [])

@@ -1,11 +1,11 @@
 -- The fork of a new name.
 
-use Rattle.std.proofs.Common.{◌≡◌, ℕ, ◌+◌, ◌<◌, ◌≤◌, ◌⊎◌, List, [], length, drop, get_or, slice_get, Some, bytes_eq, sym, ap, ◌∙◌, arith, ⊎_elim}
+use Rattle.std.proofs.Common.{◌≡◌, ℕ, ◌+◌, ◌<◌, ◌≤◌, ◌⊎◌, List, [], length, drop, get_or, slice_get, Some, sym, ap, ◌∙◌, arith, ⊎_elim}
 use Rattle.std.proofs.lemmas.Grind.{common_steps}
 use Rattle.std.specs.Prelude.{◌==◌, ◌/◌, ◌%◌, ◌^◌, slice_range}
 use Rattle.std.specs.Option.{option_map, option_map_or}
 use Rattle.std.proofs.Math.ListN.{drop_of_length-le}
-use Rattle.std.proofs.Math.Nat.{pow-suc, div-div-eq-div-mul, div-eq_of_lt, mod-eq_of_lt}
+use Rattle.std.proofs.Math.Nat.{pow-suc, div-div-eq-div-mul, div-eq_of_lt}
 use Rattle.std.proofs.Math.Numerals.{add-one}
 use Rattle.std.proofs.lemmas.Bool.{cases_lt}
 use Rattle.std.proofs.lemmas.List.{length-map, drop_more}
@@ -22,7 +22,7 @@ use Rattle.target_vars.proofs.NameForks.{ends_there, fork_there}
 
 -- no search ends at a fork past the last one
 none_listed : (v : NamesValue) (name : Text) (gap : ℕ) → IsGap v name gap → length v.forks ≤ gap → length v.listed ≡ 0
-none_listed v name gap is past = grind (arith, fork_there, ends_there, cases_lt)
+none_listed v name gap is past = grind (arith, fork_there, ends_there)
 
 pub first_separates : (v : NamesValue) (name : Text) (gap : ℕ) (fork : Fork) → IsGap v name gap → length v.forks ≤ gap
     → ((text : Text) → branch_of fork text ≡ Ends 0) → Separates v name gap fork
@@ -56,7 +56,7 @@ pub gap_known : (v : NamesValue) (name : Text) (gap number : ℕ) → length v.l
 gap_known v name gap number each is there = grind (arith, gap_number)
 
 pub another : (v : NamesValue) (name : Text) (gap number : ℕ) → IsGap v name gap → number < length v.listed → name ≡ get_or v.listed number [] → ⊥
-another v name gap number is below same = grind (arith, list_any_at, bytes_eq, below, bytes_eq-Decides)
+another v name gap number is below same = grind (arith, list_any_at, bytes_eq-Decides)
 
 pub between_separates : (v : NamesValue) (name other : Text) (gap number count : ℕ) (fork : Fork) → length v.listed ≡ length v.forks → IsGap v name gap
     → branch_at v.forks name gap ≡ Some (Ends number) → count ≡ length v.listed → other ≡ get_or v.listed number []
@@ -79,7 +79,7 @@ code_past : (t : Text) (at : ℕ) → length t ≤ at → code_at t at ≡ 0
 code_past t at past = ap (λ o. option_map_or (λ byte. byte + 1) o 0) (slice_get_past t at past)
 
 pub same_code : (a b : Text) (at : ℕ) → (drop at a ≡ drop at b → ⊥) → code_at a at ≡ code_at b at → (at < length a) × (drop (at + 1) a ≡ drop (at + 1) b → ⊥)
-same_code a b at differ same = grind (arith, cases_lt, code_within, drop_more, code_past, drop_of_length-le)
+same_code a b at differ same = grind (arith, code_within, drop_more, code_past, drop_of_length-le)
 
 halved : (x bit : ℕ) → x / 2 ^ (bit + 1) ≡ x / 2 ^ bit / 2
 halved x bit = ap (λ n. x / 2 ^ n) (add-one bit) ∙ ap (λ n. x / n) (pow-suc 2 bit) ∙ sym (div-div-eq-div-mul x (2 ^ bit) 2)
@@ -89,4 +89,4 @@ same_parity m n same = grind (arith, common_steps)
 
 pub same_bit : (x y bit : ℕ) → x < 2 ^ 16 → y < 2 ^ 16 → bit < 16 → (x / 2 ^ bit ≡ y / 2 ^ bit → ⊥) → is_set x bit ≡ is_set y bit
     → (bit + 1 < 16) × (x / 2 ^ (bit + 1) ≡ y / 2 ^ (bit + 1) → ⊥)
-same_bit x y bit xs ys few differ same = grind (arith, mod-eq_of_lt, same_parity, halved, div-eq_of_lt, cases_lt)
+same_bit x y bit xs ys few differ same = grind (arith, same_parity, halved, div-eq_of_lt, cases_lt)

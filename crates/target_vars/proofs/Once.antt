@@ -10,7 +10,7 @@ use Rattle.target_vars.specs.EnvValue.{EachNameOnce}
 pub once-push : (env : Environment) (e : Entry) → EachNameOnce env → is_there env e.name ≡ false → EachNameOnce (env ++ e ∷ [])
 once-push [] e once absent = (ap is_some (look_up-empty e.name), tt)
 once-push (x ∷ env) e once absent =
-    let alone : is_there (e ∷ []) x.name ≡ false = grind (arith, is_some, look_up-other, differs_back, other_in_front, look_up-empty) in
+    let alone : is_there (e ∷ []) x.name ≡ false = grind (arith, look_up-other, differs_back, other_in_front, look_up-empty) in
     (is_there-append env (e ∷ []) x.name once.0 alone, once-push env e once.1 (absent_after x env e.name absent))
 
 once_longer : (env : Environment) (name t : Text) → is_there env name ≡ true → EachNameOnce env → EachNameOnce (with_member env name t)
@@ -19,7 +19,7 @@ once_longer (e ∷ env) name t there once = by_cases (bytes_eq e.name name) refl
   where
     by_cases : (b : Bool) → bytes_eq e.name name ≡ b → (is_there env name ≡ true → EachNameOnce env → EachNameOnce (with_member env name t))
         → EachNameOnce (with_member (e ∷ env) name t)
-    by_cases b same following = grind (arith, with_member-same, is_some, look_up-other, with_member-other, is_there-with_member)
+    by_cases b same following = grind (arith, with_member-same, look_up-other, with_member-other, is_there-with_member)
 
 pub once-with_member : (env : Environment) (name t : Text) → EachNameOnce env → EachNameOnce (with_member env name t)
 once-with_member env name t once = grind (arith, once_longer, with_member-new, once-push)

@@ -1,5 +1,5 @@
 -- The spans of a list among those of all lists.
-use Rattle.std.proofs.Common.{◌≡◌, ℕ, ◌<◌, ◌≤◌, List, [], ◌++◌, Bool, true, false, cond, length, take, drop, get_or, insert, All, leb, ltb, refl, sym}
+use Rattle.std.proofs.Common.{◌≡◌, ℕ, ◌<◌, ◌≤◌, List, [], ◌++◌, Bool, true, false, length, take, drop, get_or, insert, All, leb, ltb, refl, sym}
 use Rattle.std.proofs.Common.{ap, ◌∙◌, subst, arith, length-drop, length-take-le, take-append-drop, append-nil, leb-true, ltb-true, ltb-false}
 use Rattle.std.specs.Prelude.{◌==◌}
 use Rattle.std.specs.List.{AllWithin, filter}
@@ -84,7 +84,7 @@ put_last_is xs s place within order parted =
       in_order = IsNonDecreasingBy-insert (λ x. x.list) xs place s order within
           (λ k d below. leb-true (get_or xs k d).list n (parted.0 k d (omega arith) below))
           (λ k d from below. let gt = leb-false (get_or xs k d).list n (parted.1 k d from below) in omega arith);
-      own = grind (arith, filter-append, cond, is, filter_none, above, append-nil);
+      own = grind (arith, filter-append, filter_none, above, append-nil);
       others = grind (arith, common_steps);
     }
 

@@ -1,12 +1,10 @@
 -- The code points of UTF-8 are its characters.
 use Rattle.std.proofs.Common.{◌≡◌, ℕ, ◌+◌, ◌%◌, ◌≤◌, List, [], ◌∷◌, ◌++◌, length, take, map, true, false, cond, refl, ap, ◌∙◌, arith}
-use Rattle.std.specs.Prelude.{nat_lt, encode_utf8_all}
+use Rattle.std.specs.Prelude.{encode_utf8_all}
 use Rattle.std.specs.Char.{encode_utf8}
 use Rattle.std.specs.List.{prefix_len, take-map}
-use Rattle.std.proofs.Math.Dec.{eqb}
 use Rattle.std.proofs.Math.Seq.{take-append_seam, drop-append_seam}
 use Rattle.std.proofs.lemmas.List.Folds.{prefix_len-append}
-use Rattle.std.proofs.lemmas.Bool.Decides.{nat_tests}
 use Rattle.text_model.specs.Texts.{Text}
 use Rattle.text_model.specs.Cut.{is_continuation, code_points, joined, cut}
 use Rattle.text_model.specs.declared.writing.Writing.TheVariants.{U}
@@ -17,13 +15,10 @@ data IsCharacter : Text → Type 0 where
   character : (b : ℕ) (rest : Text) → is_continuation b ≡ false → prefix_len is_continuation rest ≡ length rest → IsCharacter (b ∷ rest)
 
 following : (x : ℕ) → is_continuation (128 + x % 64) ≡ true
-following x = grind (arith, nat_tests)
+following x = grind arith
 
 leading : (b : ℕ) → 192 ≤ b → is_continuation b ≡ false
-leading b h = grind (arith, nat_tests)
-
-ascii : (b : ℕ) → nat_lt b 128 ≡ true → is_continuation b ≡ false
-ascii b h = grind (arith, nat_tests)
+leading b h = grind arith
 
 following_one : (x : ℕ) → prefix_len is_continuation ((128 + x % 64) ∷ []) ≡ 1
 following_one x = ap (λ b. cond b (1 + 0) 0) (following x)
@@ -37,7 +32,7 @@ following_three x y z = ap (λ b. cond b (1 + prefix_len is_continuation ((128 +
 
 encode_utf8-character : (c : ℕ) → IsCharacter (encode_utf8 c)
 unfolding encode_utf8
-encode_utf8-character c = grind (arith, cond, character, ascii, leading, following_one, following_two, following_three)
+encode_utf8-character c = grind (arith, character, leading, following_one, following_two, following_three)
 
 -- the text does not begin with a byte that continues a character before it
 begins_anew : Text → Type 0
@@ -54,7 +49,7 @@ encode_utf8_all-anew (c ∷ cs) = new_character (encode_utf8 c) (encode_utf8_all
 
 run_through : (rest t : Text) → prefix_len is_continuation rest ≡ length rest → begins_anew t → prefix_len is_continuation (rest ++ t) ≡ length rest
 unfolding begins_anew
-run_through rest t r a = grind (arith, prefix_len-append, cond, eqb)
+run_through rest t r a = grind (arith, prefix_len-append)
 
 next_character : (bs t : Text) → IsCharacter bs → begins_anew t → code_points (bs ++ t) ≡ bs ∷ code_points t
 next_character _ t (character b rest h r) a = grind (arith, code_points-next, run_through, take-append_seam, drop-append_seam)

@@ -26,7 +26,7 @@ unfolding with_triplets
 joined-with_triplets [] = refl
 joined-with_triplets (p ∷ []) = refl
 joined-with_triplets (p ∷ q ∷ []) = refl
-joined-with_triplets (p ∷ q ∷ r ∷ points) = grind (arith, common_steps, joined-with_triplets points, joined-with_triplets (q ∷ r ∷ points)) steps 400000
+joined-with_triplets (p ∷ q ∷ r ∷ points) = grind (arith, joined-with_triplets points, joined-with_triplets (q ∷ r ∷ points))
 
 pub joined-items : (w : Writing) (t : Text) → joined (items w t) ≡ t
 joined-items U t = joined-code_points t

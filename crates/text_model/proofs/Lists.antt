@@ -110,7 +110,7 @@ pub index_within : {X : Type 0} (test : X → Bool) (xs : List X) → position_o
 index_within test xs = prefix_len-le-length (λ x. not (test x)) xs
 
 pub index_or_length : {X : Type 0} (test : X → Bool) (xs : List X) → unwrap_or (position test xs) (length xs) ≡ position_or_len test xs
-index_or_length test xs = grind (arith, unwrap_or, cond, ltb-false, index_within)
+index_or_length test xs = grind (arith, ltb-false, index_within)
 
 pub position-some : {X : Type 0} (test : X → Bool) (xs : List X) (i : ℕ) → position test xs ≡ Some i → i ≡ position_or_len test xs
 position-some test xs i = grind (arith, common_steps)

@@ -1,9 +1,8 @@
 -- Operators and bodies: what the reader needs to know of them, and that a body is at most one expression.
-use Rattle.std.proofs.Common.{◌≡◌, ℕ, ◌+◌, Bool, true, false, ⊎_elim, inl, inr, List, [], ◌∷◌, length, drop, refl, ap, ◌∙◌, sym, subst, arith}
+use Rattle.std.proofs.Common.{◌≡◌, ℕ, ◌+◌, true, false, ⊎_elim, inl, inr, List, [], ◌∷◌, length, drop, refl, ap, sym, subst, arith}
 use Rattle.std.proofs.lemmas.Grind.{common_steps}
-use Rattle.std.proofs.Common.{◌==◌, nat_eq}
-use Rattle.std.specs.List.{list_any}
-use Rattle.std.proofs.lemmas.Bool.{cases_Bool, cond-true, cond-false, or_from, false≢true}
+use Rattle.std.proofs.Common.{◌==◌}
+use Rattle.std.proofs.lemmas.Bool.{cases_Bool, cond-true, cond-false}
 use Rattle.uri_grammar.specs.declared.error.TemplateError.{TemplateError}
 use Rattle.uri_grammar.specs.declared.error.TemplateErrorKind.{TemplateErrorKind}
 use Rattle.uri_grammar.specs.declared.parts.Op.{Op}
@@ -30,19 +29,13 @@ unfolding OperatorOf
 has_none body h b is =
     subst (λ (q : Op). HasOperator body q (drop (length (operator_text q)) body)) (sym is) (record { whole = refl; not_reserved = h; chosen = λ s. b })
 
-different : (o : Op) → nat_eq (length (operator_text o)) 0 ≡ false → o ≡ operator.Simple → ⊥
-different o h e = false≢true (sym h ∙ ap (λ (q : Op). nat_eq (length (operator_text q)) 0) e)
-
-any_none : (p : ℕ → Bool) (x : ℕ) (xs : List ℕ) → p x ≡ false → list_any p xs ≡ false → list_any p (x ∷ xs) ≡ false
-any_none p x xs h k = or_from (p x) (list_any p xs) h k
-
 no_operator_here : (c : ℕ) (cs : List ℕ) → (c == 43) ≡ false → (c == 35) ≡ false → (c == 46) ≡ false → (c == 47) ≡ false → (c == 59) ≡ false
     → (c == 63) ≡ false → (c == 38) ≡ false → begins_with_operator (c ∷ cs) ≡ false
 no_operator_here c cs a b d e f g i = grind (arith, common_steps)
 
 has_operator : (body : List ℕ) → begins_with_reserved body ≡ false → OperatorOf body
 has_operator [] h = has_none [] h refl refl
-has_operator (c ∷ cs) h = grind (arith, has_this, different, cond-true, cond-false, has_none, no_operator_here, cases_Bool)
+has_operator (c ∷ cs) h = grind (arith, has_this, cond-true, cond-false, has_none, no_operator_here, cases_Bool)
 
 pub operator_of-HasOperator : (body : List ℕ) → begins_with_reserved body ≡ false
     → HasOperator body (operator_of body) (drop (length (operator_text (operator_of body))) body)

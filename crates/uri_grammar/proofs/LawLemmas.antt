@@ -87,7 +87,7 @@ list_one_fault list other k l d e same f g =
 -- ---- bodies
 
 pub body_same : (body : List ℕ) (o p : Op) (ss ts : List Spec) → IsBody body o ss → IsBody body p ts → (o ≡ p) × (ss ≡ ts)
-body_same body o p ss ts h k = grind (arith, operator_same, specs_same, nothing_no_spec)
+body_same body o p ss ts h k = grind (arith, specs_same, nothing_no_spec)
 
 pub no_empty_body : (body : List ℕ) (o : Op) (ss : List Spec) → body ≡ [] → IsBody body o ss → ⊥
 no_empty_body body o ss e h = grind (arith, no_empty_list)

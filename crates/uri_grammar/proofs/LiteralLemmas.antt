@@ -3,7 +3,7 @@ use Rattle.std.proofs.Common.{◌≡◌, ℕ, ◌+◌, true, false, List, [], �
 use Rattle.std.specs.Prelude.{if◌then◌else◌}
 use Rattle.std.proofs.lemmas.Grind.{common_steps}
 use Rattle.std.proofs.Math.Seq.{take-add}
-use Rattle.std.proofs.lemmas.Bool.{cond_both, cond-true, cond-false, eqb-true, and_parts, or_parts}
+use Rattle.std.proofs.lemmas.Bool.{cond_both, cond-true, cond-false, eqb-true, and_parts}
 use Rattle.text_model.specs.Texts.{begins_with_triplet, is_triplet, is_hexadecimal}
 use Rattle.uri_grammar.specs.Characters.{open_brace}
 use Rattle.uri_grammar.specs.Literals.{is_literal_character, begins_with_literal, AreLiterals, no_literals, literal_character, literal_triplet}
@@ -15,7 +15,7 @@ percent_first c high low t = eqb-true c 37 (and_parts (c == 37) (is_hexadecimal 
 
 literal_item_len-triplet : (c high low : ℕ) (x : List ℕ) → is_triplet c high low ≡ true → literal_item_len (c ∷ high ∷ low ∷ x) ≡ 3
 unfolding is_literal_character
-literal_item_len-triplet c high low x t = grind (arith, percent_first, cond-false, cond-true)
+literal_item_len-triplet c high low x t = grind (arith, percent_first, cond-true)
 
 pub AreLiterals-run : (cs : List ℕ) → AreLiterals cs → Run literal_item_len cs
 AreLiterals-run cs no_literals = no_item
@@ -27,7 +27,7 @@ AreLiterals-run cs (literal_triplet c d e rest t more) =
 -- there is no literal at the beginning exactly if its length is 0
 pub no_literal-length : (cs : List ℕ) → begins_with_literal cs ≡ false → literal_item_len cs ≡ 0
 no_literal-length [] h = refl
-no_literal-length (c ∷ cs) h = grind (arith, or_parts, cond-false)
+no_literal-length (c ∷ cs) h = grind (arith, cond-false)
 
 pub no_length-literal : (cs : List ℕ) → literal_item_len cs ≡ 0 → begins_with_literal cs ≡ false
 no_length-literal [] h = refl

@@ -25,7 +25,7 @@ length-varchar v h = grind (arith, common_steps)
 
 varchar_len-varchar : (v x : List ℕ) → IsVarchar v → varchar_len (v ++ x) ≡ length v
 varchar_len-varchar v x (character_varchar c w) = cond-true (is_name_character c) _ _ w
-varchar_len-varchar v x (triplet_varchar c d e t) = grind (arith, percent_first, cond-false, cond-true)
+varchar_len-varchar v x (triplet_varchar c d e t) = grind (arith, percent_first, cond-true)
 
 no_dot : (c : ℕ) → is_name_character c ≡ true → (c == 46) ≡ false
 no_dot c w =
@@ -33,10 +33,10 @@ no_dot c w =
 
 next_len-varchar : (v x : List ℕ) → IsVarchar v → next_len (v ++ x) ≡ length v
 next_len-varchar v x (character_varchar c w) = cond-false (c == 46) _ _ (no_dot c w) ∙ varchar_len-varchar (c ∷ []) x (character_varchar c w)
-next_len-varchar v x (triplet_varchar c d e t) = grind (arith, percent_first, cond-false, varchar_len-varchar)
+next_len-varchar v x (triplet_varchar c d e t) = grind (arith, percent_first, varchar_len-varchar)
 
 next_len-dotted : (v x : List ℕ) → IsVarchar v → next_len (46 ∷ v ++ x) ≡ suc (length v)
-next_len-dotted v x h = grind (arith, varchar_len-varchar, length-varchar, ne_eqb, cond-false)
+next_len-dotted v x h = grind (arith, varchar_len-varchar, length-varchar, ne_eqb)
 
 IsVarchar-front : (cs : List ℕ) → 0 < varchar_len cs → IsVarchar (take (varchar_len cs) cs)
 IsVarchar-front [] h = absurd (omega arith)

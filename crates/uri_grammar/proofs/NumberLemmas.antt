@@ -5,7 +5,7 @@ use Rattle.std.proofs.Common.{◌&&◌, not, ◌==◌}
 use Rattle.std.specs.Prelude.{nat_le}
 use Rattle.std.specs.List.{list_all}
 use Rattle.std.specs.Char.{is_ascii_digit}
-use Rattle.std.proofs.lemmas.Bool.{and_parts, leb-true, lt-leb, cond-false, eqb-false, not-true}
+use Rattle.std.proofs.lemmas.Bool.{and_parts, leb-true, lt-leb, eqb-false, not-true}
 use Rattle.std.proofs.lemmas.List.{drop_more}
 use Rattle.std.proofs.Math.Bool.{and-false}
 use Rattle.text_model.specs.Number.{value_from}
@@ -70,7 +70,7 @@ max_length-tests (d ∷ ds) = refl
 
 none_by : (ds : List ℕ) (digits small : Bool) → list_all is_ascii_digit ds ≡ digits → nat_le (value_from 0 ds) MAX_PREFIX ≡ small
     → tests ds digits small ≡ false → number_of ds ≡ None
-none_by ds digits small d s e = grind (arith, cond-false, max_length-tests, tests, digits)
+none_by ds digits small d s e = grind (arith, max_length-tests, tests, digits)
 
 never : (x y z : Bool) → (y && z) ≡ false → (x && (y && z)) ≡ false
 never x y z e = grind (arith, common_steps)

@@ -1,6 +1,6 @@
 -- Texts that no part begins with.
 
-use Rattle.std.proofs.Common.{◌≡◌, ◌≢◌, ℕ, ◌+◌, ◌<◌, ◌≤◌, ⊎_elim, List, [], ◌∷◌, ◌++◌, length, refl, ap, ◌∙◌, sym, subst, arith, append-nil, encode_utf8_all}
+use Rattle.std.proofs.Common.{◌≡◌, ◌≢◌, ℕ, ◌+◌, ◌<◌, ◌≤◌, ⊎_elim, List, [], ◌∷◌, ◌++◌, length, refl, ap, ◌∙◌, sym, subst, arith, append-nil}
 use Rattle.std.proofs.lemmas.Str.{encodes_same}
 use Rattle.std.proofs.lemmas.List.Elements.{All-nil}
 use Rattle.std.proofs.lemmas.Grind.{common_steps}
@@ -197,4 +197,4 @@ one_first_fault text kind other at place r q =
     r
   where
     both : (cs ds : List ℕ) → cs ≡ ds → IsFirstFault cs kind at → IsFirstFault ds other place → (kind ≡ other) × (at ≡ place)
-    both cs ds same f g = grind (arith, spelled_same, fault_no_part, part_one_fault, encode_utf8_all)
+    both cs ds same f g = grind (arith, spelled_same, fault_no_part, part_one_fault)

@@ -210,7 +210,7 @@ specs_fault list rest piece done len ss e w r p lacks cut h f =
     ⊎_elim
     (λ m. inl (ap (λ (x : TemplateError). moved x done) m))
     (λ g.
-    let place : moved_place e.kind e.at done ≡ length (take done (list ++ comma ∷ [])) + e.at = grind (arith, spec_moves, size) in
+    let place : moved_place e.kind e.at done ≡ length (take done (list ++ comma ∷ [])) + e.at = grind (arith, size) in
     inr (record {
       front = take done (list ++ comma ∷ []);
       specs = ss;

@@ -2,7 +2,7 @@
 use Rattle.std.proofs.Common.{◌≡◌, ◌≢◌, ℕ, ◌<◌, [], ◌∷◌, ◌++◌, Bool, true, false, refl, sym, ap, ◌∙◌, arith, append-nil}
 use Rattle.std.specs.Prelude.{All, if◌then◌else◌}
 use Rattle.std.specs.Char.{digit_value}
-use Rattle.std.proofs.lemmas.Bool.{and_parts, eqb-true, cond-false}
+use Rattle.std.proofs.lemmas.Bool.{eqb-true}
 use Rattle.std.proofs.lemmas.List.Elements.{All-head, All-tail}
 use Rattle.std.proofs.lemmas.Bool.Decides.{nat_tests}
 use Rattle.percent_encoding.specs.Percent.{percent_decode}
@@ -49,7 +49,7 @@ alone_ur b small = ap percent_decode (sym (append-nil (written_byte (is_unreserv
 -- bytes that are not a triplet are decoded byte by byte
 kept_first : (b high low : ℕ) (t : Text) → is_triplet b high low ≡ false → percent_decode (b ∷ high ∷ low ∷ t) ≡ b ∷ percent_decode (high ∷ low ∷ t)
 unfolding percent_decode
-kept_first b high low t e = grind (arith, cond-false)
+kept_first b high low t e = grind arith
 
 pub decoded_ur : (t : Text) → AreBytes t → percent_decode (written_ur t) ≡ percent_decode t
 unfolding written_ur percent_decode
@@ -66,6 +66,6 @@ decoded_ur (b ∷ high ∷ low ∷ t) h =
         ≡ percent_decode (high ∷ low ∷ t)
         → percent_decode (if x then (b ∷ high ∷ low ∷ written_ur t) else (written_byte (is_unreserved_or_reserved b) b ++ written_ur (high ∷ low ∷ t)))
         ≡ percent_decode (b ∷ high ∷ low ∷ t)
-    by_test true e i j = grind (arith, and_parts, percent_decode_escape, eqb-true, hexadecimal_value)
+    by_test true e i j = grind (arith, percent_decode_escape, eqb-true, hexadecimal_value)
     by_test false e i j = decoded_ur_byte b (written_ur (high ∷ low ∷ t)) (first_byte b (high ∷ low ∷ t) h)
         ∙ (ap (λ x. b ∷ x) j ∙ sym (kept_first b high low t e))

@@ -3,7 +3,7 @@ use Rattle.std.proofs.Common.{◌≡◌, ℕ, suc, ◌+◌, ◌<◌, ◌-◌, �
 use Rattle.std.proofs.Common.{false, cond, ◌&&◌, not, add-one, refl, ap, ◌∙◌, arith}
 use Rattle.std.specs.Prelude.{if◌then◌else◌}
 use Rattle.std.specs.List.{prefix_len}
-use Rattle.std.proofs.lemmas.Bool.{and_parts, not-true}
+use Rattle.std.proofs.lemmas.Bool.{and_parts}
 use Rattle.std.proofs.lemmas.Bool.Decides.{nat_tests}
 use Rattle.std.proofs.Math.Seq.{take-add}
 use Rattle.std.proofs.lemmas.List.{drop-drop, length-drop}
@@ -11,7 +11,7 @@ use Rattle.std.proofs.lemmas.List.Sums.{prefix_len-le-length}
 use Rattle.std.proofs.lemmas.Grind.{common_steps}
 use Rattle.text_model.specs.Texts.{Text, is_hexadecimal, is_triplet}
 use Rattle.text_model.specs.Cut.{is_continuation, code_points, with_triplets, items, cut}
-use Rattle.text_model.proofs.Cuts.{code_points-next, begins_with_triplet_points, with_triplets-first, with_triplets-triplet, cut-item, cut-nothing}
+use Rattle.text_model.proofs.Cuts.{code_points-next, begins_with_triplet_points, with_triplets-first, with_triplets-triplet, cut-nothing}
 use Rattle.uri_text.specs.Prefix.{writing_of}
 use Rattle.uri_text.specs.Private.Items.{continues, code_point_length, begins_with_triplet_item, item_length}
 
@@ -46,7 +46,7 @@ by_third : (b c d : ℕ) (t : Text) (x : Bool) → continues t ≡ x → (is_tri
 by_third b c d t true e h =
     let longer = code_points-longer d t e in
     ap (λ points. begins_with_triplet_points (b ∷ []) ((c ∷ []) ∷ points)) longer.3
-by_third b c d t false e h = grind (arith, begins_with_triplet_points, code_points-alone)
+by_third b c d t false e h = grind (arith, code_points-alone)
 
 by_second : (b c : ℕ) (t : Text) (x : Bool) → continues t ≡ x → begins_with_triplet_item (b ∷ c ∷ t) ≡ false
     → begins_with_triplet_points (b ∷ []) (code_points (c ∷ t)) ≡ false
@@ -76,7 +76,7 @@ other_item b t h = ap with_triplets (code_points-next b t) ∙ with_triplets-fir
 -- a triplet at the beginning is the first item
 triplet_item : (b high low : ℕ) (t : Text) → begins_with_triplet_item (b ∷ high ∷ low ∷ t) ≡ true
     → with_triplets (code_points (b ∷ high ∷ low ∷ t)) ≡ (b ∷ high ∷ low ∷ []) ∷ with_triplets (code_points t)
-triplet_item b high low t h = grind (arith, and_parts, not, code_points-alone, not-true, hexadecimal_alone, with_triplets-triplet)
+triplet_item b high low t h = grind (arith, and_parts, code_points-alone, hexadecimal_alone, with_triplets-triplet)
 
 pub first_item : (triplets : Bool) (t : Text) → 0 < length t
     → items (writing_of triplets) t ≡ take (item_length triplets t) t ∷ items (writing_of triplets) (drop (item_length triplets t) t)
@@ -93,19 +93,16 @@ first_item true (b ∷ t) l = by_test (begins_with_triplet_item (b ∷ t)) refl
 code_point_length-within : (t : Text) → code_point_length t ≤ length t
 code_point_length-within t = grind (arith, prefix_len-le-length)
 
-triplet_item-within : (t : Text) → begins_with_triplet_item t ≡ true → 3 ≤ length t
-triplet_item-within t g = grind (arith, common_steps)
-
 -- an item ends within its text
 pub item_length-within : (triplets : Bool) (t : Text) → item_length triplets t ≤ length t
 item_length-within false t = code_point_length-within t
-item_length-within true t = grind (arith, triplet_item-within, code_point_length-within)
+item_length-within true t = grind (arith, code_point_length-within)
 
 -- one more item belongs to the cut
 pub next_item : (triplets : Bool) (t : Text) (taken left : ℕ) → taken < length t → 0 < left
     → take taken t ++ cut (writing_of triplets) (drop taken t) left
     ≡ take (taken + item_length triplets (drop taken t)) t ++ cut (writing_of triplets) (drop (taken + item_length triplets (drop taken t)) t) (left - 1)
-next_item triplets t taken left inside some = grind (arith, length-drop, cut-item, first_item, append_assoc, take-add, drop-drop)
+next_item triplets t taken left inside some = grind (arith, length-drop, first_item, append_assoc, take-add, drop-drop) steps 400000
 
 -- the cut is complete if no more items are needed, or no text is left
 pub all_taken : (triplets : Bool) (t : Text) (taken left : ℕ) → (left ≡ 0) ⊎ (length t ≤ taken)

@@ -1,7 +1,7 @@
 -- The first byte of a text is encoded first.
 use Rattle.std.proofs.Common.{◌≡◌, ℕ, ◌<◌, [], ◌∷◌, ◌++◌, length, drop, get_or, Bool, true, false, ◌&&◌, ◌||◌, ◌==◌, refl, sym, ap, ◌∙◌, arith, append-nil}
 use Rattle.std.specs.Prelude.{if◌then◌else◌}
-use Rattle.std.proofs.lemmas.Bool.{and_parts, ne_eqb}
+use Rattle.std.proofs.lemmas.Bool.{and_parts}
 use Rattle.std.proofs.lemmas.Bool.Decides.{nat_tests}
 use Rattle.std.proofs.Math.Bool.{or-false, or-true}
 use Rattle.text_model.specs.Texts.{Text, begins_with_triplet, is_unreserved, is_hexadecimal, is_triplet}
@@ -25,7 +25,7 @@ written_u-first (b ∷ t) some = refl
 -- ---- UR
 
 no_triplet : (b : ℕ) (t : Text) → is_unreserved_or_reserved b ≡ true → begins_with_triplet (b ∷ t) ≡ false
-no_triplet b t stays = grind (arith, ne_eqb, not_percent)
+no_triplet b t stays = grind (arith, not_percent)
 
 hexadecimal_stays : (b : ℕ) → is_hexadecimal b ≡ true → is_unreserved_or_reserved b ≡ true
 unfolding is_unreserved

@@ -5,8 +5,7 @@ use Rattle.std.specs.Bool.{then_some}
 use Rattle.std.specs.Char.{is_ascii_digit}
 use Rattle.std.proofs.lemmas.List.{drop_more}
 use Rattle.std.proofs.lemmas.List.Sums.{take_while-cons}
-use Rattle.std.proofs.lemmas.Bool.{cond-true, cond-false, le-leb, ne_eqb}
-use Rattle.std.proofs.lemmas.Bool.Decides.{nat_tests}
+use Rattle.std.proofs.lemmas.Bool.{cond-false, ne_eqb}
 use Rattle.std.proofs.Math.ListN.{drop_of_length-le}
 use Rattle.std.proofs.Math.Nat.{pow-le-pow_right}
 use Rattle.std.proofs.lemmas.Grind.{common_steps}
@@ -20,14 +19,11 @@ pub record HasRead (t : Text) (count value : ℕ) : Type 0 where
   pub few : count ≤ 9
   pub small : value < 10 ^ count
 
-digits-cons : (b : ℕ) (t : Text) → is_ascii_digit b ≡ true → leading_digits (b ∷ t) ≡ b ∷ leading_digits t
-digits-cons b t e = take_while-cons is_ascii_digit b t ∙ cond-true (is_ascii_digit b) _ _ e
-
 digits-other : (b : ℕ) (t : Text) → is_ascii_digit b ≡ false → leading_digits (b ∷ t) ≡ []
 digits-other b t e = take_while-cons is_ascii_digit b t ∙ cond-false (is_ascii_digit b) _ _ e
 
 pub digit_low : (b : ℕ) → is_ascii_digit b ≡ true → b - 48 < 10
-digit_low b e = let h : b ≤ 57 = grind (arith, nat_tests) in omega arith
+digit_low b e = let h : b ≤ 57 = grind arith in omega arith
 
 next_small : (value count b : ℕ) → value < 10 ^ count → b - 48 < 10 → 10 * value + (b - 48) < 10 ^ (count + 1)
 next_small value count b h d = grind (arith, common_steps)
@@ -39,7 +35,7 @@ pub next_read : (t : Text) (count value : ℕ) → HasRead t count value → cou
 unfolding value_from
 next_read t count value h inside digit low room =
     let b = get_or t count 0 in
-    let rest : leading_digits (drop count t) ≡ b ∷ leading_digits (drop (count + 1) t) = grind (arith, drop_more, digits-cons) in
+    let rest : leading_digits (drop count t) ≡ b ∷ leading_digits (drop (count + 1) t) = grind (arith, drop_more) in
     record {
       digits = omega (arith, h.digits, ap length rest);
       value_is = h.value_is ∙ ap (value_from value) rest;
@@ -58,7 +54,7 @@ number_before t count value h inside other =
     number_ends t count value h (ap leading_digits (drop_more t count 0 inside) ∙ digits-other (get_or t count 0) (drop (count + 1) t) other)
 
 pub number_last : (t : Text) (count value : ℕ) → HasRead t count value → length t ≡ count → leading_number t ≡ then_some (not (length t == 0)) value
-number_last t count value h end = grind (arith, number_ends, drop_of_length-le, le-leb, ne_eqb)
+number_last t count value h end = grind (arith, number_ends, drop_of_length-le, ne_eqb)
 
 -- another digit can come
 pub room_for_digit : (t : Text) (count value : ℕ) → HasRead t count value → count < 9 → value < 10 ^ 8

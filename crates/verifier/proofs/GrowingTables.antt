@@ -3,7 +3,6 @@ use Rattle.std.proofs.Common.{◌≡◌, ℕ, ◌+◌, ◌-◌, ◌*◌, ◌<◌
 use Rattle.std.proofs.lemmas.Grind.{common_steps}
 use Rattle.std.proofs.Common.{⊎_elim}
 use Rattle.std.specs.List.{AllByRecursion}
-use Rattle.std.proofs.Math.Path.{fun_ext}
 use Rattle.std.proofs.lemmas.Bool.{cases_lt}
 use Rattle.std.proofs.lemmas.Option.{same_Some, slice_get_past}
 use Rattle.code_model.specs.Code.{Code, reading_at}
@@ -94,7 +93,7 @@ module _ (c : Code) where
 
   -- closed before the end is closed
   pub closed_all : (n : ℕ) (t : Table) → length c.instrs ≤ n → IsClosedBefore c n t → IsClosed c t
-  closed_all n t le h = grind (arith, fun_ext, above_any, cases_lt, slice_get_past)
+  closed_all n t le h = grind (arith, above_any, cases_lt, slice_get_past)
 
   pub least_of : (n : ℕ) (t : Table) → length c.instrs ≤ n → IsClosedBefore c n t → IsBelowClosed c t → IsLeast c t
   least_of n t le h b = record { closed = closed_all n t le h; least = b }

@@ -8,7 +8,7 @@ loop-place-init c =
     rw none (kept_none c.args.code.now c.args.body.element c.args.body.start)
 
 pub returns-then-writes : goal.returns-then-writes
-returns-then-writes c = grind (arith, kept_until, c.writes.ensures, c.reading.ensures, c.if-writes.true)
+returns-then-writes c = grind (arith, kept_until, c.reading.ensures, c.if-writes.true)
 
 pub loop-place-preserved : goal.loop-place-preserved
-loop-place-preserved c = grind (arith, kept_more, c.loop-place.invariant, c.writes.ensures, c.reading.ensures, c.if-writes.false)
+loop-place-preserved c = grind (arith, kept_more, c.writes.ensures, c.reading.ensures, c.if-writes.false)

@@ -18,5 +18,5 @@ loop-literal-preserved c =
           let most : w.max-longest.result ≡ max c.loop-literal.longest (length l.bytes) = rw (sym c.literal.view_is) (search rules) in
           longest_compared_more ls i l within c.literal-item.is c.loop-literal.longest c.if-literal.longest c.loop-literal.invariant
           (sym (ap (λ x. x.compared) c.literal.view_is) ∙ w.if-literal.true) (w.longest-is ∙ most)
-      | else-literal w ↦ grind (arith, longest_other_more, within, c.literal-item.is, c.loop-literal.invariant, c.literal.view_is)
+      | else-literal w ↦ grind (arith, longest_other_more, c.literal-item.is, c.loop-literal.invariant, c.literal.view_is)
     ]

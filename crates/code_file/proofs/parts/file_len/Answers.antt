@@ -3,4 +3,4 @@ use Rattle.code_file.proofs.PartsLemmas.{length-instrs}
 use Rattle.code_file.proofs.parts.file_len.Goals as goal
 
 pub returns : goal.returns
-returns c version = grind (arith, length-append, c.args.names.now, c.args.literals.now, c.args.instrs.now, length-instrs)
+returns c version = grind (arith, length-append, c.args.literals.now, c.args.instrs.now, length-instrs)

@@ -24,4 +24,4 @@ loop-name-preserved c =
     )
 
 pub returns-clause-columns : goal.returns-clause-columns
-returns-clause-columns c = grind (arith, c.loop-name.invariant, all_passed, c.in_default.ensures.none)
+returns-clause-columns c = grind (arith, all_passed, c.in_default.ensures.none)

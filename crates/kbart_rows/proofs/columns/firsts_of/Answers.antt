@@ -23,7 +23,7 @@ loop-name-preserved c =
     let named = sym (get_or_from_slice_get header column name [] at) in
     let first : c.is_first-first.result ≡ is_first header column = grind (arith, common_steps) in
     let from : 0 + column ≡ column = omega arith in
-    grind (arith, c.in-Some.ensures.line, inv, next, slice_get_within, at, first, from, map-append, range_more)
+    grind (arith, inv, next, slice_get_within, at, first, from, map-append, range_more)
 
 pub returns : goal.returns
-returns c = grind (arith, c.args.header.now, c.loop-name.names.column, c.loop-name.invariant, c.in_default.ensures.cell, past_end)
+returns c = grind (arith, c.loop-name.names.column, c.loop-name.invariant, c.in_default.ensures.cell, past_end)

@@ -3,4 +3,4 @@ use Rattle.kbart_rows.proofs.NormalBytes.{normal_bytes}
 use Rattle.kbart_rows.proofs.identifier.is_identifier.Goals as goal
 
 pub returns : goal.returns
-returns c = grind (arith, c.is_normal_form.ensures, normal_bytes)
+returns c = grind (arith, normal_bytes)

@@ -1,5 +1,5 @@
 use Rattle.std.proofs.Common.{◌≡◌, ◌∙◌, ◌+◌, ◌++◌, [], List, ap, arith, drop, get_or, subst, sym}
-use Rattle.std.proofs.lemmas.List.{get_or-drop, length-drop}
+use Rattle.std.proofs.lemmas.List.{get_or-drop}
 use Rattle.kbart_rows.specs.Identifiers.{identifier_in}
 use Rattle.kbart_rows.specs.Lines.{cells_in}
 use Rattle.kbart_rows.specs.declared.index.Entry.{Entry}
@@ -16,8 +16,7 @@ loop-row-preserved c =
     let online = c.args.online in
     let old = c.loop-row.entries.items in
     let cells = cells_in c.line-line.result.now in
-    let next : row + 1 ≡ 1 + row = omega arith in
-    let at : cells ≡ get_or (drop 1 lines) row [] = grind (arith, c.line-line.ensures.cells, next, get_or-drop) in
+    let at : cells ≡ get_or (drop 1 lines) row [] = grind (arith, c.line-line.ensures.cells, get_or-drop) in
     let test = c.loop-row-test.true in
     let end = c.len-row-end.ensures in
     let few = c.requires.few in
@@ -27,9 +26,9 @@ loop-row-preserved c =
     record {
       has = subst (HasSoFar keys print online (drop 1 lines) (row + 1)) (sym grown)
           (has_more keys print online (drop 1 lines) row cells old at c.loop-row.invariant.has);
-      few = grind (arith, grown, few_more, c.loop-row.invariant.few);
-      small = grind (arith, grown, small_more, test, end, few, c.loop-row.invariant.small);
+      few = grind (arith, few_more, c.loop-row.invariant.few);
+      small = grind (arith, small_more, test, end, few, c.loop-row.invariant.small);
     }
 
 pub returns-clause-has : goal.returns-clause-has
-returns-clause-has c = grind (arith, has_within, length-drop, c.loop-row-test.false, c.len-row-end.ensures, c.loop-row.invariant.has)
+returns-clause-has c = grind (arith, has_within, c.loop-row-test.false, c.len-row-end.ensures, c.loop-row.invariant.has)

@@ -1,5 +1,4 @@
 use Rattle.std.proofs.Common.{◌≡◌, ◌-◌, ◌≤◌, ◌<◌, List, true, false, ap, arith, drop, get_or, length, nat_lt, rules, take}
-use Rattle.std.proofs.lemmas.Bool.Decides.{nat_tests}
 use Rattle.std.proofs.lemmas.List.Sorted.{IsNonDecreasingBy-drop, IsNonDecreasingBy-take, IsPartitionPoint-from_clause, IsPartitionedBy-ltb}
 use Rattle.std.specs.List.Sorted.{IsPartitionPoint}
 use Rattle.std.proofs.lemmas.Grind.{common_steps}
@@ -32,7 +31,7 @@ returns-clause-before c = λ k d above below.
     let inside : i < c.partition_point.result = omega (arith, above, below) in
     let same = at_mid c.args.entries.now start (c.args.end - start) i k d (omega (arith, inside, bound, size)) (omega (arith, above)) in
     let less = (parts c).0 i d (omega arith) inside in
-    let small : entry_key (get_or (mid c) i d) < c.args.key = grind (arith, nat_tests) in
+    let small : entry_key (get_or (mid c) i d) < c.args.key = grind arith in
     let keys : entry_key (get_or (mid c) i d) ≡ entry_key (get_or c.args.entries.now k d) = ap entry_key same in
     omega (arith, small, keys)
 
@@ -44,6 +43,6 @@ returns-clause-after c = λ k d above below.
     let inside : i < c.args.end - start = omega (arith, above, below) in
     let same = at_mid c.args.entries.now start (c.args.end - start) i k d inside (omega (arith, above)) in
     let more = (parts c).1 i d (omega (arith, above)) (omega (arith, inside, size)) in
-    let large : c.args.key ≤ entry_key (get_or (mid c) i d) = grind (arith, nat_tests) in
+    let large : c.args.key ≤ entry_key (get_or (mid c) i d) = grind arith in
     let keys : entry_key (get_or (mid c) i d) ≡ entry_key (get_or c.args.entries.now k d) = ap entry_key same in
     omega (arith, large, keys)

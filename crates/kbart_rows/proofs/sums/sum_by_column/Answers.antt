@@ -8,13 +8,13 @@ use Rattle.kbart_rows.proofs.RowSums.{counted_within, none_counted}
 use Rattle.kbart_rows.proofs.sums.sum_by_column.Goals as goal
 
 pub overflow_add-sum : goal.overflow_add-sum
-overflow_add-sum c = grind (arith, c.split_cell.ensures.parts.within, c.loop-is_counted.invariant.1, counted_within, cells_fit, c.requires)
+overflow_add-sum c = grind (arith, c.loop-is_counted.invariant.1, counted_within, cells_fit, c.requires)
 
 pub overflow_cast-result : goal.overflow_cast-result
-overflow_cast-result c = grind (arith, c.loop-is_counted.invariant.1, counted_within, cells_fit, c.requires)
+overflow_cast-result c = grind (arith, counted_within, cells_fit, c.requires)
 
 pub overflow_cast-result-2 : goal.overflow_cast-result-2
-overflow_cast-result-2 c = grind (arith, c.loop-is_counted.invariant.1, counted_within, cells_fit, c.requires)
+overflow_cast-result-2 c = grind (arith, counted_within, cells_fit, c.requires)
 
 pub returns-then-is_empty : goal.returns-then-is_empty
 returns-then-is_empty c =

@@ -11,10 +11,9 @@ loop-row-preserved c =
     let row = c.loop-row.row in
     let header = get_or lines 0 [] in
     let rows = drop 1 lines in
-    let next : row + 1 ≡ 1 + row = omega arith in
     let inside : row < length rows = omega (arith, c.loop-row-test.true, c.len-rows.ensures, length-drop 1 lines) in
-    let at : cells_in c.line.result.now ≡ get_or rows row [] = grind (arith, c.line.ensures.cells, next, get_or-drop) in
+    let at : cells_in c.line.result.now ≡ get_or rows row [] = grind (arith, c.line.ensures.cells, get_or-drop) in
     let sum : c.sum_of.result ≡ bytes_of header (get_or rows row []) =
-    grind (arith, c.sum_of.ensures, c.requires.firsts, firsts_count, at) in
+    grind (arith, c.requires.firsts, firsts_count, at) in
     c.in_ok-push.ensures.items ∙ ap (λ (sums : _). sums ++ c.sum_of.result ∷ []) c.loop-row.invariant
     ∙ ap (λ (n : _). map (bytes_of header) (take row rows) ++ n ∷ []) sum ∙ sym (map_more (bytes_of header) rows row [] inside)

@@ -1,4 +1,4 @@
-use Rattle.std.proofs.Common.{◌≡◌, ◌==◌, ◌+◌, ◌≤◌, ℕ, cond, count_by, length, map, take, ap, arith}
+use Rattle.std.proofs.Common.{◌≡◌, ◌==◌, ◌+◌, ◌≤◌, ℕ, count_by, length, map, take, ap, arith}
 use Rattle.std.proofs.lemmas.List.{length-take-le}
 use Rattle.std.proofs.lemmas.List.Sums.{count_by-le-length, sum_by-append}
 use Rattle.std.proofs.lemmas.Simd.{ones-mask_l}
@@ -14,7 +14,7 @@ tabs text = count_by (λ b. b == tab) text
 
 -- 16 bytes more
 tabs_more : (line : Text) (at : ℕ) → tabs (take (at + 16) line) ≡ tabs (take at line) + count_ones (mask_l (map (λ b. b == tab) (chunk at 16 line)))
-tabs_more line at = grind (arith, count_by, take-add, sum_by-append, cond, ones-mask_l)
+tabs_more line at = grind (arith, take-add, sum_by-append, ones-mask_l)
 
 few_tabs : (text : Text) → tabs text ≤ length text
 few_tabs text = count_by-le-length (λ b. b == tab) text

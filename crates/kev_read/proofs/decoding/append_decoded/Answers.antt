@@ -1,7 +1,6 @@
 use Rattle.std.proofs.Common.{arith, append-nil}
-use Rattle.std.proofs.lemmas.Bool.{eqb-true}
 use Rattle.kev_read.proofs.DecodedForms.{decoded_nothing}
 use Rattle.kev_read.proofs.decoding.append_decoded.Goals as goal
 
 pub returns : goal.returns
-returns c = grind (arith, decoded_nothing, eqb-true, c.is_empty.ensures, c.loop-rest-test.false, append-nil)
+returns c = grind (arith, decoded_nothing, c.is_empty.ensures, c.loop-rest-test.false, append-nil)

@@ -62,4 +62,4 @@ overflow_add-members c =
     omega (arith, so_far, few, taken, small, count, c.requires.few)
 
 pub returns : goal.returns
-returns c = grind (arith, all_pairs, same_values, c.requires.order, c.loop-place.invariant.bytes, c.loop-place.invariant.members)
+returns c = grind (arith, all_pairs, same_values, c.loop-place.invariant.bytes, c.loop-place.invariant.members)

@@ -44,7 +44,7 @@ pub invariant_of-result : goal.invariant_of-result
 invariant_of-result c = kept c
 
 pub returns-clause-lists : goal.returns-clause-lists
-returns-clause-lists c = grind (arith, members_of-gathered, same_values, c.requires.order)
+returns-clause-lists c = grind (arith, members_of-gathered, same_values)
 
 pub returns-clause-short : goal.returns-clause-short
 returns-clause-short c = (kept c).short

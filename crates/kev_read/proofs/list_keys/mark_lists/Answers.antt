@@ -3,4 +3,4 @@ use Rattle.kev_read.proofs.ListMarks.{marked_twice}
 use Rattle.kev_read.proofs.list_keys.mark_lists.Goals as goal
 
 pub returns : goal.returns
-returns c = grind (arith, marked_twice, c.requires.unmarked, c.mark_names.ensures, c.mark_names-2.ensures)
+returns c = grind (arith, marked_twice, c.mark_names.ensures, c.mark_names-2.ensures)

@@ -14,6 +14,6 @@ returns c =
     let encodes = zip2 bit_or c.equal_to-3.result c.equal_to-4.result in
     let special = zip2 bit_or (zip2 bit_or separates encodes) lanes in
     let are : special ≡ map special_lane lanes =
-    grind (arith, bit_or, c.equal_to.ensures, c.equal_to-2.ensures, c.equal_to-3.ensures, c.equal_to-4.ensures, special_lanes) in
+    grind (arith, c.equal_to.ensures, c.equal_to-2.ensures, c.equal_to-3.ensures, c.equal_to-4.ensures, special_lanes) in
     let long : length special ≡ 16 = ap length are ∙ (length-map lanes special_lane ∙ length-chunk c.args.place 16 c.args.bytes.now c.requires) in
     top_bitmask special 16 long (omega arith) ∙ (ap (λ v. mask_l (map is_set v)) are ∙ ap mask_l (map-map is_set special_lane lanes))

@@ -14,7 +14,7 @@ loop-done-preserved-then-query-done-eq38 c =
     record {
       held = c.loop-done.invariant.held;
       placed = c.loop-done.invariant.placed;
-      pairs = grind (arith, skipped, c.loop-done-test.true, c.if-query-done-eq38.true, c.loop-done.invariant.pairs);
+      pairs = grind (arith, skipped, c.if-query-done-eq38.true, c.loop-done.invariant.pairs);
     }
 
 pub loop-done-preserved : goal.loop-done-preserved
@@ -30,7 +30,7 @@ loop-done-preserved c =
     let held : HoldsQuery query (text ++ more) = query_stays query text more c.loop-done.invariant.held in
     let left = map decoded_pair (raw_pairs (drop c.in_ok-place.next query)) in
     let pairs : map (pair_in (text ++ more)) (places ++ place ∷ []) ++ left ≡ map (pair_in text) places ++ pair_in (text ++ more) place ∷ left =
-    grind (arith, pushed_pairs, c.loop-done.invariant.placed, append_assoc) in
+    grind (arith, pushed_pairs, append_assoc) in
     let first = subst (λ t. map decoded_pair (raw_pairs (drop c.loop-done.done query)) ≡ pair_in t place ∷ left) grown c.in_ok-place.ensures.first in
     rw (c.in_ok-push.ensures.items, grown) record {
       held = held;
@@ -39,4 +39,4 @@ loop-done-preserved c =
     }
 
 pub returns : goal.returns
-returns c = grind (arith, drop_all, c.loop-done-test.false, raw_pairs-nil, c.new.ensures, append-nil, c.loop-done.invariant.pairs)
+returns c = grind (arith, drop_all, raw_pairs-nil, c.new.ensures, append-nil, c.loop-done.invariant.pairs)

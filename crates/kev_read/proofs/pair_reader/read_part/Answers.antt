@@ -11,6 +11,6 @@ returns-then-is_ordinary-clause-part c =
     let ordinary = c.requires.ordinary c.if-is_ordinary.true in
     let is = range_of_query query text c.args.start c.args.end c.requires.held c.requires.forwards c.requires.within in
     let within = query_within query text c.requires.held in (
-      grind (arith, c.requires.forwards, within, c.requires.within, is, ordinary_utf8, ordinary),
+      grind (arith, within, c.requires.within, is, ordinary_utf8, ordinary),
       is ∙ sym (decoded_ordinary part ordinary),
     )

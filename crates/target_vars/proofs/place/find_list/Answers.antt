@@ -6,4 +6,4 @@ pub bounds : goal.bounds
 bounds c = omega (arith, slice_get_within c.args.names.now.listed c.in-Ok.number c.args.name.now c.in-Ok.ensures, c.requires)
 
 pub returns-in-One : goal.returns-in-One
-returns-in-One c = grind (arith, slice_get_within, c.in-Ok.ensures, c.requires, slice_get-get_or, c.in-One.is)
+returns-in-One c = grind (arith, slice_get_within, c.requires, slice_get-get_or, c.in-One.is)

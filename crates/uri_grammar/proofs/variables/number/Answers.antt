@@ -16,4 +16,4 @@ loop-c-preserved c =
     digit small)
 
 pub returns : goal.returns
-returns c = grind (arith, all_read, c.loop-c.invariant, c.loop-c-test.false, c.begins_above_zero.ensures, c.if-not-begins_above_zero.false)
+returns c = grind (arith, all_read, c.loop-c-test.false, c.begins_above_zero.ensures, c.if-not-begins_above_zero.false)

@@ -7,15 +7,14 @@ use Rattle.uri_text.proofs.items.cut.Goals.{then-loop-left-test+else-end-text, e
 
 pub loop-left-preserved : goal.loop-left-preserved
 loop-left-preserved c =
-    let len : c.item_len-end.result ≡ item_length c.args.triplets (drop c.loop-left.end c.args.text.now) = grind (arith, common_steps) in
     record {
       within = omega (arith, c.item_len-end.ensures.within, c.split_at.ensures.back_len);
-      taken = grind (arith, len, c.loop-left.invariant.taken, next_item, c.if-end-text.true, c.loop-left-test.true);
+      taken = grind (arith, c.loop-left.invariant.taken, next_item, c.if-end-text.true, c.loop-left-test.true);
     }
 
 pub returns-clause-items : goal.returns-clause-items
 returns-clause-items c =
     elim c.loop-left-test.branch [
-      | then-loop-left-test+else-end-text w ↦ grind (arith, c.split_at-2.ensures.front, c.loop-left.invariant.taken, all_taken)
-      | else-loop-left-test w ↦ grind (arith, c.split_at-2.ensures.front, c.loop-left.invariant.taken, all_taken)
+      | then-loop-left-test+else-end-text w ↦ grind (arith, c.loop-left.invariant.taken, all_taken)
+      | else-loop-left-test w ↦ grind (arith, c.loop-left.invariant.taken, all_taken)
     ]

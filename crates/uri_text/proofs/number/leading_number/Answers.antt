@@ -1,4 +1,4 @@
-use Rattle.std.proofs.Common.{◌≡◌, ◌∙◌, ◌*◌, ◌+◌, sym, ap, subst, get_or, not, true, arith}
+use Rattle.std.proofs.Common.{◌≡◌, ◌∙◌, ◌*◌, ◌+◌, sym, ap, subst, get_or, true, arith}
 use Rattle.std.specs.Char.{is_ascii_digit}
 use Rattle.uri_text.proofs.LeadingNumbers.{HasRead, digit_low, next_read, number_before, number_last, number_too_long, room_for_digit}
 use Rattle.uri_text.proofs.number.leading_number.Goals as goal
@@ -21,7 +21,7 @@ overflow_mul-number c =
     omega (arith, room_for_digit c.args.text.now c.loop-count.count c.loop-count.number c.loop-count.invariant (omega arith))
 
 pub overflow_add-number : goal.overflow_add-number
-overflow_add-number c = grind (arith, c.if-not-is_ascii_digit.false, digit_low, room_for_digit, c.loop-count.invariant)
+overflow_add-number c = grind (arith, digit_low, room_for_digit, c.loop-count.invariant)
 
 pub loop-count-preserved : goal.loop-count-preserved
 loop-count-preserved c =
@@ -31,4 +31,4 @@ loop-count-preserved c =
     (next_read c.args.text.now c.loop-count.count c.loop-count.number c.loop-count.invariant c.loop-count-test.true digit (digit_low byte digit) (omega arith))
 
 pub returns-clause-value : goal.returns-clause-value
-returns-clause-value c = grind (arith, c.then_some-2.ensures, not, c.is_empty.ensures, number_last, c.loop-count.invariant)
+returns-clause-value c = grind (arith, c.is_empty.ensures, number_last, c.loop-count.invariant)

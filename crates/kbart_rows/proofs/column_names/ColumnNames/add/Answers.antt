@@ -1,4 +1,4 @@
-use Rattle.std.proofs.Common.{◌≡◌, Some, is_some, sym, ap, ◌∙◌, arith}
+use Rattle.std.proofs.Common.{◌≡◌, Some, sym, ap, ◌∙◌, arith}
 use Rattle.std.proofs.lemmas.List.{take_all}
 use Rattle.std.proofs.lemmas.Option.{slice_get_within}
 use Rattle.std.specs.List.{slice_get}
@@ -16,7 +16,7 @@ loop-name-preserved c =
     let inv = c.loop-name.invariant in
     let at : slice_get header column ≡ Some name = sym (c.in-Some.ensures.cell ∙ ap (λ (cells : Row). slice_get cells column) inv.header) in
     let next = c.in-Some.ensures.some in
-    grind (arith, c.in-Some.ensures.line, inv, next, slice_get_within, at, c.in_ok-add_name.ensures.added, or_assoc, is_some, name_known)
+    grind (arith, inv, next, slice_get_within, at, c.in_ok-add_name.ensures.added, or_assoc, name_known)
 
 pub returns-clause-added : goal.returns-clause-added
-returns-clause-added c = grind (arith, c.loop-name.invariant, c.in_default.ensures.cell, is_some, take_all, past_end)
+returns-clause-added c = grind (arith, c.in_default.ensures.cell, take_all, past_end)

@@ -11,4 +11,4 @@ any_text test [] = refl
 any_text test (id ∷ ids) = ap (λ later. test (id_text id) || later) (any_text test ids)
 
 pub returns : goal.returns
-returns c = grind (arith, take_all, c.loop-id-test.false, c.loop-id.invariant, c.self.view_is, any_text)
+returns c = grind (arith, take_all, c.loop-id.invariant, c.self.view_is, any_text)

@@ -21,7 +21,7 @@ returns-in-Some-clause-tail c =
     sym (ap (drop 1) (sym c.self.view_is ∙ parts))
 
 pub returns-in-None-clause-head : goal.returns-in-None-clause-head
-returns-in-None-clause-head c = grind (arith, none_from, c.in-None.ensures.first, c.self.view_is)
+returns-in-None-clause-head c = grind (arith, none_from, c.self.view_is)
 
 pub returns-in-None-clause-tail : goal.returns-in-None-clause-tail
-returns-in-None-clause-tail c = grind (arith, none_from, c.in-None.ensures.first, c.self.view_is)
+returns-in-None-clause-tail c = grind (arith, none_from, c.self.view_is)

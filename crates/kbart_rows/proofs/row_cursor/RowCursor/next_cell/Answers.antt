@@ -6,7 +6,7 @@ use Rattle.kbart_rows.proofs.LineRests.{cell_passed, next_cell_is, next_cell_wit
 use Rattle.kbart_rows.proofs.row_cursor.RowCursor.next_cell.Goals as goal
 
 pub invariant_of-self : goal.invariant_of-self
-invariant_of-self c = grind (arith, none_passed, c.self.invariant, c.in_err-cell.ensures.none, c.saturating_add-self-inside.ensures)
+invariant_of-self c = grind (arith, none_passed, c.in_err-cell.ensures.none, c.saturating_add-self-inside.ensures)
 
 pub returns-in_err-cell-clause-cell : goal.returns-in_err-cell-clause-cell
 returns-in_err-cell-clause-cell c =
@@ -25,7 +25,7 @@ invariant_of-self-2 c =
     (omega (arith, within, c.saturating_add-self-inside.ensures))
 
 pub returns-clause-cell : goal.returns-clause-cell
-returns-clause-cell c = grind (arith, next_cell_is, c.self.invariant, c.in_ok-cell.ensures.cell, c.self.view_is)
+returns-clause-cell c = grind (arith, next_cell_is, c.in_ok-cell.ensures.cell, c.self.view_is)
 
 pub returns-clause-some : goal.returns-clause-some
 returns-clause-some c =

@@ -15,7 +15,7 @@ cells_are c = grind (arith, common_steps)
 
 -- and there are few enough of them
 small : (c : goal.After-fill) → cell_bytes (named_cells (cells_in c.header.result.now) (cells_in c.line.result.now)) ≤ MAX_ROW_BYTES
-small c = grind (arith, c.self.view_is, c.self.invariant.fit, c.requires, length-drop, row_cell_bytes, c.line.ensures.cells)
+small c = grind (arith, c.self.invariant.fit, c.requires, length-drop, row_cell_bytes, c.line.ensures.cells)
 
 reach : (c : goal.After-fill) → Reaches c.args.env.now.entries (named_cells (cells_in c.header.result.now) (cells_in c.line.result.now)) c.fill.new.env.entries
 reach c = reaches _ _ _ c.fill.result c.fill.ensures.ok c.fill.ensures.err

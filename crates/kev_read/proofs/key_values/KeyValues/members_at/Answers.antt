@@ -4,10 +4,10 @@ use Rattle.kev_read.proofs.KeySpans.{few_spans, members_are, spans_of_order}
 use Rattle.kev_read.proofs.key_values.KeyValues.members_at.Goals as goal
 
 pub overflow_cast-result : goal.overflow_cast-result
-overflow_cast-result c = grind (arith, c.run_of-first.ensures.within, spans_of_order, c.self.invariant, few_spans)
+overflow_cast-result c = grind (arith, spans_of_order, c.self.invariant, few_spans)
 
 pub overflow_cast-result-2 : goal.overflow_cast-result-2
-overflow_cast-result-2 c = grind (arith, c.run_of-first.ensures.within, spans_of_order, c.self.invariant, few_spans)
+overflow_cast-result-2 c = grind (arith, spans_of_order, c.self.invariant, few_spans)
 
 pub returns : goal.returns
 returns c =
@@ -16,4 +16,4 @@ returns c =
     let key = c.args.key.now in
     let within = c.run_of-first.ensures.within in
     subst (λ (v : EnvValue). AreMembersAt v key first count) c.self.view_is
-    grind (arith, within, spans_of_order, c.self.invariant, members_are, c.run_of-first.ensures)
+    grind (arith, spans_of_order, c.self.invariant, members_are, c.run_of-first.ensures)

@@ -11,10 +11,10 @@ returns-clause-bytes c =
     omega (arith, reached_bytes _ _ _ _ reach)
 
 pub returns-clause-members : goal.returns-clause-members
-returns-clause-members c = grind (arith, reaches, c.fill.ensures.ok, c.fill.ensures.err, c.self.view_is, reached_members)
+returns-clause-members c = grind (arith, reaches, c.fill.ensures.err, c.self.view_is, reached_members)
 
 pub returns-clause-room : goal.returns-clause-room
-returns-clause-room c = grind (arith, c.self.view_is, c.self.invariant.0.values, only_memory, c.fill.result, c.fill.ensures.err)
+returns-clause-room c = grind (arith, c.self.invariant.0.values, only_memory, c.fill.result, c.fill.ensures.err)
 
 pub returns-clause-empty : goal.returns-clause-empty
-returns-clause-empty c = grind (arith, c.self.invariant.0, only_memory, c.fill.result, c.fill.ensures.err)
+returns-clause-empty c = grind (arith, only_memory, c.fill.result, c.fill.ensures.err)

@@ -1,4 +1,4 @@
-use Rattle.std.proofs.Common.{arith, rules, ◌≡◌, ◌++◌, not, length, string_bytes, refl, ap, ◌∙◌, subst, inl, inr}
+use Rattle.std.proofs.Common.{arith, rules, ◌≡◌, ◌++◌, length, string_bytes, refl, ap, ◌∙◌, subst, inl, inr}
 use Rattle.std.proofs.lemmas.Str.{IsUtf8-string_bytes}
 use Rattle.std.proofs.lemmas.Grind.{common_steps}
 use Rattle.environment_model.specs.Environment.{with_member}
@@ -13,16 +13,16 @@ use Rattle.target_vars.proofs.env.Env.add_member.Goals.{then-is_too_long-via-the
 use Rattle.target_vars.specs.Private.ListPlaces.{IsListPlace}
 
 pub returns-in_default-clause-answer : goal.returns-in_default-clause-answer
-returns-in_default-clause-answer c = grind (arith, text_there, c.self.invariant, c.self.view_is, c.in_default.ensures, not)
+returns-in_default-clause-answer c = grind (arith, text_there, c.self.view_is, c.in_default.ensures)
 
 pub returns-in_default-clause-ok : goal.returns-in_default-clause-ok
-returns-in_default-clause-ok c = grind (arith, text_there, c.self.invariant, c.self.view_is, c.in_default.ensures, with_member-text)
+returns-in_default-clause-ok c = grind (arith, text_there, c.self.view_is, c.in_default.ensures, with_member-text)
 
 pub returns-in_default-clause-too_large : goal.returns-in_default-clause-too_large
-returns-in_default-clause-too_large c = grind (arith, text_there, c.self.invariant, c.self.view_is, c.in_default.ensures)
+returns-in_default-clause-too_large c = grind (arith, text_there, c.self.view_is, c.in_default.ensures)
 
 pub returns-then-is_too_long-clause-known : goal.returns-then-is_too_long-clause-known
-returns-then-is_too_long-clause-known c = grind (arith, no_text, c.self.invariant, c.self.view_is, c.in-Some.ensures)
+returns-then-is_too_long-clause-known c = grind (arith, no_text, c.self.view_is, c.in-Some.ensures)
 
 pub returns-then-is_too_long-clause-too_large : goal.returns-then-is_too_long-clause-too_large
 returns-then-is_too_long-clause-too_large c =
@@ -39,17 +39,17 @@ returns-then-is_too_long-clause-too_large c =
     )
 
 pub returns-in_err-reserve-clause-known : goal.returns-in_err-reserve-clause-known
-returns-in_err-reserve-clause-known c = grind (arith, no_text, c.self.invariant, c.self.view_is, c.in-Some.ensures)
+returns-in_err-reserve-clause-known c = grind (arith, no_text, c.self.view_is, c.in-Some.ensures)
 
 pub returns-in_err-reserve-2-clause-known : goal.returns-in_err-reserve-2-clause-known
-returns-in_err-reserve-2-clause-known c = grind (arith, no_text, c.self.invariant, c.self.view_is, c.in-Some.ensures)
+returns-in_err-reserve-2-clause-known c = grind (arith, no_text, c.self.view_is, c.in-Some.ensures)
 
 pub list_of-requires-clause-found : goal.list_of-requires-clause-found
 list_of-requires-clause-found c =
     subst (λ ps. IsListPlace c.self.inside.names ps c.args.name.now c.in-Some.found) c.deref.ensures.value c.in-Some.ensures
 
 pub returns-in_err-list-clause-known : goal.returns-in_err-list-clause-known
-returns-in_err-list-clause-known c = grind (arith, no_text, c.self.invariant, c.self.view_is, c.in-Some.ensures)
+returns-in_err-list-clause-known c = grind (arith, no_text, c.self.view_is, c.in-Some.ensures)
 
 pub invariant_of-self-2 : goal.invariant_of-self-2
 invariant_of-self-2 c =
@@ -66,7 +66,7 @@ invariant_of-self-2 c =
     short room)
 
 pub returns-clause-answer : goal.returns-clause-answer
-returns-clause-answer c = grind (arith, no_text, c.self.invariant, c.self.view_is, c.in-Some.ensures, not)
+returns-clause-answer c = grind (arith, no_text, c.self.view_is, c.in-Some.ensures)
 
 pub returns-clause-ok : goal.returns-clause-ok
 returns-clause-ok c =
@@ -75,13 +75,13 @@ returns-clause-ok c =
     let s : Span = record { list = c.in_ok-list.list; part = c.at_end-part.result } in
     let buffer : string_bytes c.push_str.new.self ≡ b ++ c.args.text.now = search rules in
     let start : s.part.start ≡ length b = search rules in
-    let put : IsPutLast r.spans.items s c.put_last.new.spans.items = grind (arith, s, c.put_last.ensures) in
+    let put : IsPutLast r.spans.items s c.put_last.new.spans.items = grind (arith, c.put_last.ensures) in
     let is = add_is b c.args.text.now r.spans.items r.names.listed r.places.items c.args.name.now c.list_of.new.names.listed c.list_of.new.places.items s
     c.put_last.new.spans.items c.self.invariant c.in_ok-list.ensures.ok put start c.at_end-part.ensures.len in
     rw buffer (is ∙ ap (λ (v : EnvValue). with_member v.entries c.args.name.now c.args.text.now) c.self.view_is)
 
 pub returns-clause-known : goal.returns-clause-known
-returns-clause-known c = grind (arith, no_text, c.self.invariant, c.self.view_is, c.in-Some.ensures)
+returns-clause-known c = grind (arith, no_text, c.self.view_is, c.in-Some.ensures)
 
 pub returns-clause-span : goal.returns-clause-span
 returns-clause-span c =

@@ -7,7 +7,7 @@ use Rattle.target_vars.proofs.Laid.{look_up-lacking, place_read, text_part, no_t
 use Rattle.target_vars.proofs.env.Env.part_of.Goals as goal
 
 pub returns-in_default : goal.returns-in_default
-returns-in_default c = grind (arith, c.self.view_is, look_up-lacking, string_bytes, c.self.invariant, c.in_default.ensures.lacks)
+returns-in_default c = grind (arith, look_up-lacking, string_bytes, c.self.invariant, c.in_default.ensures.lacks)
 
 pub index-requires : goal.index-requires
 index-requires c = omega (arith, slice_get_within c.self.inside.names.listed c.in-Ok.number c.args.name.now c.in-Ok.ensures, c.self.invariant.one_each)

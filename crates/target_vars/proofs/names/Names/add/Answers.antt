@@ -22,4 +22,4 @@ invariant_of-self-2 c =
     (subst (λ (v : NamesValue). Separates v name c.args.gap c.fork_of-fork.result) (sym c.self.view_is) separates) forked start end)
 
 pub returns-clause-ok : goal.returns-clause-ok
-returns-clause-ok c = grind (arith, placed_names-push, c.self.invariant.placed, c.self.view_is)
+returns-clause-ok c = grind (arith, placed_names-push, c.self.view_is)

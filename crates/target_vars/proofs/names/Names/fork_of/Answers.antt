@@ -30,7 +30,7 @@ unreachable-requires c =
     let there = fork_read v c.deref.result.now c.args.gap c.in-Some.last.now (c.deref.ensures.value ∙ ap (λ (x : NamesValue). x.forks) c.self.view_is) read.3.0
     read.1 in
     let further : branch_at v.forks name c.args.gap ≡ Some (Further c.in_Further-number.field-0) = grind (arith, common_steps) in
-    let each : length v.listed ≡ length v.forks = grind (arith, c.self.view_is, each_fork, c.self.invariant) in
+    let each : length v.listed ≡ length v.forks = grind (arith, each_fork, c.self.invariant) in
     no_further v name c.args.gap c.in_Further-number.field-0 each c.requires further
 
 pub returns : goal.returns

@@ -10,7 +10,7 @@ loop-next-smaller c =
     let forks = c.args.forks.now in
     let at = c.loop-next.at in
     let further : branch_at forks c.args.name.now at ≡ Some (Further c.in_Further-next.next) =
-    grind (arith, gap_branch, slice_get-get_or, c.loop-next.invariant.within, c.branch-next.ensures, c.in_Further-next.is) in
+    grind (arith, slice_get-get_or, c.loop-next.invariant.within, c.branch-next.ensures, c.in_Further-next.is) in
     let is = c.requires.forward c.args.name.now at (Further c.in_Further-next.next) further in
     omega arith
 
@@ -29,7 +29,7 @@ returns-in_Ends-next-clause-leads c =
     let forks = c.args.forks.now in
     let at = c.loop-next.at in
     let ends : branch_at forks c.args.name.now at ≡ Some (Ends c.in_Ends-next.number) =
-    grind (arith, gap_branch, slice_get-get_or, c.loop-next.invariant.within, c.branch-next.ensures, c.in_Ends-next.is) in
+    grind (arith, gap_branch, slice_get-get_or, c.branch-next.ensures, c.in_Ends-next.is) in
     c.loop-next.invariant.whole [] at c.in_Ends-next.number (refl, ends)
 
 pub returns-in_Ends-next-clause-known : goal.returns-in_Ends-next-clause-known
