@@ -1,7 +1,7 @@
 -- The lists of a watch, and further ones after them.
 use Rattle.std.proofs.Common.{◌≡◌, ℕ, zero, suc, ◌+◌, ◌-◌, ◌≤◌, List, [], ◌++◌, Option, Some, None, refl, sym, ap, ◌∙◌, arith, append-nil, append_assoc}
 use Rattle.std.specs.Prelude.{Result, Ok, Err, OnErr, OnOk}
-use Rattle.interleaved_runs.specs.StepLists.{HasSeenAll, HasSeenSome, with_lists}
+use Rattle.interleaved_runs.specs.StepLists.{HasSeenSome, with_lists}
 
 -- what holds in any case holds after success, and after an error
 pub on_ok : {T E : Type 0} (r : Result T E) (P : Type 0) → P → OnOk r P
@@ -22,9 +22,6 @@ with_more (Some lists) some more = ap (λ all. Some all) (append_assoc lists som
 
 pub nothing_seen : (lists : List (List ℕ)) (told : Option (List (List ℕ))) → HasSeenSome lists told told
 nothing_seen lists told = ([], lists, refl, with_none told)
-
-pub all_seen : (lists : List (List ℕ)) (told new : Option (List (List ℕ))) → HasSeenAll lists told new → HasSeenSome lists told new
-all_seen lists told new seen = (lists, [], sym (append-nil lists), seen)
 
 -- ---- lists that grow at their ends
 
