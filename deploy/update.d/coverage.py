@@ -5,16 +5,16 @@ way round where no day is open. So the cells are never empty, and no request can
 An embargo counts from the day of the update, also in years, and not by calendar years. P and R of one length share all
 days between them, so each day is open under exactly one of them. An embargo in words keeps no table out, but is
 reported: otherwise the target would have an old table, or no links."""
-import calendar, datetime, functools, re
+import calendar, functools
+from embargoes import first_day, last_day, parts_of, standard
 from outcome import Refused
 from table_cells import cell, cells_of, columns_of
-from title_rows import NONE, date_in, embargo_in
+from title_rows import NONE, date_in
 
 COLUMNS = ("coverage_from", "coverage_to")
 DATES = ("date_first_issue_online", "date_last_issue_online", "embargo_info")
 EARLIEST, LATEST = 0, 99999999
 NO_DAY = ("99999999", "0")
-PART = re.compile(r"([RP])(\d+)([YMD])", re.A)
 MOST_CHARACTERS = 40  # of a cell that is quoted
 
 
@@ -42,28 +42,13 @@ def day_in(text, is_last):
     return year * 10000 + month * 100 + day
 
 
-def day_before(today, number, unit):
-    """The same day that many years, months or days before; the last of its month, if that has no such day."""
-    if unit == "D":
-        return today - datetime.timedelta(min(number, today.toordinal() - 1))
-    months = today.year * 12 + today.month - 1 - number * (12 if unit == "Y" else 1)
-    year, month = divmod(months, 12)
-    if year < 1:
-        return datetime.date.min
-    return datetime.date(year, month + 1, min(today.day, last_day_of(year, month + 1)))
-
-
 def open_days(first, last, embargo, today):
-    """The two cells for a first date, a last date and an embargo. `P` leaves open what is up to the day before which
-    it counts, and `R` what is after it."""
+    """The two cells for a first date, a last date and an embargo."""
     start, end = day_in(first, False), day_in(last, True)
     start, end = (EARLIEST if start is None else start), (LATEST if end is None else end)
-    for kind, number, unit in PART.findall(embargo_in(embargo)):
-        day = day_before(today, int(number), unit)
-        if kind == "P":
-            end = min(end, number_of(day))
-        else:
-            start = max(start, number_of(day + datetime.timedelta(1)))
+    opens, closes = first_day(parts_of(embargo), today), last_day(parts_of(embargo), today)
+    start = start if opens is None else max(start, number_of(opens))
+    end = end if closes is None else min(end, number_of(closes))
     if start > end:
         return NO_DAY
     return (f"{start:08}" if start else "0"), f"{end:08}"
@@ -81,7 +66,7 @@ def step(header, rows, today):
     made, unused = [], []
     for number, row in enumerate(rows):
         first, last, embargo = (cell(row, place) for place in places)
-        if embargo.strip() and embargo_in(embargo) == NONE:
+        if embargo.strip() and not standard(embargo):
             unused.append((number, embargo))
         short = [""] * (width - len(row))
         made.append([*row[:width], *short, *open_days(first, last, embargo, today), *row[width:]])
@@ -99,4 +84,4 @@ def has_walls(table):
     """Whether an embargo of a table, as it is served, counts in months or days, so that it ends within a year."""
     header, rows = cells_of(table)
     place, = columns_of(header, ("embargo_info",))
-    return any(unit != "Y" for row in rows for _, _, unit in PART.findall(embargo_in(cell(row, place))))
+    return any(unit != "Y" for row in rows for _, _, unit in parts_of(cell(row, place)))

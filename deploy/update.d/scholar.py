@@ -3,7 +3,7 @@ names the parts and the base URL. Each ISSN of each row has an item: the format 
 described in full."""
 import re
 from xml.sax.saxutils import escape
-from embargoes import before, days_of, parts_of
+from embargoes import days_closed, first_day, last_day, parts_of
 from identifiers import form_of, is_issn
 from title_rows import DATE, NONE, date_in
 from titles import plain
@@ -40,15 +40,16 @@ def coverage_of(row, provider, day):
     parts = parts_of(row.get("embargo_info", ""))
     first, last = row.get("date_first_issue_online", ""), row.get("date_last_issue_online", "")
     start = [row.get(f"num_first_{kind}_online", "") for kind in ("vol", "issue")]
-    if "R" in parts:
-        opened = before(day, *parts["R"]).isoformat()
+    opens, closes, closed = first_day(parts, day), last_day(parts, day), days_closed(parts)
+    if opens:
+        opened = opens.isoformat()
         if date_in(first) == NONE or date_in(first) < opened:
             first, start = opened[:7], ["", ""]
-    end = before(day, *parts["P"]).isoformat() if "P" in parts else day.isoformat()
+    end = (closes or day).isoformat()
     limit = min(end, f"{date_in(last)}-99") if date_in(last) != NONE else end
     if date_in(first) != NONE and date_in(first) > limit:
         return None
-    embargo = element("days_not_available", str(days_of(*parts["P"])) if "P" in parts else "")
+    embargo = element("days_not_available", "" if closed is None else str(closed))
     return "".join(("<coverage>", date_element("from", first, *start),
                     date_element("to", last, *(row.get(f"num_last_{kind}_online", "") for kind in ("vol", "issue"))),
                     f"<embargo>{embargo}</embargo>" if embargo else "", element("comment", provider), "</coverage>"))

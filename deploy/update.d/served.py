@@ -2,7 +2,7 @@
 
 Run as a program it prints a file as it came, prepared and with coverage as of a day: served.py FILE YYYY-MM-DD"""
 import datetime, os, sys
-import coverage, holdings, parts, preparation
+import coverage, embargoes, parts, preparation
 from outcome import Failure, Refused
 from table_cells import bytes_of, cells_of
 
@@ -41,8 +41,9 @@ class Tables:
     def put(self, target, table):
         """Makes the table of a target from the one that came. Returns why it cannot be used."""
         try:
-            cells = cells_of(holdings.with_walls(table, self.today))
-            header, rows, self.told[target.name] = coverage.step(*cells, self.today)
+            header, rows = cells_of(table)
+            rows = embargoes.with_walls(header, rows, self.today)
+            header, rows, self.told[target.name] = coverage.step(header, rows, self.today)
             made = parts.tables_of(target.name, header, rows)
         except Refused as refusal:
             return [f"{target.table}: {reason}" for reason in refusal.reasons]

@@ -3,6 +3,7 @@ spaces between: target or part, the row as the report counts it (`link R`), firs
 YYYY, YYYY-MM or YYYY-MM-DD, an embargo one or two parts such as P1Y, with a comma between them. `-` is a missing part;
 at the end of an entry, missing parts are left out."""
 import dataclasses, re
+from embargoes import standard
 from identifiers import form_of, is_issn
 from titles import MOST_CHARACTERS, plain
 
@@ -11,7 +12,6 @@ COLUMNS = ("publication_title", "print_identifier", "online_identifier", "date_f
            "date_last_issue_online", "embargo_info", "publication_type", "title_id", "preceding_publication_title_id")
 DATE = re.compile(r"\d{4}(?:-\d\d(?:-\d\d)?)?", re.A)
 YEAR = re.compile(r"(?<!\d)[12]\d{3}(?!\d)", re.A)
-EMBARGO = re.compile(r"[RP]\d{1,5}[YMD](?:;[RP]\d{1,5}[YMD])?", re.A)
 NONE = "-"
 
 
@@ -76,5 +76,4 @@ def date_in(cell):
 
 
 def embargo_in(cell):
-    text = cell.replace(" ", "").upper()
-    return text.replace(";", ",") if text and EMBARGO.fullmatch(text) else NONE
+    return standard(cell).replace(";", ",") or NONE
