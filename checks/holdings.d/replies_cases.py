@@ -52,7 +52,7 @@ def test_bad_replies():
         "cut": ("/raw/cut", f"ended after {SENT:,} of {WHOLE:,} bytes"),
         "pieces": ("/raw/cut-pieces", "ended after 1,024 bytes, too early"),
         "large": ("/raw/large", "more than 256 MB"), "bomb": ("/bomb", "more than 256 MB"),
-        "packed": ("/bomb.gz", "more than 256 MB when unpacked"),
+        "packed": ("/bomb.gz", "more than 256 MB when unpacked: ask the provider for smaller files"),
         "empty": ("/empty.txt", "empty"), "blank": ("/blank.txt", "empty"),
         "header": ("/header.txt", "0 rows, and at least 1 must be there"),
         "least": ("/table.txt\tleast 3 rows", "2 rows, and at least 3 must be there"),

@@ -1,6 +1,6 @@
 """Prepares the files of a target, as they came, to be served: read as text, found below their header, joined, step by
 step in the form that the program reads, and without rows that no request can find."""
-import dataclasses
+import collections, dataclasses
 import archives, cells, date_order, dropped_rows, headers, received_text
 from outcome import Refused, Unreadable
 
@@ -33,10 +33,19 @@ def read(data):
     return header, rows, told + more
 
 
+def numbered(header):
+    """The names of columns, each with the number of columns before that have the same name."""
+    counts, keys = collections.Counter(), []
+    for name in header:
+        keys.append((name, counts[name]))
+        counts[name] += 1
+    return keys
+
+
 def joined(tables):
     """One table of several, each a header and rows: columns are joined by their names."""
     places = {}  # of a name, and of its second column if it has two
-    keys = [[(name, header[:place].count(name)) for place, name in enumerate(header)] for header, _ in tables]
+    keys = [numbered(header) for header, _ in tables]
     for key in (key for header in keys for key in header):
         places.setdefault(key, len(places))
     width, rows = len(places), []
