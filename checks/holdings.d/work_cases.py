@@ -68,7 +68,8 @@ def test_joined():
 def test_fits():
     """Patterns with several *, and names that nearly fit."""
     for pattern in ("*a*b", "*a*a*a*b", "*aab*ab*b*c", "a*a*a*a*a*x*"):
-        expect_linear(f"the pattern {pattern}", archives.fits, lambda size: (Text("a" * size + "c"), f"{pattern}*"), 2000)
+        expect_linear(f"the pattern {pattern}", archives.fits,
+                      lambda size: (Text("a" * size + "c"), f"{pattern}*"), 2000)
     cases = {("a.txt", "*"): True, ("a.txt", "a.txt"): True, ("a.txt", "a.tx"): False, ("a", "a*a"): False,
              ("aa", "a*a"): True, ("ab.ab", "*ab*ab"): True, ("ab", "*ab*ab"): False, ("x/y\nz", "x*z"): True,
              ("a.b", "a?b"): False, ("abcbc", "a*bc"): True, ("abab", "*aba*bab*"): False, ("", "*"): True,

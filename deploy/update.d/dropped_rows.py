@@ -2,6 +2,7 @@
 import re
 from cells import ANY, IDENTIFIERS, places_of
 from identifiers import form_of
+from shown_text import printable
 
 PER_HUNDRED = 2  # rows that may be dropped, unless the list of targets says how many
 LIMIT = re.compile(r"dropped up to (\d{1,9})(%?)", re.A)
@@ -50,9 +51,8 @@ def reasons_against(dropped, rows, allowed):
 
 
 def shown(cells):
-    """The beginning of a row for the mail, without characters that a terminal takes for commands."""
-    text = " ".join(filter(None, cells))[:MOST_CHARACTERS]
-    return "".join(char if char.isprintable() else "?" for char in text)
+    """The beginning of a row for the mail."""
+    return printable(" ".join(filter(None, cells))[:MOST_CHARACTERS])
 
 
 def told(dropped):

@@ -1,5 +1,6 @@
 """Judges a target's new files by numbers: by their warnings, and by the numbers of titles that are gone."""
 import os, re
+import shown_text
 from identifiers import form_of, standard
 from outcome import Refused
 from parts import IDENTIFIERS, base_of
@@ -188,6 +189,6 @@ class Judge:
         path = f"changes/{name}.txt"
         os.makedirs(os.path.join(self.folder, "changes"), exist_ok=True)
         with open(os.path.join(self.folder, path), "w", encoding="utf-8", errors="replace") as file:
-            file.writelines("\t".join(cells) + "\n" for cells in (HEADING, *came, *went))
+            file.writelines(f"{shown_text.row(cells)}\n" for cells in (HEADING, *came, *went))
         count = [len({cells[1:3] for cells in lines}) for lines in (came, went)]
         return [f"titles: {count[0]} came, {count[1]} gone: {path}"]

@@ -5,6 +5,7 @@ import children, interrupts, shared_tables
 from libraries import REPORT, SHARED, SITE
 from outcome import ALL_NEW, DEVICE, WENT_BACK, Interrupted
 from run import report
+from shown_text import printable
 
 ALONE = ""  # the library of a machine alone, in the list of names
 KILLED = "KILL"
@@ -91,8 +92,9 @@ class Updates:
     @staticmethod
     def tell(child, lines):
         for line in child.stdout:
-            lines.append(line)
-            report(line.rstrip("\n"))
+            line = printable(line.rstrip("\n"))
+            lines.append(f"{line}\n")
+            report(line)
 
     def write_report(self, name, status, lines):
         """Replaces the report of a library. That it cannot be written does not end the run."""

@@ -1,7 +1,7 @@
 """Prepares the files of a target, as they came, to be served: read as text, found below their header, joined, step by
 step in the form that the program reads, and without rows that no request can find."""
 import collections, dataclasses
-import archives, cells, date_order, dropped_rows, headers, received_text
+import archives, cells, date_order, dropped_rows, headers, received_text, shown_text
 from outcome import Refused, Unreadable
 
 STEPS = cells.STEPS  # each takes a header and rows, and returns both with lines that say what it did
@@ -17,7 +17,8 @@ class Prepared:
     reversed: list  # the two dates of each row whose first one is after the last
 
     def dropped_table(self):
-        return table_of(["reason", *self.header], self.dropped)
+        """The rows that are not served, as people read them in a spreadsheet."""
+        return "".join(f"{shown_text.row(it)}\n" for it in (["reason", *self.header], *self.dropped)).encode()
 
 
 def table_of(header, rows):

@@ -8,12 +8,14 @@ from outcome import ALL_NEW, KEPT, Failure
 from probing import Trial
 from program import Program
 from served import names_in, path_of
+from shown_text import printable
 
 
 def report(line, stream="stdout"):
-    """Prints a line. That nobody reads it, or that it cannot be written, does not end a run."""
+    """Prints a line, without the controls that a table or a server may have put in it. That nobody reads it, or that it
+    cannot be written, does not end a run."""
     try:
-        print(line, file=getattr(sys, stream), flush=True)
+        print(printable(line), file=getattr(sys, stream), flush=True)
     except OSError:
         setattr(sys, stream, open(os.devnull, "w"))
 

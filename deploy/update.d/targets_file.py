@@ -17,6 +17,7 @@ Each label, note and text of `words` is one string, or one for each language: {"
 missing language has the default language's text. A replacement that is one string replaces only the default language's.
 """
 import glob, json, os, re, sys
+from shown_text import printable
 
 WORDS = os.path.join(os.path.dirname(os.path.dirname(os.path.realpath(__file__))), "nginx", "words")
 SAMPLE = os.path.join(WORDS, "en.json")
@@ -189,7 +190,7 @@ def faults_in(path):
 
 def main(paths):
     faults = [fault for path in paths for fault in faults_in(path)]
-    print("\n".join(faults) or "ok")
+    print(printable("\n".join(faults)) or "ok")
     return 1 if faults else 0
 
 

@@ -1,14 +1,13 @@
 """The titles of an index as a table for a spreadsheet: title, numbers, coverage and targets, in the order of the
 alphabet, journals first."""
-import csv, io, os
+import os
+import shown_text
 from identifiers import is_issn, standard
 from registry import base_of
 from titles import key_of
 
 HEADER = ("title", "numbers", "coverage", "targets")
 BYTE_ORDER_MARK = "\ufeff"  # by which a spreadsheet knows that the file is UTF-8
-# A cell that begins so is a formula, or the end of one, for some spreadsheets.
-FORMULA = tuple("=+-@\t\r\n＝＋－＠")
 
 
 def titles_of(version):
@@ -46,16 +45,8 @@ def coverage_of(text, names, targets):
     return "; ".join(dict.fromkeys(entries)), "; ".join(dict.fromkeys(labels))
 
 
-def safe(cell):
-    """A cell that no spreadsheet takes for a formula."""
-    return f"'{cell}" if cell.lstrip(" ").startswith(FORMULA) else cell
-
-
 def lines(titles, names, targets):
-    """Yields the lines of the table. A cell with a quotation mark is quoted, so that it ends where it ends here."""
+    """Yields the lines of the table."""
     yield BYTE_ORDER_MARK + "\t".join(HEADER)
     for _, title, forms, coverage in titles:
-        buffer = io.StringIO()
-        row = (title, numbers_text(forms), *coverage_of(coverage, names, targets))
-        csv.writer(buffer, dialect="excel-tab", lineterminator="").writerow(map(safe, row))
-        yield buffer.getvalue()
+        yield shown_text.row((title, numbers_text(forms), *coverage_of(coverage, names, targets)))

@@ -1,0 +1,26 @@
+"""Texts as a person reads them, in a mail, on a terminal or in a spreadsheet. Tables, servers and other machines send
+any characters: some are commands of a terminal, reverse the order of what follows, or begin a formula."""
+import csv, io, re
+
+# Controls of ASCII but the end of a line, those of Latin-1, and those that end a line or set its direction.
+UNSAFE = re.compile("[\x00-\x09\x0b-\x1f\x7f-\x9f\u061c\u200e\u200f\u2028-\u202e\u2066-\u2069]")
+FORMULA = tuple("=+-@＝＋－＠")  # how a cell begins that some spreadsheets run as a formula
+
+
+def printable(text):
+    """A text that is safe to print: a tab is a space, and other characters that are not safe are question marks."""
+    return UNSAFE.sub("?", text.replace("\t", " "))
+
+
+def cell(text):
+    """A cell that no spreadsheet runs as a formula, and that has one line."""
+    text = printable(text.replace("\n", " "))
+    return f"'{text}" if text.lstrip().startswith(FORMULA) else text
+
+
+def row(texts):
+    """A line of a table for a spreadsheet, without its end. A cell with a quotation mark is quoted, so that it hides no
+    cell after it."""
+    buffer = io.StringIO()
+    csv.writer(buffer, dialect="excel-tab", lineterminator="").writerow(map(cell, texts))
+    return buffer.getvalue()
