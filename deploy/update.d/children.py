@@ -1,8 +1,10 @@
 """Processes that end with this one, even if it is killed; and free ports for them."""
 import ctypes, os, random, resource, signal, socket, subprocess, time
+from outcome import DEVICE, Failure
 
 DEATH_SIGNAL = 1  # PR_SET_PDEATHSIG of prctl
 LIBC = ctypes.CDLL(None)
+PORTS = range(20000, 32000)  # below those that the system gives to clients, from 32768 on
 claimed = []  # the sockets whose names are those of ports that this process took
 
 
@@ -49,10 +51,10 @@ def is_open(port):
 
 
 def free_port():
-    """A port at which nothing listens, below those that the system gives to clients (from 32768 on). No process gets
-    it from here again until this one ends: for so long it holds the name openlink-port-N of an abstract socket."""
-    while True:
-        port, claim = random.randrange(20000, 32000), socket.socket(socket.AF_UNIX)
+    """A port at which nothing listens. No process gets it from here again until this one ends: for so long it holds the
+    name openlink-port-N of an abstract socket. A Failure says that there is none: any user can take these names."""
+    for port in random.sample(PORTS, len(PORTS)):
+        claim = socket.socket(socket.AF_UNIX)
         try:
             claim.bind(f"\0openlink-port-{port}")
             socket.create_server(("127.0.0.1", port)).close()
@@ -60,6 +62,8 @@ def free_port():
             return port
         except OSError:
             claim.close()
+    raise Failure(f"no free port from {PORTS[0]} to {PORTS[-1]}: their names openlink-port-N are taken, as `ss -xl` "
+                  "shows, or something listens at each", DEVICE)
 
 
 def wait_for(port, child, seconds):

@@ -25,13 +25,15 @@ class NamesFile:
                 self.copy(older, version)
             return [], False
         with open(path, "rb") as file:
-            faults = targets_file.faults_of(file.read(), self.site.languages)
+            data = file.read(targets_file.MOST_BYTES + 1)
+        faults = targets_file.faults_of(data, self.site.languages)
         if faults:
             lines = [f"{NAME}: the old one is kept", *(f"  {path}: {fault}" for fault in faults)]
             if older:
                 self.copy(older, version)
             return lines, True
-        shutil.copyfile(path, os.path.join(version, NAME))
+        with open(os.path.join(version, NAME), "wb") as file:
+            file.write(data)
         other = f"{path} is not in use: {self.site.path} names {self.site.targets_path()}"
         return [] if self.is_served() else [other], False
 

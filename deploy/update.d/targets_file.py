@@ -15,8 +15,11 @@ checks those that it is given: targets_file.py /etc/nginx/openlink/targets.json
 
 Each label, note and text of `words` is one string, or one for each language: {"en": "Catalogue", "de": "Katalog"}. A
 missing language has the default language's text. A replacement that is one string replaces only the default language's.
+
+A file has at most MOST_BYTES, each name occurs once in its object, and the values are those of JSON alone, nested no
+deeper than njs reads them.
 """
-import glob, json, os, re, sys
+import collections, glob, itertools, json, os, re, sys
 from shown_text import printable
 
 WORDS = os.path.join(os.path.dirname(os.path.dirname(os.path.realpath(__file__))), "nginx", "words")
@@ -28,6 +31,9 @@ LOGO = r"[\w-]{1,60}\.(svg|png|jpg|gif|webp)"
 PLAIN = ("name", "group", "onlyWithout", "rules")
 SCHOLAR = ("label", "otherLabel", "keywords", "contact", "addresses", "base")
 TAG = r"[A-Za-z]{2,8}(-[A-Za-z0-9]{1,8})*"
+MOST_BYTES = 1_048_576  # each page of the library needs memory for its texts
+MOST_DEPTH = 31  # objects and lists in each other; njs 0.7.9 reads no more
+MOST_FAULTS, MOST_CHARACTERS = 10, 40  # of those that `values` finds, and of a name in them
 
 
 def words():
@@ -59,18 +65,64 @@ def by_language(place, value, languages, faults):
             faults.append(f"{place}: {language} is not a text")
 
 
+class Members(dict):
+    """An object, which knows the names that it has more than once."""
+
+    def __init__(self, pairs):
+        super().__init__(pairs)
+        counts = collections.Counter(name for name, _ in pairs) if len(self) < len(pairs) else {}
+        self.repeated = [name for name, count in counts.items() if count > 1]
+
+
+class Constant(str):
+    """NaN, Infinity or -Infinity, which Python reads and JSON does not have."""
+
+
+def values(value):
+    """Yields an error for each value that nginx refuses or reads in another way, after the names that lead to it."""
+    stack = [(value, "", 1)]
+    while stack:
+        value, place, depth = stack.pop()
+        if isinstance(value, Constant):
+            yield f"{place}{value} is no value of JSON"
+        elif isinstance(value, (dict, list)) and depth > MOST_DEPTH:
+            yield f"{place[:MOST_CHARACTERS]}..: more than {MOST_DEPTH} objects and lists in each other"
+        elif isinstance(value, dict):
+            yield from (f"{place}{quoted(name)} occurs more than once" for name in value.repeated)
+            stack += [(it, f"{place}{quoted(name)}: ", depth + 1) for name, it in reversed(value.items())]
+        elif isinstance(value, list):
+            stack += [(it, f"{place}{number}: ", depth + 1) for number, it in reversed([*enumerate(value, 1)])]
+
+
+def quoted(name):
+    return json.dumps(name[:MOST_CHARACTERS])
+
+
 def parsed(data, faults):
     """The JSON of a file that nginx preloads; None, and an error, if it refuses it."""
+    if len(data) > MOST_BYTES:
+        faults.append(f"more than {MOST_BYTES:,} bytes")
+        return None
     if data.startswith(b"\xef\xbb\xbf"):
         faults.append("line 1: begins with a byte order mark")
         return None
     try:
-        value = json.loads(data.decode("utf-8"))
+        value = json.loads(data.decode("utf-8"), parse_constant=Constant, object_pairs_hook=Members)
     except UnicodeDecodeError as fault:
         faults.append(f"line {data[:fault.start].count(10) + 1}: not UTF-8")
         return None
     except json.JSONDecodeError as fault:
         faults.append(f"line {fault.lineno}, column {fault.colno}: {fault.msg}")
+        return None
+    except RecursionError:
+        faults.append(f"more than {MOST_DEPTH} objects and lists in each other")
+        return None
+    except ValueError:
+        faults.append("a number with thousands of digits")
+        return None
+    found = list(itertools.islice(values(value), MOST_FAULTS))
+    if found:
+        faults += found
         return None
     if not isinstance(value, dict):
         faults.append("not an object")
@@ -181,10 +233,10 @@ def faults_in(path):
     files = sorted(glob.glob(os.path.join(glob.escape(os.path.dirname(path)), "words", "*.json")))
     loaded = {os.path.basename(file)[:-len(".json")] for file in [*files, *os.listdir(WORDS)]}
     with open(path, "rb") as file:
-        faults = [f"{path}: {fault}" for fault in faults_of(file.read(), loaded)]
+        faults = [f"{path}: {fault}" for fault in faults_of(file.read(MOST_BYTES + 1), loaded)]
     for name in files:
         with open(name, "rb") as file:
-            faults += [f"{name}: {fault}" for fault in faults_of_words(file.read())]
+            faults += [f"{name}: {fault}" for fault in faults_of_words(file.read(MOST_BYTES + 1))]
     return faults
 
 
