@@ -1,5 +1,5 @@
-"""The hosts of addresses: where a header may go, and whether a redirect leads into this network. A host is judged by its
-addresses, which curl then has to take, so that no second answer of the name server leads elsewhere."""
+"""The hosts of addresses: where a header may go, and whether a redirect leads into this network. A host is judged by
+its addresses, which curl then has to take, so that no second answer of the name server leads elsewhere."""
 import ipaddress, os, subprocess, sys, tempfile, time
 from urllib.parse import urlsplit
 import children

@@ -9,11 +9,38 @@
 """
 import ctypes, datetime, fcntl, os, re, shutil
 from outcome import DEVICE, Failure
+from printed_text import safe
 
 STAMP = "%Y%m%dT%H%M%SZ"
-VERSION = re.compile(r"versions/(\d{8}T\d{6}Z)")
+VERSION = re.compile(r"versions/([0-9]{8}T[0-9]{6}Z)")
+SECOND, DAY = datetime.timedelta(seconds=1), datetime.timedelta(days=1)
 NONE = "none"
 LIBC = ctypes.CDLL(None, use_errno=True)
+
+
+def now():
+    return datetime.datetime.now(datetime.timezone.utc)
+
+
+def moment_of(stamp):
+    """The moment that a stamp names, or None if it names none."""
+    try:
+        moment = datetime.datetime.strptime(stamp, STAMP) if VERSION.fullmatch(f"versions/{stamp}") else None
+    except ValueError:
+        moment = None
+    return moment and moment.replace(tzinfo=datetime.timezone.utc)
+
+
+def is_stamp(text):
+    """Whether a text is a stamp of at most a day ahead. Beyond that a clock was wrong, or the text is forged: names after
+    it would have no end."""
+    moment = moment_of(text)
+    return moment is not None and moment <= now() + DAY
+
+
+def stamp_after(stamps):
+    """The stamp of this moment, or the one after all of these."""
+    return max([now(), *(moment_of(it) + SECOND for it in stamps)]).strftime(STAMP)
 
 
 def sync(path):
@@ -60,10 +87,10 @@ class Library:
             return None
         if text == NONE:
             return None
-        found = VERSION.fullmatch(text)
-        if not found or not os.path.isdir(self.path(text)):
-            raise Failure(f"{self.path(link)} is a link to {text}, which is no folder versions/STAMP")
-        return found[1]
+        stamp = text.removeprefix("versions/")
+        if stamp == text or not moment_of(stamp) or not os.path.isdir(self.path(text)):
+            raise Failure(f"{self.path(link)} is a link to {safe(text)}, which is no folder versions/STAMP")
+        return stamp
 
     def current(self):
         return self.version_of("current")
@@ -74,13 +101,13 @@ class Library:
     def versions(self):
         """The stamps of all versions, the oldest first."""
         os.makedirs(self.path("versions"), exist_ok=True)
-        return sorted(name for name in os.listdir(self.path("versions")) if VERSION.fullmatch(f"versions/{name}"))
+        return sorted(filter(is_stamp, os.listdir(self.path("versions"))))
 
     def clear(self):
         """Removes what a killed run left unfinished."""
         shutil.rmtree(self.path("trial"), ignore_errors=True)
         for name in os.listdir(self.path("versions")):
-            if re.fullmatch(r"\d{8}T\d{6}Z\.new", name):
+            if name.endswith(".new") and VERSION.fullmatch(f"versions/{name[:-4]}"):
                 shutil.rmtree(self.version(name))
         if os.path.lexists(self.path("current.new")):
             os.unlink(self.path("current.new"))
@@ -89,18 +116,13 @@ class Library:
         """Removes versions that are newer than the one in use: a run went back from them, or was killed before their
         use."""
         current = self.current() or ""
-        for stamp in self.versions():
+        for stamp in filter(moment_of, os.listdir(self.path("versions"))):
             if stamp > current:
                 shutil.rmtree(self.version(stamp))
 
     def begin(self):
         """Makes the folder of a new version, and returns its stamp, which is after all others."""
-        stamps = self.versions()
-        time = datetime.datetime.now(datetime.timezone.utc)
-        while stamps and time.strftime(STAMP) <= stamps[-1]:
-            latest = datetime.datetime.strptime(stamps[-1], STAMP).replace(tzinfo=datetime.timezone.utc)
-            time = latest + datetime.timedelta(seconds=1)
-        stamp = time.strftime(STAMP)
+        stamp = stamp_after(self.versions())
         os.mkdir(self.version(f"{stamp}.new"))
         return stamp
 
