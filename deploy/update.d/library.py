@@ -3,6 +3,7 @@
     versions/STAMP/        a version, never changed; STAMP is the time at which it was made, in UTC
     versions/STAMP.new/    a version that is being made; the next run removes it
     current                a link to the version in use, which is moved by a rename
+    updated                the time at which an update last ended well, in UTC, whether or not it found anything new
     before                 only while processes are restarted: a link to the version to go back to, or to `none`
     trial/                 files of the front door that tries a version; the next run removes it
     lock                   locked by a run as long as it lives
@@ -32,8 +33,8 @@ def moment_of(stamp):
 
 
 def is_stamp(text):
-    """Whether a text is a stamp of at most a day ahead. Beyond that a clock was wrong, or the text is forged: names after
-    it would have no end."""
+    """Whether a text is a stamp of at most a day ahead. Beyond that a clock was wrong, or the text is forged: the names
+    after it would have no end."""
     moment = moment_of(text)
     return moment is not None and moment <= now() + DAY
 
@@ -159,6 +160,19 @@ class Library:
             pass
         except OSError:  # not even a link can be made
             os.rename(self.path("before"), self.path("current"))
+
+    def note_update(self):
+        """Writes that an update has ended well, for the health page."""
+        new = self.path("updated.new")
+        with open(new, "w", encoding="ascii") as file:
+            file.write(f"{now().strftime(STAMP)}\n")
+        os.chmod(new, 0o644)
+        os.rename(new, self.path("updated"))
+
+    def forget_updates(self):
+        """Another machine makes the versions from now on, and knows when."""
+        if os.path.lexists(self.path("updated")):
+            os.unlink(self.path("updated"))
 
     def settle(self):
         """All processes serve `current`: there is nothing to go back to."""

@@ -317,6 +317,7 @@ class Receiver(Run):
         """Returns the exit status."""
         library = self.library
         old, sent = library.current(), library.version(f"{stamp}.probes")
+        library.forget_updates()
         if stamp == old:
             self.remove_sent()
             report(f"{stamp} is in use already")
