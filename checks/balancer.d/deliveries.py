@@ -1,7 +1,9 @@
 """Versions that go from one machine to another, with a stand-in for ssh."""
-import os, signal, shutil
+import datetime, os, signal, shutil, tempfile
+import library, machines
 from counting import expect, expect_lines
 from fixture import ended
+from library import STAMP
 from patience import wait_until
 
 HIDDEN = ('{"name": "Full text", ', '{"name": "Full text", "onlyWithout": "In the library", ')
@@ -130,7 +132,7 @@ def runs_of(machine):
 
 def test_sent(one, two):
     """A version that was sent in part, or not at all, is not used."""
-    old, stamp = two.current(), "20990101T000000Z"
+    old, stamp = two.current(), hence(hours=1)
     status, printed = two.run("--receive", stamp)
     expect(f"nothing was sent: {printed}", (status, two.current(), "nothing was sent" in printed), (3, old, True))
     shutil.copytree(two.path("versions", old), two.path("versions", f"{stamp}.sent"))
@@ -139,4 +141,90 @@ def test_sent(one, two):
     expect(f"a table is missing: {printed}", (status, two.current(), weeks(two)), (3, old, {"A"}))
 
 
-OF_TWO = [test_deliveries, test_back, test_cut, test_probes, test_killed, test_sent]
+def hence(**time):
+    """The name of a version or delivery that far ahead."""
+    return (datetime.datetime.now(datetime.timezone.utc) + datetime.timedelta(**time)).strftime(STAMP)
+
+
+def test_names():
+    """Names are times of the calendar in digits of ASCII, at most a day ahead."""
+    bad = ("٢٠٢٧0101T000000Z", "99999999T999999Z", "20260230T000000Z", "99991231T235958Z", hence(days=1, minutes=1),
+           "", "20260101T000000Z\n", "20260101T000000Z.new")
+    good = ("20240229T235959Z", hence(hours=23))
+    expect("names", [it for it in (*bad, *good) if library.is_stamp(it)], [*good])
+    expect("after a name ahead", library.stamp_after([hence(hours=1)[:-3] + "58Z"]), hence(hours=1)[:-3] + "59Z")
+    with tempfile.TemporaryDirectory() as folder:
+        own = library.Library(folder)
+        for name in (*bad[:5], *good):
+            os.makedirs(own.version(name))
+        expect("versions", own.versions(), [*good])
+        expect("a new version", own.begin() > good[1])
+        os.symlink(f"versions/{good[0]}", own.path("current"))
+        own.remove_newer()
+        left = sorted(it for it in os.listdir(own.path("versions")) if not it.endswith(".new"))
+        expect("newer versions are removed, whatever their time", left, sorted([*bad[:3], good[0]]))
+
+
+def test_lies(one, two):
+    """Whatever another machine says to the maker, its run ends, and the next delivery has a name of today."""
+    expect("both are well", one.run_to(two, "--send")[0], 0)
+    limit, named = hence(days=1), one.delivery()
+    for text in ("٢٠٢٧0101T000000Z", "99999999T999999Z", "99991231T235958Z", "\x1b]0;mine\x07", hence(hours=20)):
+        with open(two.path("delivery"), "w") as file:
+            file.write(f"{text}\n")
+        one.remove("delivery")
+        status, printed = one.run_to(two, "--send")
+        expect(f"a machine that names {text!a}: {printed!a}", (status, one.delivery() < limit, two.delivery()),
+               (0, True, one.delivery()))
+        expect("it is told", printed, f"delivery {one.delivery()}: this machine, other\n")
+    one.write("delivery", read(one, "delivery").replace(one.delivery(), "99991231T235959Z"))
+    status, printed = one.run_to(two, "--send")
+    expect("a name that this machine took before", (status, named < one.delivery() < limit), (0, True))
+
+
+def test_answers():
+    """A machine whose answers have no end, never come, or have control characters is named, and the others are sent
+    what they lack."""
+    cases = {
+        "while :; do echo endless; done": "sh: it prints more than 65,536 bytes",
+        "exec sleep 1000": "sh: no end after 1 seconds",
+        "printf 'mine\\033]0;mine\\007\\n\\033[2J' >&2; exit 3": "mine\\x1b]0;mine\\x07\n  \\x1b[2J",
+        "exit 7": "sh: status 7",
+        "head -c 100000 /dev/zero | tr '\\0' x; exit 1": "sh: it prints more than 65,536 bytes",
+        "head -c 1000 /dev/zero | tr '\\0' x; exit 1": f"{'x' * 500}..",
+    }
+    for command, reason in cases.items():
+        expect(command, said_by(command), [f"other: {reason}"])
+    expect("a mistake of these scripts", said_by(ArithmeticError("a\x1bb")), ["other: ArithmeticError: a\\x1bb"])
+    silent = Other("true")
+    silent.ask()
+    expect("a machine that answers nothing has nothing", (silent.delivery, silent.stamps), ("", {}))
+
+
+class Other(machines.Machine):
+    """Another machine that carries out a command, whatever it is sent."""
+
+    def __init__(self, command):
+        self.host, self.sent = "other", command
+
+    def in_folder(self, text):
+        if isinstance(self.sent, Exception):
+            raise self.sent
+        return machines.run(["sh", "-c", self.sent], machines.SECONDS_TO_ASK)
+
+
+def said_by(command):
+    """What is printed of a machine that carries out a command, with small limits."""
+    lines, kept = [], (machines.report, machines.SECONDS_TO_ASK, machines.MOST_BYTES)
+    seconds = 1 if "sleep" in str(command) else 60
+    machines.report, machines.SECONDS_TO_ASK, machines.MOST_BYTES = lines.append, seconds, 2**16
+    try:
+        machine = Other(command)
+        expect("it fails", machines.does(machine, machines.Delivery.complete, machine, []), False)
+    finally:
+        machines.report, machines.SECONDS_TO_ASK, machines.MOST_BYTES = kept
+    return lines
+
+
+TESTS = [test_names, test_answers]
+OF_TWO = [test_deliveries, test_back, test_cut, test_probes, test_killed, test_sent, test_lies]

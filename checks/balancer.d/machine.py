@@ -103,7 +103,7 @@ class Machine(fixture.Library):
 
     def left_over(self):
         """What only a run has: names in the library, and processes."""
-        known = ("current", "versions", "lock", "delivery", "delivery.lock", "probes.tsv", "input")
+        known = ("current", "versions", "lock", "delivery", "delivery.lock", "probes.tsv", "input", "updated")
         names = [name for name in os.listdir(self.folder) if name not in known]
         names += [name for name in self.versions() if name.endswith((".new", ".sent"))]
         wait_until(lambda: not self.processes_of_runs(), 2)

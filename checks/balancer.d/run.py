@@ -4,7 +4,7 @@ import importlib, os, shutil, sys, time
 
 sys.dont_write_bytecode = True
 TOP = os.path.dirname(os.path.dirname(os.path.dirname(os.path.abspath(__file__))))
-for folder in ("checks/shared", "deploy/update.d", "checks/front_door.d", "checks/update.d", "checks/balancer.d"):
+for folder in ("checks/shared", "checks/front_door.d", "checks/update.d", "checks/balancer.d", "deploy/update.d"):
     sys.path.insert(0, os.path.join(TOP, folder))
 from counting import counts
 

@@ -57,13 +57,29 @@ def health(site, **how):
     return reply.status, reply.text.splitlines()
 
 
+def test_old(site, expect):
+    """The first line is `old` if the last update is longer ago than the limit of openlink.conf, or 9 days."""
+    limit = "js_var $openlink_most_days 9;\n"
+    path, now = site.path("updated"), datetime.datetime.now(datetime.timezone.utc)
+    for days, line, first in ((8.9, limit, "ok"), (9.1, limit, "old"), (9.1, "", "old"), (8.9, "", "ok"),
+                              (9.1, limit.replace("9", "10"), "ok"), (300, limit.replace("9", "0"), "ok")):
+        with open(path, "w") as file:
+            file.write((now - datetime.timedelta(days)).strftime("%Y%m%dT%H%M%SZ\n"))
+        before = site.edit((limit, line))
+        status, lines = health(site)
+        expect(f"updated {days} days ago, with {line!r}", (status, lines[0], lines[-1].split(", ")[1]),
+               (200, first, f"{int(days)} days ago"))
+        site.write_site(before)
+    os.unlink(path)
+
+
 def test_health(site, expect):
     """Each process, the version and its age; and what is said once a process, or each, has ended."""
     with open("deploy/nginx/targets.json") as file:
         targets = json.load(file)
     link = site.path("in_use")
     site.write_targets({**targets, "folder": link})
-    expect("no version", health(site)[1][-1], "no version")
+    expect("no version", health(site)[1][-2], "no version")
     for days, text in ((0, "0 days old"), (1, "1 day old"), (9, "9 days old")):
         name = stamp(days)
         os.makedirs(site.path(f"versions/{name}"))
@@ -71,7 +87,9 @@ def test_health(site, expect):
             os.unlink(link)
         os.symlink(f"versions/{name}", link)
         ports = [f"port {port} answers" for port in site.ports]
-        expect(f"all is well, {text}", health(site), (200, ["ok", *ports, f"version {name}, {text}"]))
+        expect(f"all is well, {text}", health(site), (200, ["ok", *ports, f"version {name}, {text}",
+                                                            "no update by openlink-update is known"]))
+    test_old(site, expect)
     site.processes[site.ports[0]].kill()
     site.processes[site.ports[0]].wait()
     status, lines = health(site)

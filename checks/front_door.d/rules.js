@@ -305,8 +305,33 @@ function testHealth() {
     });
     [[[true, true], '200 ok'], [[true, false], '200 some processes do not answer'],
         [[false, false], '503 no process answers'], [[], '503 no process answers']].forEach(function (it) {
-        const reply = health.replyOf(it[0].map(String), it[0], 'version');
+        const reply = health.replyOf(it[0].map(String), it[0], 'version', { isOld: false, line: 'updated' });
         expect('health ' + it[0], reply.status + ' ' + reply.text.split('\n')[0], it[1]);
+    });
+    [[[true, true], '200 old,port true answers'], [[true, false], '200 old,some processes do not answer'],
+        [[false, false], '503 no process answers,old']].forEach(function (it) {
+        const reply = health.replyOf(it[0].map(String), it[0], 'version', { isOld: true, line: 'updated' });
+        expect('health, old, ' + it[0], reply.status + ' ' + reply.text.split('\n').slice(0, 2).join(','), it[1]);
+    });
+    testUpdates();
+}
+
+function testUpdates() {
+    const now = Date.UTC(2028, 2, 10, 12);  // after a leap day
+    const unknown = 'no update by openlink-update is known';
+    [['20280301T120000Z\n', 9, false, 'updated 20280301T120000Z, 9 days ago'],
+        ['20280301T115959Z\n', 9, true, 'updated 20280301T115959Z, 9 days ago'],
+        ['20280229T120000Z', 9, true, 'updated 20280229T120000Z, 10 days ago'],
+        ['20280309T120000Z', 1, false, 'updated 20280309T120000Z, 1 day ago'],
+        ['20280309T115959Z', 1, true, 'updated 20280309T115959Z, 1 day ago'],
+        ['20270301T000000Z', 0, false, 'updated 20270301T000000Z, 375 days ago'],
+        ['20280311T120000Z', 9, false, 'updated 20280311T120000Z, 0 days ago'],
+        [null, 9, false, unknown], ['', 9, false, unknown], ['20280301', 9, false, unknown]].forEach(function (it) {
+        const update = health.updateOf(it[0], now, it[1]);
+        expect('updated ' + it[0] + ', at most ' + it[1], update.isOld + ' ' + update.line, it[2] + ' ' + it[3]);
+    });
+    [['9', 9], ['0', 0], ['30', 30], [undefined, 9], ['', 9], ['-1', 9], ['ten', 9], ['1e9', 9]].forEach(function (it) {
+        expect('the limit ' + it[0], health.limitOf(it[0]), it[1]);
     });
 }
 

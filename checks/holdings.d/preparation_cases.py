@@ -227,7 +227,7 @@ def test_joined_files():
     twice = f"{COLUMNS}|notes|notes\n{ROW}|a|b\n"
     expect("a column that each has twice", prepare(twice, twice.replace("|a|b", "|c")),
            (tabs(f"{COLUMNS}|notes|notes\n{ROW}|a|b\n{ROW}|c|\n"), []))
-    expect("cells after the last column", prepare(PLAIN, f"{PLAIN[:-1]}|more\n", f"title_id\nx\n"),
+    expect("cells after the last column", prepare(PLAIN, f"{PLAIN[:-1]}|more\n", "title_id\nx\n"),
            (tabs(f"{COLUMNS}|title_id\n{ROW}|\n{ROW}||more\n"), ["dropped: 1 row"]))
     expect("of both encodings", prepare(of_rows(row("Études")), tabs(of_rows(row("Caf\xe9"))).encode("cp1252"))[0],
            tabs(of_rows(row("Études"), row("Café"))))

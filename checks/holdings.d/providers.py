@@ -6,6 +6,7 @@ from patience import patience, wait_until
 
 HOSTS = tuple(f"127.0.0.{number}" for number in range(2, 10))
 ANOTHER = "127.0.0.10"  # for which the certificate is not
+NAME = "provider.example"  # which has no address, and for which it is
 WHOLE, SENT = 8_000_000, 3_145_728  # bytes that /raw/cut announces and sends
 TAG, DATE = '"a \\"b\\" c"', "Sun, 01 Nov 2026 10:00:00 GMT"  # what /raw/named calls its file
 CONFIGURATION = """pid {folder}/nginx.pid;
@@ -47,6 +48,11 @@ http {{
         location ~ ^/hops/6$ {{ return 302 /hops/5; }}
         location = /bomb {{ default_type text/plain; add_header Content-Encoding gzip; alias {folder}/files/bomb.gz; }}
         location = /with-key {{ if ($http_x_key != "{key}") {{ return 403; }} try_files /table.txt =404; }}
+        location = /to-inner {{ return 302 https://localhost:{port}/table.txt?inner; }}
+        location = /to-number {{ return 302 https://2130706433:{port}/table.txt?inner; }}
+        location = /to-name {{ return 302 https://{name}:{port}/table.txt?name; }}
+        location = /key-to-port {{ return 302 https://$host:{second}/table.txt?port; }}
+        location = /key-to-path {{ return 302 https://$host:{port}/table.txt?path; }}
         location = /key-elsewhere {{ return 302 https://{other}/table.txt; }}
         location = /kbart {{ if ($arg_token != "{encoded}") {{ return 401; }} try_files /table.txt =404; }}
         location /raw/ {{
@@ -101,7 +107,7 @@ def sign(folder, name, days):
 
 
 def names_of_hosts():
-    return "subjectAltName=" + ",".join(f"IP:{host}" for host in HOSTS)
+    return "subjectAltName=" + ",".join([*(f"IP:{host}" for host in HOSTS), f"DNS:{NAME}"])
 
 
 class Raw(socketserver.StreamRequestHandler):
@@ -135,6 +141,11 @@ class Raw(socketserver.StreamRequestHandler):
     def cut_pieces(self):
         self.send(b"HTTP/1.1 200 OK\r\nTransfer-Encoding: chunked\r\n\r\n400\r\n", self.server.table.ljust(1024, b"\n"),
                   b"\r\n")
+
+    def long_length(self):
+        """A length of 5,000 digits, which curl does not take for one."""
+        self.send(b"HTTP/1.1 200 OK\r\nContent-Length : ", b"9" * 5000,
+                  b"\r\nTransfer-Encoding: chunked\r\n\r\n400\r\n", self.server.table.ljust(1024, b"\n"), b"\r\n")
 
     def large(self):
         self.send(b"HTTP/1.1 200 OK\r\nContent-Length: 300000000\r\n\r\n", self.server.table)
@@ -215,17 +226,18 @@ class Providers:
         self.folder = tempfile.mkdtemp(prefix="providers.", dir="/dev/shm" if os.access("/dev/shm", os.W_OK) else None)
         os.chmod(self.folder, 0o755)
         os.mkdir(self.path("files"))
-        self.port, self.plain, self.stranger, self.expired = (children.free_port() for _ in range(4))
+        self.port, self.second, self.plain, self.stranger, self.expired = (children.free_port() for _ in range(5))
         self.raw = RawServer(table)
         make_certificates(self.folder)
         with open(self.path("nginx.conf"), "w") as file:
             file.write(CONFIGURATION.format(
                 folder=self.folder, raw=self.raw.server_address[1], plain=f"{HOSTS[0]}:{self.plain}",
                 stranger=f"{HOSTS[0]}:{self.stranger}", expired=f"{HOSTS[0]}:{self.expired}",
-                other=f"{HOSTS[1]}:{self.port}",
+                other=f"{HOSTS[1]}:{self.port}", port=self.port, second=self.second, name=NAME,
                 user="user root;\n" if os.getuid() == 0 else "", key=self.KEY.replace("\\", "\\\\").replace('"', '\\"'),
                 encoded=self.ENCODED, servers=servers_of(self),
-                listens="".join(f"        listen {it}:{self.port} ssl;\n" for it in (*HOSTS, ANOTHER))))
+                listens="".join(f"        listen {it} ssl;\n" for it in (
+                    *(f"{host}:{self.port}" for host in (*HOSTS, ANOTHER)), f"{HOSTS[2]}:{self.second}"))))
         self.prepare()
         self.nginx = children.start(["nginx", "-e", self.path("start.log"), "-p", self.folder, "-c",
                                      self.path("nginx.conf")], self.folder, stdout=subprocess.DEVNULL)

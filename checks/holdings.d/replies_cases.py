@@ -87,6 +87,19 @@ def test_bad_replies():
         expect("of six redirects five are followed", reached, [1, 1])
 
 
+def test_long_length():
+    """A header with more digits than Python reads is the fault of its own file."""
+    with Input(AUTHORITY) as folder:
+        plain = PROVIDERS.raw.server_address[1]
+        folder.write_sources(f"long.txt\thttp://127.0.0.1:{plain}/raw/long-length\tplain http",
+                             f"table.txt\t{address('/table.txt')}")
+        folder.write("long.txt", OLD)
+        expect("a length of 5,000 digits", folder.fetch(), (1, "".join(f"{line}\n" for line in [
+            "long.txt: kept the old file: ended after 1,024 bytes, too early", f"table.txt: new, {len(TABLE)} bytes",
+            "2 files asked for, 1 new or changed, 1 not fetched"])))
+        expect("the files", (folder.read("long.txt"), folder.read("table.txt")), (OLD, TABLE))
+
+
 def test_good_replies():
     """Each of these replies brings the file; a second run brings nothing that is there."""
     wanted = {"table": TABLE, "gz": PROVIDERS.served("table.gz"), "zip": PROVIDERS.served("one.zip"), "member": TABLE, 
@@ -199,4 +212,5 @@ def test_full_disk():
 
 
 write_files()
-TESTS = [test_bad_replies, test_good_replies, test_names, test_limit_of_time, test_hosts, test_full_disk]
+TESTS = [test_bad_replies, test_long_length, test_good_replies, test_names, test_limit_of_time, test_hosts,
+         test_full_disk]

@@ -1,8 +1,9 @@
 """deploy/fetch: its lists, its secrets, its dates, and how a run ends."""
 import datetime, json, os, signal, threading, time
-import downloads, sources
+import downloads, fetching, sources
 from counting import expect, expect_lines
 from input import OLD, TABLE, Input, ended
+from outcome import Interrupted
 from patience import wait_until
 from providers import HOSTS, SENT, WHOLE, Providers
 
@@ -52,6 +53,8 @@ def test_secrets():
             f"key.txt\t{address('/with-key', 1)}\theader X-Key: {{KEY}}",
             f"elsewhere.txt\t{address('/key-elsewhere', 2)}\theader X-Key: {{KEY}};"
             "header Authorization: Bearer {KEY}",
+            f"port.txt\t{address('/key-to-port', 2)}\theader X-Key: {{KEY}}",
+            f"path.txt\t{address('/key-to-path', 2)}\theader X-Key: {{KEY}}",
             f"bad.txt\t{address('/raw/cut?token={TOKEN}', 3)}\theader X-Key: {{KEY}}",
             f"refused.txt\t{address('/kbart?token={OTHER}', 4)}", f"slow.txt\t{address('/raw/slow?{TOKEN}', 5)}")
         status, printed = folder.fetch()
@@ -59,6 +62,9 @@ def test_secrets():
         expect_lines("what fails", printed, "refused.txt: not fetched, and there is no old file: 401 Unauthorized",
                      f"bad.txt: not fetched, and there is no old file: ended after {SENT:,} of {WHOLE:,} bytes")
         last = PROVIDERS.requests("/table.txt")[-1]
+        keys = [[rest[:5] for _, _, _, rest in PROVIDERS.requests(f"/table.txt?{it}")] for it in ("port", "path")]
+        expect("nor does another port of its host; the same port gets it again", (folder.read("port.txt"), keys),
+               (TABLE, [["- -"], ["- top"]]))
         expect("another host gets no header with a secret", (folder.read("elsewhere.txt"), last[0], last[3]),
                (TABLE, HOSTS[1], "- -"))
         expect("the host gets it", PROVIDERS.requests("/key-elsewhere")[0][3].startswith("Bearer top"))
@@ -192,23 +198,72 @@ def test_days():
                                                                "3 files asked for, 0 new or changed, 0 not fetched\n"))
 
 
-class Ended(Exception):
-    pass
-
-
 class NoTransfer(downloads.Download):
     """A download that a signal ends while it starts."""
 
     def start(self):
-        raise Ended
+        raise Interrupted
 
 
 def test_signal_at_a_start():
     """A signal while a transfer starts ends the run as at any other moment."""
     try:
         list(downloads.run([NoTransfer(address("/table.txt"), [], [], "/nonexistent", 1, 0)]))
-    except Ended as ending:
+    except Interrupted as ending:
         expect("its end", ending.__context__, None)
+    else:
+        expect("it ends", False)
+
+
+class Unexpected(downloads.Download):
+    """A download whose reply these scripts can't read."""
+
+    def __init__(self, step, error):
+        super().__init__(address(f"/404?{step}", 1), [], [], "/nonexistent/body", 60, 0)
+        setattr(self, step, self.fail)
+        self.error = error
+
+    def fail(self):
+        raise self.error
+
+
+def test_unexpected_errors():
+    """What goes wrong within one download, at any of its steps, is its own fault alone."""
+    with Input() as folder:
+        errors = {"start": ValueError("a secret"), "has_ended": RecursionError("a secret"), "end": KeyError("a secret"),
+                  "is_ready": OSError(28, "No space left on device", "body")}
+        bad = [Unexpected(step, error) for step, error in errors.items()]
+        good = downloads.Download(f"http://{HOSTS[0]}:{PROVIDERS.plain}/table.txt", [], [], folder.path("body"), 60, 0)
+        done = [*downloads.run([*bad, good])]
+        expect("all are done", {*done}, {*bad, good})
+        expect("the good one is whole", (good.is_whole, folder.read("body")), (True, TABLE))
+        said = {step: it.fault.rstrip("0123456789") for step, it in zip(errors, bad)}
+        expect("their faults", said, {
+            "start": "ValueError at sources_cases.py:", "has_ended": "RecursionError at sources_cases.py:",
+            "end": "KeyError at sources_cases.py:", "is_ready": "body: No space left on device"})
+        expect("one is this machine's", [step for step, it in zip(errors, bad) if it.has_failed], ["is_ready"])
+
+
+def test_unexpected_table():
+    """An error in a table that came is the fault of its file alone."""
+    table_in, lines = fetching.table_in, []
+
+    def read(data, source):
+        if source.file == "bad.txt":
+            raise RecursionError("a secret")
+        return table_in(data, source)
+
+    plain = f"http://{HOSTS[0]}:{PROVIDERS.plain}/table.txt"
+    with Input() as folder:
+        folder.write_sources(f"bad.txt\t{plain}\tplain http", f"table.txt\t{plain}?good\tplain http")
+        fetching.table_in = read
+        try:
+            status = fetching.fetch(folder.folder, lines.append, 60, 0)
+        finally:
+            fetching.table_in = table_in
+        expect("a table that cannot be read", (status, [line.rstrip("0123456789") for line in lines]), (1, [
+            "bad.txt: not fetched, and there is no old file: RecursionError at sources_cases.py:",
+            f"table.txt: new, {len(TABLE)} bytes", "2 files asked for, 1 new or changed, 1 not fetched"]))
 
 
 def curls_of(parent):
@@ -257,4 +312,4 @@ def test_ends():
 
 PROVIDERS.write("table.txt", TABLE)
 TESTS = [test_secrets, test_who_may_read_secrets, test_lists, test_examples, test_days, test_signal_at_a_start,
-         test_ends]
+         test_unexpected_errors, test_unexpected_table, test_ends]

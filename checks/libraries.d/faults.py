@@ -2,7 +2,7 @@
 library that was alone on its machine."""
 import fcntl, os, re, shutil
 from counting import expect, expect_lines
-from machine import FEW, NAMES, Input, Machine, deliver, free_ports, read, started, wait_until, weeks, write
+from machine import FEW, Input, Machine, deliver, free_ports, read, started, wait_until, weeks, write
 from weeks import HTML, SMALL
 
 SITE = "etc/nginx/conf.d/openlink.conf"

@@ -7,7 +7,7 @@ import libraries, library_files
 GOOD = ("a", "east", "east-wanted", "a-1-b", "error", "lookup-rate", "l" * 32)
 BAD = ("", "-", "-east", "east-", "east--hall", "1st", "East", "east_hall", "east.hall", "east hall", "öst", "a/b",
        "..", "a\nb", "a\n", "l" * 33, "input", "versions", "current", "before", "trial", "lock", "shared", "delivery",
-       "drain")
+       "drain", "updated")
 BAD_HOSTS = ("", "East.example.org", "east.example.org;", "a b", "a..b", "a-.example.org", "a_b.example.org",
              "a.example.org\nlisten 81", "a.example.org\n", "*.example.org", "$host", "a" * 64 + ".org",
              ".".join(["a" * 60] * 5))

@@ -1,7 +1,7 @@
 """Tables that several libraries serve: fetched and prepared once, and once on the disk."""
 import datetime, glob, http.server, os, shutil, tempfile, threading
 from counting import expect, expect_lines
-from machine import Machine, ended, free_ports, read, wait_until, write
+from machine import Machine, ended, free_ports, read, write
 from weeks import TITLE
 import preparation, same_files, shared_tables
 from outcome import Refused

@@ -1,7 +1,6 @@
 """The public calls that may report that an allocation failed. No contract says that they do so only then, so a body
 that always does would be proved: each has to succeed in a test or in a run of the program, which the file `succeed`
 names."""
-import glob
 import os
 import re
 

@@ -171,7 +171,7 @@ class Library:
     def left_behind(self):
         """Names in the library that only a run has, and processes of a run that has ended. These get a signal as it
         ends, and two seconds to follow it."""
-        names = [name for name in os.listdir(self.folder) if name not in ("current", "versions", "lock")]
+        names = [name for name in os.listdir(self.folder) if name not in ("current", "versions", "lock", "updated")]
         names += [name for name in self.versions() if name.endswith(".new")]
         wait_until(lambda: not self.processes_of_runs(), 2)
         return names + self.processes_of_runs()

@@ -1,5 +1,5 @@
 """Weeks in which all goes well, and going back by hand."""
-import datetime, json, os, re
+import datetime, json, os, re, stat, time
 from counting import expect, expect_lines
 from fixture import Library, Reader
 from weeks import MENUS, TITLE, tables
@@ -30,6 +30,55 @@ def test_good_week():
         expect("two versions", library.versions(), [first, second])
         expect("nothing new", library.run(), (0, f"nothing new: {second} stays in use\n"))
         expect("no other version", (library.versions(), library.left_behind()), ([first, second], []))
+        test_time(library)
+
+
+def test_time(library):
+    """The time of a run that ended well is beside the versions, whether or not anything was new; no other run has
+    one."""
+    def run(*options, **how):
+        """Whether a run that comes an hour later writes its time, and its status."""
+        with open(library.path("updated"), "w") as file:
+            file.write("20200101T000000Z\n")
+        os.chmod(library.path("updated"), 0o600)
+        status = library.run(*options, **how)[0]
+        with open(library.path("updated")) as file:
+            text = file.read()
+        return status, text != "20200101T000000Z\n"
+
+    before = time.strftime("%Y%m%dT%H%M%SZ", time.gmtime())
+    expect("nothing new", run(), (0, True))
+    with open(library.path("updated")) as file:
+        text = file.read()
+    expect("it is the time", before <= text.rstrip("\n") <= time.strftime("%Y%m%dT%H%M%SZ", time.gmtime()))
+    expect("all may read it", stat.S_IMODE(os.stat(library.path("updated")).st_mode), 0o644)
+    expect("a trial", run("--dry-run"), (0, False))
+    expect("walls", run("--walls"), (0, False))
+    library.input.deliver("A")
+    expect("a week that fails", run(restart="false"), (3, False))
+    expect("something new", run(), (0, True))
+    expect("back", run("--back"), (0, False))
+
+
+def test_all_down():
+    """If no process answers, the run says so, also if nothing is new."""
+    with Library() as library:
+        first, ports = library.current(), ", ".join(map(str, library.site.ports))
+        expect("one process is down", (stop(library.site.supervisors[:1]), library.run())[1],
+               (0, f"nothing new: {first} stays in use\n"))
+        stop(library.site.supervisors)
+        said = f"nothing new: {first} stays in use\n"
+        expect("all are down", library.run("--seconds", "1"),
+               (4, f"{said}deploy/update: no process answers: ports {ports}\n"))
+        expect("a trial asks none", library.run("--dry-run", "--seconds", "1"), (0, said))
+
+
+def stop(supervisors):
+    """Ends processes for good."""
+    for it in supervisors:
+        it.is_down = True
+        it.child.kill()
+        it.child.wait()
 
 
 def test_changes():
@@ -213,4 +262,4 @@ def test_wrong_arguments():
 
 
 TESTS = [test_good_week, test_changes, test_requests, test_back, test_warnings, test_walls, test_parts,
-         test_wrong_arguments]
+         test_wrong_arguments, test_all_down]

@@ -1,5 +1,5 @@
 """The input of a library, made from the sample library: what the vendors deliver in a week."""
-import os, shutil, subprocess
+import os, shutil
 
 SAMPLE = "examples/library"
 # A title that probes.tsv does not name. Both tables of week B have it, and in this week the society's pages have moved.

@@ -1,4 +1,5 @@
-// Whether each process of the program answers, and how old the version in use is: for monitoring, a balancer or a pod.
+// Whether each process of the program answers, how old the version in use is, and when openlink-update last ended well:
+// for monitoring, a balancer or a pod.
 // The ports are read from the text of the sites, since nginx tells no script the processes of an upstream. Only servers
 // for the machine itself and its balancer load this file.
 // text.js says in which njs it runs.
@@ -9,6 +10,8 @@ import staff from './why.js';
 const UPSTREAM = /^\s*upstream\s+([\w.-]+)\s*\{/;
 const PORT = /^\s*server\s+127\.0\.0\.1:(\d+)/;
 const STAMP = /(?:^|\/)(\d{4})(\d\d)(\d\d)T(\d\d)(\d\d)(\d\d)Z$/;
+const DAYS = /^\d{1,4}$/;
+const MOST_DAYS = 9;  // since the last update: it comes every week, and may be late
 const DAY = 86400000;
 
 function portsOf(text) {
@@ -80,19 +83,39 @@ function versionLine(folder) {
         return 'no version';
     }
 }
-// `ok` if all processes answer. The status is 503 only if none does, since readers get pages as long as one does.
-function replyOf(ports, are, version) {
+// When an update last ended well, by the text of the file `updated`, and whether that is more than `most` days ago (0:
+// no limit). A machine on which no update has run, such as one that gets its versions from another, has no such file.
+function updateOf(text, now, most) {
+    const stamp = (text || '').trim();
+    const time = timeOf(stamp);
+    if (isNaN(time)) return { isOld: false, line: 'no update by openlink-update is known' };
+    const days = Math.max(Math.floor((now - time) / DAY), 0);
+    return {
+        isOld: most > 0 && now - time > most * DAY,
+        line: 'updated ' + stamp + ', ' + days + (days === 1 ? ' day ago' : ' days ago')
+    };
+}
+function limitOf(text) { return DAYS.test(String(text)) ? Number(text) : MOST_DAYS; }
+// `ok` if all processes answer and the last update is not old. The status is 503 only if no process answers, since
+// readers get pages as long as one does.
+function replyOf(ports, are, version, update) {
     const some = are.indexOf(true) >= 0;
-    const all = some && are.indexOf(false) < 0;
-    const lines = [all ? 'ok' : some ? 'some processes do not answer' : 'no process answers']
-        .concat(ports.map((port, i) => 'port ' + port + (are[i] ? ' answers' : ' does not answer')), [version, '']);
+    const isDown = are.indexOf(false) >= 0 || !some;
+    const heads = [some ? '' : 'no process answers', update.isOld ? 'old' : '',
+        some && isDown ? 'some processes do not answer' : ''].filter(Boolean);
+    const lines = (heads.length > 0 ? heads : ['ok'])
+        .concat(ports.map((port, i) => 'port ' + port + (are[i] ? ' answers' : ' does not answer')),
+            [version, update.line, '']);
     return { status: some ? 200 : 503, text: lines.join('\n') };
 }
 
 async function health(r) {
     const ports = portsOf(textIn(r.variables.openlink_site) || '');
     const are = await Promise.all(ports.map(answers));
-    const reply = replyOf(ports, are, versionLine(staff.folderOf(exchange.siteOf(r))));
+    const folder = staff.folderOf(exchange.siteOf(r));
+    const text = textIn(folder.slice(0, folder.lastIndexOf('/') + 1) + 'updated');
+    const update = updateOf(text, Date.now(), limitOf(r.variables.openlink_most_days));
+    const reply = replyOf(ports, are, versionLine(folder), update);
     exchange.send(r, reply.status, 'text/plain; charset=utf-8', reply.text);
 }
 
@@ -146,6 +169,7 @@ async function machine(r) {
 }
 
 export default {
-    portsOf: portsOf, upstreamsOf: upstreamsOf, ageOf: ageOf, replyOf: replyOf, isDrained: isDrained,
-    machineReplyOf: machineReplyOf, health: exchange.guarded(health), machine: exchange.guarded(machine)
+    portsOf: portsOf, upstreamsOf: upstreamsOf, ageOf: ageOf, updateOf: updateOf, limitOf: limitOf, replyOf: replyOf,
+    isDrained: isDrained, machineReplyOf: machineReplyOf, health: exchange.guarded(health),
+    machine: exchange.guarded(machine)
 };

@@ -1,8 +1,10 @@
 """The download of a file: several transfers, since redirects are followed here and a failed try is repeated: curl would
 send a header such as X-Key to every host that it is led to. Several downloads are made side by side, with one
 connection to a host at a time."""
-import http.client, os, re, time
-from urllib.parse import urlsplit
+import http.client, os, re, time, traceback
+import hosts
+from hosts import host_of, place_of
+from outcome import Interrupted
 from transfers import PASSING, WRITE_FAILED, Transfer
 
 MOST_HOSTS = 4  # at once
@@ -16,12 +18,12 @@ PASSING_STATUSES = (408, 425, 429, 500, 502, 503, 504)  # another try may end we
 UNCHANGED = 304
 
 
-def host_of(address):
-    """The host of an address, or '' if a server sent an address that has none."""
-    try:
-        return urlsplit(address).hostname or ""
-    except ValueError:
-        return ""
+def fault_of(error):
+    """A line for an error that these scripts did not expect. Its text is not printed: it may repeat a secret."""
+    if isinstance(error, OSError):
+        return f"{error.filename or 'curl'}: {error.strerror}"
+    place = traceback.extract_tb(error.__traceback__)[-1]
+    return f"{type(error).__name__} at {os.path.basename(place.filename)}:{place.lineno}"
 
 
 class Download:
@@ -29,12 +31,14 @@ class Download:
     `has_failed` says that the error is this machine's."""
 
     def __init__(self, address, headers, conditions, body, seconds, pause):
-        """`headers` go to the host of the address alone, `conditions` (ETag and date of what is there) to any."""
+        """`headers` go to the host and port of the address alone, `conditions` (ETag and date of what is there) to
+        any."""
         self.first, self.headers, self.conditions, self.body = address, headers, conditions, body
         self.limit, self.pause = seconds, pause
         self.seconds, self.bytes = seconds, MOST_BYTES  # that are left
         self.address, self.redirects, self.tries, self.ready_at = address, 0, 1, 0
-        self.transfer = self.fault = None
+        self.transfer = self.fault = self.lookup = None
+        self.addresses, self.may_lead_inside = [], False  # those of the host, if a redirect named it
         self.is_whole = self.is_unchanged = self.has_failed = False
 
     def host(self):
@@ -43,14 +47,37 @@ class Download:
     def start(self):
         if os.path.lexists(self.body):
             os.unlink(self.body)
-        headers = self.headers if self.host() == host_of(self.first) else []
-        self.transfer = Transfer(self.address, headers + self.conditions, self.body, self.seconds, self.bytes)
+        headers = self.headers if place_of(self.address) == place_of(self.first) else []
+        self.transfer = Transfer(self.address, headers + self.conditions, self.body, self.seconds, self.bytes,
+                                 self.addresses)
 
     def is_done(self):
         return self.is_whole or self.is_unchanged or self.fault is not None
 
+    def is_ready(self):
+        """Whether it can start, or has ended with a fault. Takes the addresses of a host, once they are looked up."""
+        if self.lookup and self.lookup.has_ended():
+            lookup, self.lookup = self.lookup, None
+            self.seconds -= lookup.took()
+            self.addresses = lookup.addresses()
+            if any(hosts.is_inner(it) for it in self.addresses):
+                self.fault = "a redirect that leads into a private network"
+            elif not self.addresses and not hosts.is_proxied():
+                self.fault = "a redirect that leads to a host whose name is unknown"
+        return self.lookup is None and (self.is_done() or time.monotonic() >= self.ready_at)
+
+    def stop(self):
+        for it in filter(None, (self.lookup, self.transfer)):
+            it.stop()
+
+    def has_ended(self):
+        """Whether the transfer has ended. Then it takes its result: it is the last one, or there will be another."""
+        if self.is_done() or not self.transfer.has_ended():
+            return self.is_done()
+        self.end()
+        return True
+
     def end(self):
-        """Takes the result of a transfer that has ended: it is the last one, or there will be another."""
         transfer = self.transfer
         transfer.end()
         self.seconds -= transfer.took()
@@ -64,6 +91,8 @@ class Download:
         elif transfer.status == UNCHANGED and self.conditions:
             self.is_unchanged = True
         elif transfer.status in REDIRECTS and transfer.redirect:
+            if self.address == self.first:  # with a proxy, nobody here knows to what it was connected
+                self.may_lead_inside = hosts.is_inner(host_of(self.first) if hosts.is_proxied() else transfer.remote)
             self.follow(transfer.redirect)
         else:
             words = http.client.responses.get(transfer.status, "")
@@ -82,7 +111,8 @@ class Download:
         elif self.seconds < 1:
             self.fault = f"no end, within {self.limit:g} seconds"
         else:
-            self.address = address
+            self.address, self.addresses = address, []
+            self.lookup = None if self.may_lead_inside else hosts.Lookup(host_of(address))
 
     def try_again(self, fault, may_end_well):
         """Begins again at the first address after a pause that grows, if there is time for it."""
@@ -94,7 +124,19 @@ class Download:
         if self.fault:
             return
         self.tries += 1
-        self.address, self.redirects = self.first, 0
+        self.address, self.redirects, self.addresses = self.first, 0, []
+
+
+def attempt(download, step):
+    """What a step of a download returns. What goes wrong in it is the fault of this download alone, which is then done;
+    so True is returned."""
+    try:
+        return step()
+    except Interrupted:
+        raise
+    except Exception as error:
+        download.fault, download.has_failed = fault_of(error), isinstance(error, OSError)
+        return True
 
 
 def run(downloads):
@@ -102,24 +144,17 @@ def run(downloads):
     waiting, running = list(downloads), {}
     try:
         while waiting or running:
-            for host in [it for it, download in running.items() if download.transfer.has_ended()]:
-                download = running.pop(host)
-                download.end()
+            for host in [it for it, download in running.items() if attempt(download, download.has_ended)]:
+                waiting.append(running.pop(host))
+            for download in [it for it in waiting if attempt(it, it.is_ready)]:
                 if download.is_done():
+                    waiting.remove(download)
                     yield download
-                else:
-                    waiting.append(download)
-            for download in list(waiting):
-                if is_next(download, running):
+                elif len(running) < MOST_HOSTS and download.host() not in running:
                     waiting.remove(download)
                     running[download.host()] = download
-                    download.start()
+                    attempt(download, download.start)
             time.sleep(0.02)
     finally:
-        for download in running.values():
-            if download.transfer:  # a signal may come before it is there; curl then ends with this process
-                download.transfer.stop()
-
-
-def is_next(download, running):
-    return len(running) < MOST_HOSTS and download.host() not in running and time.monotonic() >= download.ready_at
+        for download in (*running.values(), *waiting):
+            download.stop()

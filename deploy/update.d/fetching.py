@@ -8,7 +8,7 @@ import contextlib, datetime, fcntl, hashlib, os, shutil
 import archives, downloads, headers, received_text, sources
 from fetch_state import State, sum_of
 from library import sync
-from outcome import ALL_NEW, DEVICE, KEPT, USAGE, Failure, Unreadable
+from outcome import ALL_NEW, DEVICE, KEPT, USAGE, Failure, Interrupted, Unreadable
 
 FOLDER, STATE = ".fetch", "state.json"
 MOST_DAYS = 90  # that a file may go without a change
@@ -33,10 +33,6 @@ def table_in(data, source):
     if rows < source.least:
         raise Unreadable(f"{headers.number(rows, 'row')}, and at least {source.least} must be there")
     return inner if source.member else data
-
-
-def text_of(error):
-    return f"{error.filename or 'a file'}: {error.strerror}"
 
 
 class Fetch:
@@ -96,9 +92,11 @@ class Fetch:
             for download in done:
                 try:
                     self.take(of_download[download], download)
-                except OSError as error:
-                    self.has_failed = True
-                    self.keep(of_download[download], text_of(error))
+                except Interrupted:
+                    raise
+                except Exception as error:
+                    self.has_failed |= isinstance(error, OSError)
+                    self.keep(of_download[download], downloads.fault_of(error))
                 self.write_state()
 
     def write_state(self):
@@ -106,7 +104,7 @@ class Fetch:
             self.state.write()
         except OSError as error:
             self.has_failed = True
-            self.faults.append((None, text_of(error)))
+            self.faults.append((None, downloads.fault_of(error)))
 
     def download(self, source, secrets, number):
         return downloads.Download(sources.address_of(source, secrets), sources.headers_of(source, secrets),

@@ -14,7 +14,8 @@ from outcome import USAGE, Failure
 
 MOST = 32  # bytes of a name, which is part of names of nginx, files and folders
 NAME = re.compile(r"[a-z](?:-?[a-z0-9])*")
-RESERVED = ("before", "current", "delivery", "drain", "input", "lock", "sending", "shared", "ssh", "trial", "versions")
+RESERVED = ("before", "current", "delivery", "drain", "input", "lock", "sending", "shared", "ssh", "trial", "updated",
+            "versions")
 SITE, LOCAL, MAIL, REPORT, SHARED = "site.conf", "local.conf", "mail", "report", "shared"
 
 

@@ -3,17 +3,45 @@
     versions/STAMP/        a version, never changed; STAMP is the time at which it was made, in UTC
     versions/STAMP.new/    a version that is being made; the next run removes it
     current                a link to the version in use, which is moved by a rename
+    updated                the time at which an update last ended well, in UTC, whether or not it found anything new
     before                 only while processes are restarted: a link to the version to go back to, or to `none`
     trial/                 files of the front door that tries a version; the next run removes it
     lock                   locked by a run as long as it lives
 """
 import ctypes, datetime, fcntl, os, re, shutil
 from outcome import DEVICE, Failure
+from printed_text import safe
 
 STAMP = "%Y%m%dT%H%M%SZ"
-VERSION = re.compile(r"versions/(\d{8}T\d{6}Z)")
+VERSION = re.compile(r"versions/([0-9]{8}T[0-9]{6}Z)")
+SECOND, DAY = datetime.timedelta(seconds=1), datetime.timedelta(days=1)
 NONE = "none"
 LIBC = ctypes.CDLL(None, use_errno=True)
+
+
+def now():
+    return datetime.datetime.now(datetime.timezone.utc)
+
+
+def moment_of(stamp):
+    """The moment that a stamp names, or None if it names none."""
+    try:
+        moment = datetime.datetime.strptime(stamp, STAMP) if VERSION.fullmatch(f"versions/{stamp}") else None
+    except ValueError:
+        moment = None
+    return moment and moment.replace(tzinfo=datetime.timezone.utc)
+
+
+def is_stamp(text):
+    """Whether a text is a stamp of at most a day ahead. Beyond that a clock was wrong, or the text is forged: the names
+    after it would have no end."""
+    moment = moment_of(text)
+    return moment is not None and moment <= now() + DAY
+
+
+def stamp_after(stamps):
+    """The stamp of this moment, or the one after all of these."""
+    return max([now(), *(moment_of(it) + SECOND for it in stamps)]).strftime(STAMP)
 
 
 def sync(path):
@@ -60,10 +88,10 @@ class Library:
             return None
         if text == NONE:
             return None
-        found = VERSION.fullmatch(text)
-        if not found or not os.path.isdir(self.path(text)):
-            raise Failure(f"{self.path(link)} is a link to {text}, which is no folder versions/STAMP")
-        return found[1]
+        stamp = text.removeprefix("versions/")
+        if stamp == text or not moment_of(stamp) or not os.path.isdir(self.path(text)):
+            raise Failure(f"{self.path(link)} is a link to {safe(text)}, which is no folder versions/STAMP")
+        return stamp
 
     def current(self):
         return self.version_of("current")
@@ -74,13 +102,13 @@ class Library:
     def versions(self):
         """The stamps of all versions, the oldest first."""
         os.makedirs(self.path("versions"), exist_ok=True)
-        return sorted(name for name in os.listdir(self.path("versions")) if VERSION.fullmatch(f"versions/{name}"))
+        return sorted(filter(is_stamp, os.listdir(self.path("versions"))))
 
     def clear(self):
         """Removes what a killed run left unfinished."""
         shutil.rmtree(self.path("trial"), ignore_errors=True)
         for name in os.listdir(self.path("versions")):
-            if re.fullmatch(r"\d{8}T\d{6}Z\.new", name):
+            if name.endswith(".new") and VERSION.fullmatch(f"versions/{name[:-4]}"):
                 shutil.rmtree(self.version(name))
         if os.path.lexists(self.path("current.new")):
             os.unlink(self.path("current.new"))
@@ -89,18 +117,13 @@ class Library:
         """Removes versions that are newer than the one in use: a run went back from them, or was killed before their
         use."""
         current = self.current() or ""
-        for stamp in self.versions():
+        for stamp in filter(moment_of, os.listdir(self.path("versions"))):
             if stamp > current:
                 shutil.rmtree(self.version(stamp))
 
     def begin(self):
         """Makes the folder of a new version, and returns its stamp, which is after all others."""
-        stamps = self.versions()
-        time = datetime.datetime.now(datetime.timezone.utc)
-        while stamps and time.strftime(STAMP) <= stamps[-1]:
-            latest = datetime.datetime.strptime(stamps[-1], STAMP).replace(tzinfo=datetime.timezone.utc)
-            time = latest + datetime.timedelta(seconds=1)
-        stamp = time.strftime(STAMP)
+        stamp = stamp_after(self.versions())
         os.mkdir(self.version(f"{stamp}.new"))
         return stamp
 
@@ -137,6 +160,19 @@ class Library:
             pass
         except OSError:  # not even a link can be made
             os.rename(self.path("before"), self.path("current"))
+
+    def note_update(self):
+        """Writes that an update has ended well, for the health page."""
+        new = self.path("updated.new")
+        with open(new, "w", encoding="ascii") as file:
+            file.write(f"{now().strftime(STAMP)}\n")
+        os.chmod(new, 0o644)
+        os.rename(new, self.path("updated"))
+
+    def forget_updates(self):
+        """Another machine makes the versions from now on, and knows when."""
+        if os.path.lexists(self.path("updated")):
+            os.unlink(self.path("updated"))
 
     def settle(self):
         """All processes serve `current`: there is nothing to go back to."""

@@ -16,12 +16,13 @@ and in that of a library
 
 A delivery is named once every machine was tried. Those that missed a part of it keep the older name, which the balancer
 sees (deploy/nginx/health.js), and get what they miss with the next delivery or with --send."""
-import datetime, fcntl, os, shlex, shutil, signal, subprocess, time
+import fcntl, os, selectors, shlex, shutil, signal, subprocess, time
 import children, interrupts, same_files
 from front_door import FrontDoor, Site
 from libraries import SHARED, SITE, Libraries
-from library import STAMP, VERSION, Library, sync
+from library import Library, is_stamp, stamp_after, sync
 from outcome import ALL_NEW, KEPT, Failure
+from printed_text import safe
 from probing import Probes, load_probe
 from processes import Processes
 from run import Run, report
@@ -32,6 +33,7 @@ SHELL = ("ssh -i /etc/openlink/ssh/key -o UserKnownHostsFile=/etc/openlink/ssh/k
          " -o ConnectTimeout=10 -o ServerAliveInterval=10")
 ALONE = "."  # the library of a machine with one alone, by its place in the folder
 SECONDS_TO_ASK, SECONDS_TO_SEND, SECONDS_TO_RECEIVE = 60, 3600, 3600
+MOST_BYTES = 4 * 2**20  # that another machine may print
 PROBES, OF = "probes.tsv", "# hold in "
 # Commands for another machine, in its folder. A file gets its name by a rename, so that the health page sees it whole.
 # A library whose last run was killed has no version. Draining ends by itself, if the run is killed; an empty file is
@@ -61,8 +63,8 @@ def fault_of(given):
         return "--send needs --to, and sends what all libraries have"
     if given.to and (given.dry_run or given.receive):
         return "--to is not for --dry-run or --receive"
-    if given.receive and not VERSION.fullmatch(f"versions/{given.receive}"):
-        return "--receive needs the name of a version"
+    if given.receive and not is_stamp(given.receive):
+        return "--receive needs the name of a version, a time of at most a day ahead"
     return None
 
 
@@ -70,16 +72,44 @@ def run(words, seconds):
     """What a command prints. A Failure says why it did not succeed."""
     name = os.path.basename(words[0])
     try:
-        done = subprocess.run(words, stdin=subprocess.DEVNULL, capture_output=True, text=True, errors="replace",
-                              timeout=seconds, start_new_session=True, preexec_fn=children.tied())
+        child = children.start(words, ".", stdout=subprocess.PIPE, stderr=subprocess.PIPE)
+        try:
+            printed, said = read(child, seconds)
+        finally:
+            children.stop(child)
+            child.stdout.close()
+            child.stderr.close()
     except OSError as fault:
         raise Failure(f"{name}: {fault.strerror}") from fault
     except subprocess.TimeoutExpired as fault:
-        raise Failure(f"{name}: no end after {seconds} seconds") from fault
-    if done.returncode != 0:
-        lines = (done.stdout + done.stderr).strip().splitlines()
-        raise Failure("\n  ".join(lines[-12:]) or f"{name}: status {done.returncode}")
-    return done.stdout
+        raise Failure(f"{name}: no end after {seconds:g} seconds") from fault
+    except OverflowError as fault:
+        raise Failure(f"{name}: it prints more than {MOST_BYTES:,} bytes") from fault
+    if child.returncode != 0:
+        lines = (printed + said).strip().splitlines()[-12:]
+        raise Failure("\n  ".join(map(safe, lines)) or f"{name}: status {child.returncode}")
+    return printed
+
+
+def read(child, seconds):
+    """The texts that a child prints until it ends. TimeoutExpired or OverflowError if they are too late or too long:
+    another machine may be in the hands of others."""
+    end, texts = time.monotonic() + seconds, {child.stdout: b"", child.stderr: b""}
+    with selectors.DefaultSelector() as selector:
+        for stream in texts:
+            selector.register(stream, selectors.EVENT_READ)
+        while selector.get_map():
+            if time.monotonic() > end:
+                raise subprocess.TimeoutExpired(child.args, seconds)
+            for key, _ in selector.select(max(end - time.monotonic(), 0)):
+                part = os.read(key.fd, 65536)
+                texts[key.fileobj] += part
+                if not part:
+                    selector.unregister(key.fileobj)
+            if sum(map(len, texts.values())) > MOST_BYTES:
+                raise OverflowError
+    child.wait(max(end - time.monotonic(), 0))
+    return [text.decode("utf-8", "replace") for text in texts.values()]
 
 
 def text_in(path):
@@ -113,14 +143,17 @@ class Machine:
         return self.command(f"cd {shlex.quote(self.folder)} || exit\n{text}")
 
     def ask(self):
-        """Asks for its delivery and the versions in use."""
+        """Asks for its delivery and the versions in use. What is no name of one counts as none."""
         self.delivery, self.stamps = "", {}
         for line in self.in_folder(STATE).splitlines():
             name, _, text = line.partition(" ")
-            if name == "delivery":
-                self.delivery = text
-            elif VERSION.fullmatch(text):
-                self.stamps[name] = VERSION.fullmatch(text)[1]
+            stamp = text.removeprefix("versions/")
+            if not is_stamp(stamp):
+                continue
+            if name == "delivery" and stamp == text:
+                self.delivery = stamp
+            elif stamp != text:
+                self.stamps[name] = stamp
 
     def copy(self, source, target, *options):
         words = ["rsync", "-a", "--delete", "--mkpath", "--timeout=60", "-e", self.shell, *options]
@@ -221,54 +254,44 @@ class Delivery:
             for held in libraries:
                 held.keep_probes()
             machines = [Machine(host, self.given) for host in self.given.to]
-            complete = [machine for machine in machines if self.has_all(machine, libraries)]
+            complete = [machine for machine in machines if does(machine, self.complete, machine, libraries)]
             told = self.name(complete, "".join(f"{held.name} {held.stamp}\n" for held in libraries))
         missed = [it.host for it in machines if it not in told]
         if missed:
             report(f"missed by {', '.join(missed)}, which get no readers until they have it")
         return KEPT if missed else ALL_NEW
 
-    def has_all(self, machine, libraries):
-        """Whether a machine has every version, once it was sent those that it lacks."""
-        try:
-            machine.ask()
-            lacking = [held for held in libraries if machine.stamps.get(held.name) != held.stamp]
-            if lacking:
-                machine.bring(lacking)
-            return True
-        except Failure as failure:
-            report(f"{machine.host}: {failure}")
-            return False
+    @staticmethod
+    def complete(machine, libraries):
+        """Sends a machine the versions that it lacks."""
+        machine.ask()
+        lacking = [held for held in libraries if machine.stamps.get(held.name) != held.stamp]
+        if lacking:
+            machine.bring(lacking)
 
     def name(self, machines, versions):
         """Tells the machines that have all versions the name of the delivery, a new one if the versions are new. Then
         this machine has it, whose health page tells the balancer. Returns the machines that have it."""
         named, _, before = text_in(self.path).partition("\n")
-        stamp = named if before == versions else next_name([named, *(it.delivery for it in machines)])
-        told = [it for it in machines if it.delivery == stamp or self.has_told(it, stamp)]
+        is_old = before == versions and is_stamp(named)
+        stamp = named if is_old else stamp_after(filter(is_stamp, [named, *(it.delivery for it in machines)]))
+        told = [it for it in machines if it.delivery == stamp or does(it, it.name_delivery, stamp)]
         if stamp != named:
             write(self.path, f"{stamp}\n{versions}")
             report(f"delivery {stamp}: {', '.join(['this machine', *(it.host for it in told)])}")
         return told
 
-    @staticmethod
-    def has_told(machine, stamp):
-        try:
-            machine.name_delivery(stamp)
-            return True
-        except Failure as failure:
-            report(f"{machine.host}: {failure}")
-            return False
 
-
-def next_name(names):
-    """The time, or one after all names."""
-    names = [name for name in names if VERSION.fullmatch(f"versions/{name}")]
-    moment = datetime.datetime.now(datetime.timezone.utc)
-    while any(moment.strftime(STAMP) <= name for name in names):
-        latest = datetime.datetime.strptime(max(names), STAMP).replace(tzinfo=datetime.timezone.utc)
-        moment = latest + datetime.timedelta(seconds=1)
-    return moment.strftime(STAMP)
+def does(machine, step, *what):
+    """Whether a step with a machine succeeds. Whatever goes wrong is the fault of this machine alone."""
+    try:
+        step(*what)
+        return True
+    except Failure as failure:
+        report(f"{machine.host}: {failure}")
+    except Exception as error:
+        report(f"{machine.host}: {type(error).__name__}: {safe(str(error))}")
+    return False
 
 
 def deliver(given, here, status):
@@ -294,6 +317,7 @@ class Receiver(Run):
         """Returns the exit status."""
         library = self.library
         old, sent = library.current(), library.version(f"{stamp}.probes")
+        library.forget_updates()
         if stamp == old:
             self.remove_sent()
             report(f"{stamp} is in use already")

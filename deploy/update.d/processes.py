@@ -48,6 +48,15 @@ class Processes:
         self.ports, self.restart, self.reload, self.seconds = ports, restart, reload, seconds
         self.restarted = []
 
+    def is_down(self):
+        """Whether no process answers, as long as one may take to start."""
+        end = time.monotonic() + self.seconds
+        while self.ports and not any(map(answers, self.ports)):
+            if time.monotonic() > end:
+                return True
+            time.sleep(0.05)
+        return False
+
     def wait_for_all(self):
         """Waits until each process answers, as long as one may take: a killed run may have left one that is being
         restarted, and another must not be restarted meanwhile."""

@@ -2,6 +2,7 @@
 arguments of a process. It follows no redirect and tries once."""
 import os, re, subprocess, tempfile, time
 import children
+from hosts import place_of
 
 SECONDS_TO_CONNECT = 10
 SECONDS_TO_END = 10  # for curl, after its own limit
@@ -15,10 +16,12 @@ REASONS = {5: "the name of the proxy is unknown", 6: "the name of the host is un
 PASSING = {5, 6, 7, 16, 35, 52, 97, TIMED_OUT, *CUT_SHORT}  # another try may end well
 OPTIONS = ("silent", "globoff", "compressed", "disallow-username-in-url", "suppress-connect-headers", "fail",
            "user-agent = openlink-fetch", "dump-header = -", f"connect-timeout = {SECONDS_TO_CONNECT}",
-           'write-out = "\\nend %{http_code} %{size_download} %{time_connect} %{ssl_verify_result}\\n%{redirect_url}"')
+           'write-out = "\\nend %{http_code} %{size_download} %{time_connect} %{ssl_verify_result} %{remote_ip}'
+           '\\n%{redirect_url}"')
 # What curl prints: the headers of the replies, then what write-out says, which is missing if curl was killed.
-PRINTED = re.compile(r"(.*)\nend (\d+) (\d+) ([\d.]+) (\d+)\n([^\n]*)", re.S)
+PRINTED = re.compile(r"(.*)\nend (\d+) (\d+) ([\d.]+) (\d+) (\S*)\n([^\n]*)", re.S)
 MOST_PRINTED = 2**20  # bytes that are read of it
+LENGTH = re.compile(r"[0-9]{1,15}")
 
 
 def quoted(text):
@@ -37,14 +40,23 @@ def headers_in(text):
     return headers
 
 
+def pinned(address, addresses):
+    """The lines by which curl takes these addresses for the host of an address; none if it has none, or is one."""
+    host, port = place_of(address)
+    if not addresses or ":" in host:
+        return []
+    return ["resolve = " + quoted(f"{host}:{port}:" + ",".join(f"[{it}]" if ":" in it else it for it in addresses))]
+
+
 class Transfer:
-    def __init__(self, address, headers, body, seconds, most_bytes):
-        """Starts it, with the seconds that it may take. The path `body` gets the body of a reply, up to these bytes."""
+    def __init__(self, address, headers, body, seconds, most_bytes, addresses=()):
+        """Starts it, with the seconds that it may take. The path `body` gets the body of a reply, up to these bytes.
+        The host has these `addresses`; if there are none, curl looks them up."""
         self.body, self.seconds, self.most_bytes, self.started = body, seconds, most_bytes, time.monotonic()
         scheme = address.split(":")[0].lower()
         lines = [*OPTIONS, f"url = {quoted(address)}", f"proto = ={scheme}", f"output = {quoted(body)}",
                  f"max-time = {max(seconds, 0.001):.3f}", f"max-filesize = {most_bytes}",
-                 *(f"header = {quoted(header)}" for header in headers)]
+                 *pinned(address, addresses), *(f"header = {quoted(header)}" for header in headers)]
         self.printed = tempfile.TemporaryFile()
         # SIGXFSZ stays ignored, so that curl sees a failed write and is not killed.
         self.child = children.start(["curl", "-q", "--config", "-"], "/", most_bytes, stdin=subprocess.PIPE,
@@ -67,13 +79,15 @@ class Transfer:
         children.stop(self.child)
 
     def end(self):
-        """Reads what curl printed: the status of the reply (0 if there is none), its headers, and the redirect."""
+        """Reads what curl printed: the status of the reply (0 if there is none), its headers, the address that it came
+        from, and the redirect."""
         length = self.printed.seek(0, os.SEEK_END)
         self.printed.seek(max(length - MOST_PRINTED, 0))
         found = PRINTED.fullmatch(self.printed.read().decode("latin-1"))
         self.printed.close()
         self.exit = self.child.returncode if found else self.child.returncode or TIMED_OUT
-        head, status, size, connected, verified, self.redirect = found.groups() if found else ("", 0, 0, 0, 0, "")
+        nothing = ("", 0, 0, 0, 0, "", "")
+        head, status, size, connected, verified, self.remote, self.redirect = found.groups() if found else nothing
         self.headers, self.status, self.size = headers_in(head), int(status), int(size)
         self.is_connected, self.verified = float(connected) > 0, int(verified)
 
@@ -99,5 +113,5 @@ class Transfer:
 
     def fault_of_length(self):
         length = self.headers.get("content-length", "")
-        total = f"of {int(length):,} bytes" if length.isdecimal() else "bytes, too early"
+        total = f"of {int(length):,} bytes" if LENGTH.fullmatch(length) else "bytes, too early"
         return f"ended after {self.size:,} {total}"

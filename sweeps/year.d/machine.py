@@ -215,7 +215,7 @@ class Machine(fixture.Library):
 
     def left_over(self, vendors):
         """Files, processes and ports that a run has left. A process gets a few seconds to end with its run."""
-        names = [name for name in os.listdir(self.folder) if name not in ("current", "versions", "lock")]
+        names = [name for name in os.listdir(self.folder) if name not in ("current", "versions", "lock", "updated")]
         names += [name for name in self.versions() if name.endswith(".new")]
         names += [f"temporary/{name}" for name in os.listdir(self.aside("temporary"))]
         fetch = self.input.path(".fetch")
