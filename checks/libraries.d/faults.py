@@ -1,4 +1,4 @@
-"""A bad file, list or probe of one library, and updates that cannot begin: they are felt by no other library. And a
+"""A bad file, list or probe of one library, and updates that cannot begin: they stop no other library. And a
 library that was alone on its machine."""
 import fcntl, os, re, shutil
 from counting import expect, expect_lines
