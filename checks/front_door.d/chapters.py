@@ -1,10 +1,11 @@
-"""Commands that OPERATING.md has for an operator: those of "When the resolver is down" that need no systemd, before and
-after the processes have ended, and the limits of nginx in "First start"."""
-import os, re, shutil, subprocess
+"""What OPERATING.md says to an operator: the commands of "When the resolver is down" that need no systemd, before and
+after the processes have ended; the limits of nginx in "First start"; and the "Record of what is kept"."""
+import glob, http.client, os, re, shutil, subprocess
 from operating import with_tls
 from patience import patience, wait_until
 
 STEP = re.compile(r"^\d+\. .*$", re.M)
+ADDRESS = "127.0.0.77"
 PRINTS = re.compile(r"`([^`]+)` prints (?:`([^`]+)`|nothing)")
 
 
@@ -120,8 +121,77 @@ def test_full_logs(site, expect):
     site.reload()
 
 
+def test_disk(site, expect):
+    """The command of "Disk" that watches it, with a `df` that prints these shares of bytes and of files."""
+    command = next(it for it in chapter("Disk").split("```\n")[1::2] if it.startswith("df "))
+    folder = site.path("with_df")
+    os.mkdir(folder)
+    for shares, status in ((("38 4", "38 4"), 0), (("90 90", "90 -"), 0), (("91 4", "38 4"), 1), (("38 4", "100 4"), 1),
+                           (("9 100", "9 4"), 1)):
+        with open(f"{folder}/df", "w") as file:
+            lines = [" ".join(f"{it}%" for it in line.split()) for line in shares]
+            file.write("#!/bin/sh\n[ $# = 3 ] || exit 9\ncat <<END\n" + "\n".join(["Use% IUse%", *lines]) + "\nEND\n")
+        os.chmod(f"{folder}/df", 0o755)
+        done = subprocess.run(["sh", "-c", command], env={**os.environ, "PATH": f"{folder}:{os.environ['PATH']}"})
+        expect(f"shares of the disk: {shares}", done.returncode, status)
+    done = subprocess.run(["sh", "-c", command.split("|")[0].replace("/etc/openlink", site.folder).replace(
+        "/var/log", site.path("log"))], capture_output=True, text=True)
+    expect("what df prints", [bool(re.fullmatch(r"\s*\d+%\s+(\d+%|-)", it)) for it in done.stdout.splitlines()[1:]],
+           [True, True])
+
+
+def files_of_sites():
+    """The logs and caches that the sites of deploy/nginx write, as the record names them."""
+    named = set()
+    for path in glob.glob("deploy/nginx/*.conf"):
+        with open(path, encoding="utf-8") as file:
+            named.update(re.findall(r"(?:access_log|error_log|proxy_cache_path)\s+(/[^\s;]+)", file.read()))
+    return sorted(os.path.basename(it).replace("@NAME@", "NAME") for it in named - {"/dev/null"})
+
+
+def send_planted(site):
+    """Requests of an address of their own, with a word of their own in each part that a client chooses. Returns their
+    number."""
+    query = "issn=3006-1962&title=Planted+words&aulast=Planted"
+    paths = ("/find", "/find.json", "/find.ris", "/cite", "/go", "/openurl", "/openurl.txt", "/why", "/none")
+    requests = [("GET", f"{path}?{query}", None) for path in paths]
+    requests += [("GET", "/journals?q=planted", None), ("GET", f"/find?title={'planted' * 2000}", None),
+                 ("POST", "/find", query.encode()), ("PUT", "/find", query.encode())]
+    for method, target, body in requests:
+        peer = http.client.HTTPConnection("127.0.0.1", site.port, timeout=patience(30), source_address=(ADDRESS, 0))
+        peer.request(method, target, body, {"Referer": "http://planted.example/", "User-Agent": "planted"})
+        peer.getresponse().read()
+        peer.close()
+    return len(requests)
+
+
+def test_record(site, expect):
+    """The record has each file that the sites write, and no request leaves its address or its words in one."""
+    record, files = chapter("Privacy").split("\n### Record of what is kept\n")[1], files_of_sites()
+    expect("files", len(files), 6)
+    expect("files that the record lacks", [it for it in files if not re.search(rf"[/`]{re.escape(it)}`", record)], [])
+    site.edit(("js_var $openlink_log_wanted off;", "js_var $openlink_log_wanted on;"))
+    before = logs(site)["openlink.log"].count("\n")
+    count = send_planted(site)
+    wait_until(lambda: logs(site)["openlink.log"].count("\n") >= before + count)
+    kept = logs(site)
+    expect("a line for each request", kept["openlink.log"].count("\n"), before + count)
+    expect("what was asked for in vain", "3006-1962" in kept["openlink-wanted.log"])
+    found = [name for name, text in kept.items() if re.search(f"planted|{ADDRESS}", text, re.I)]
+    expect("no word and no address", found, [])
+
+
+def logs(site):
+    found = {}
+    for path in glob.glob(site.path("log/*")):
+        with open(path, encoding="utf-8", errors="replace") as file:
+            found[os.path.basename(path)] = file.read()
+    return found
+
+
 def test(site, expect):
-    for part in (test_steps, test_without_processes, test_limits, test_full_logs):
+    for part in (test_steps, test_without_processes, test_limits, test_full_logs,
+                 test_record, test_disk):
         part(site, expect)
         site.write_configuration()
         site.reload()
