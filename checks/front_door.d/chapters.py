@@ -1,11 +1,10 @@
 """What OPERATING.md says to an operator: the commands of "When the resolver is down" that need no systemd, before and
-after the processes have ended; the limits of nginx in "First start"; and the "Record of what is kept"."""
-import glob, http.client, os, re, shutil, subprocess
+after the processes have ended; the limits of nginx in "First start"; the "Record of what is kept"; and "Disk"."""
+import glob, os, re, shutil, subprocess
 from operating import with_tls
 from patience import patience, wait_until
 
 STEP = re.compile(r"^\d+\. .*$", re.M)
-ADDRESS = "127.0.0.77"
 PRINTS = re.compile(r"`([^`]+)` prints (?:`([^`]+)`|nothing)")
 
 
@@ -149,49 +148,15 @@ def files_of_sites():
     return sorted(os.path.basename(it).replace("@NAME@", "NAME") for it in named - {"/dev/null"})
 
 
-def send_planted(site):
-    """Requests of an address of their own, with a word of their own in each part that a client chooses. Returns their
-    number."""
-    query = "issn=3006-1962&title=Planted+words&aulast=Planted"
-    paths = ("/find", "/find.json", "/find.ris", "/cite", "/go", "/openurl", "/openurl.txt", "/why", "/none")
-    requests = [("GET", f"{path}?{query}", None) for path in paths]
-    requests += [("GET", "/journals?q=planted", None), ("GET", f"/find?title={'planted' * 2000}", None),
-                 ("POST", "/find", query.encode()), ("PUT", "/find", query.encode())]
-    for method, target, body in requests:
-        peer = http.client.HTTPConnection("127.0.0.1", site.port, timeout=patience(30), source_address=(ADDRESS, 0))
-        peer.request(method, target, body, {"Referer": "http://planted.example/", "User-Agent": "planted"})
-        peer.getresponse().read()
-        peer.close()
-    return len(requests)
-
-
-def test_record(site, expect):
-    """The record has each file that the sites write, and no request leaves its address or its words in one."""
+def test_record(_, expect):
+    """The record has each file that the sites write."""
     record, files = chapter("Privacy").split("\n### Record of what is kept\n")[1], files_of_sites()
     expect("files", len(files), 6)
     expect("files that the record lacks", [it for it in files if not re.search(rf"[/`]{re.escape(it)}`", record)], [])
-    site.edit(("js_var $openlink_log_wanted off;", "js_var $openlink_log_wanted on;"))
-    before = logs(site)["openlink.log"].count("\n")
-    count = send_planted(site)
-    wait_until(lambda: logs(site)["openlink.log"].count("\n") >= before + count)
-    kept = logs(site)
-    expect("a line for each request", kept["openlink.log"].count("\n"), before + count)
-    expect("what was asked for in vain", "3006-1962" in kept["openlink-wanted.log"])
-    found = [name for name, text in kept.items() if re.search(f"planted|{ADDRESS}", text, re.I)]
-    expect("no word and no address", found, [])
-
-
-def logs(site):
-    found = {}
-    for path in glob.glob(site.path("log/*")):
-        with open(path, encoding="utf-8", errors="replace") as file:
-            found[os.path.basename(path)] = file.read()
-    return found
 
 
 def test(site, expect):
-    for part in (test_steps, test_without_processes, test_limits, test_full_logs,
-                 test_record, test_disk):
+    for part in (test_steps, test_without_processes, test_limits, test_full_logs, test_record, test_disk):
         part(site, expect)
         site.write_configuration()
         site.reload()
