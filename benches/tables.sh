@@ -1,7 +1,7 @@
 #!/usr/bin/env bash
 # What holdings tables cost: the time of reading one of 16 MiB and 200,000 rows, compared with the same work in plain
-# Rust; the memory that tables keep; the instructions of a look-up; and identifiers that were made to collide. The
-# measured programs are tables.rt.txt, which checks its results, and tables.rs, which is skipped if there is no rustc.
+# Rust; the memory that tables keep; and the instructions of a look-up. The measured programs are tables.rt.txt, which
+# checks its results, and tables.rs, which is skipped if there is no rustc.
 # Not part of the gate.
 set -euo pipefail
 cd "$(dirname "$0")/.."
@@ -13,7 +13,8 @@ benches/copy_crates "$scratch/now"
 mkdir -p "$scratch/now/crates/tables_bench/src"
 cp benches/tables.rt.txt "$scratch/now/crates/tables_bench/src/main.rt"
 echo 'tables_bench: kbart_rows kev_read' >> "$scratch/now/crates.txt"
-(cd "$scratch/now/crates/tables_bench" && rt run -- collide 0) > "$scratch/build.log" 2>&1 ||
+echo print_identifier > "$scratch/none.tsv"
+(cd "$scratch/now/crates/tables_bench" && rt run -- read "$scratch/none.tsv" 0) > "$scratch/build.log" 2>&1 ||
   { tail -20 "$scratch/build.log"; exit 1; }
 program=$scratch/now/crates/tables_bench/out/tables_bench
 
@@ -48,12 +49,11 @@ dense() {
 }
 
 # Seconds of N rounds, without those of the start.
-# shellcheck disable=SC2086 # without $last there is no argument
 seconds() {
   local some none
   TIMEFORMAT=%U
-  some=$({ time "${@:2}" "$1" ${last:-} > /dev/null; } 2>&1)
-  none=$({ time "${@:2}" 0 ${last:-} > /dev/null; } 2>&1)
+  some=$({ time "${@:2}" "$1" > /dev/null; } 2>&1)
+  none=$({ time "${@:2}" 0 > /dev/null; } 2>&1)
   awk -v some="$some" -v none="$none" -v rounds="$1" 'BEGIN { printf "%.3f", (some - none) / rounds }'
 }
 
@@ -70,9 +70,7 @@ kept() {
 rows 200000 0 > "$scratch/large.tsv"
 dense > "$scratch/dense.tsv"
 echo "reading $(wc -c < "$scratch/large.tsv") bytes, 200,000 rows, seconds of processor time"
-last='1 2'
 echo "  kbart_rows   $(seconds 5 "$program" read "$scratch/large.tsv")"
-last=
 if command -v rustc > "$scratch/rustc.log"; then
   rustc -O -o "$scratch/plain" benches/tables.rs
   echo "  plain Rust   $(seconds 5 "$scratch/plain" "$scratch/large.tsv")"
@@ -89,11 +87,4 @@ for many in 1 1000 100000; do
   none=$(instructions match "$scratch/many.tsv" 0 99999999 "$row" "$row")
   some=$(instructions match "$scratch/many.tsv" 1000 99999999 "$row" "$row")
   echo "  $many rows: $(((some - none) / 1000))"
-done
-
-echo "20,000 identifiers that collide under the keys 0 and 0, seconds of processor time"
-"$program" collide 20000 > "$scratch/collide.tsv"
-for keys in '0 0' '7316203549120 99281736450911'; do
-  last=$keys
-  echo "  keys $keys: $(seconds 1 "$program" read "$scratch/collide.tsv")"
 done

@@ -144,7 +144,7 @@ const DAYS = [
     ['no leap year at the end of a century', 'rft_val_fmt=x&rft.date=1900-02', 'x.from=19000201 x.to=19000228'],
     ['but of every fourth', 'rft_val_fmt=x&rft.date=2000-02', 'x.from=20000201 x.to=20000229'],
     ['a leap day', 'rft_val_fmt=x&rft.date=2024-02-29', 'x.from=20240229 x.to=20240229'],
-    ['a day that there is not', 'rft_val_fmt=x&rft.date=2023-02-29', 'x.from=20230201 x.to=20230228'],
+    ['a day that does not exist', 'rft_val_fmt=x&rft.date=2023-02-29', 'x.from=20230201 x.to=20230228'],
     ['the 31st of a month of 30 days', 'rft_val_fmt=x&rft.date=2023-04-31', 'x.from=20230401 x.to=20230430'],
     ['a month of 30 days', 'rft_val_fmt=x&rft.date=2023-11', 'x.from=20231101 x.to=20231130'],
     ['a month of 31 days', 'rft_val_fmt=x&rft.date=2023-12', 'x.from=20231201 x.to=20231231'],

@@ -2,7 +2,7 @@
 import glob, json, os, re, shutil, socket, subprocess, sys, tempfile, time
 from urllib.parse import quote
 from running import FOR_EVERY_REQUEST, Site, free_ports
-import cut_short, divided_tables, finding, lookups, operating, restarts, speed, staff, two_versions
+import chapters, cut_short, divided_tables, finding, lookups, operating, restarts, speed, staff, two_versions
 import targets_file as targets
 from patience import patience, wait_until
 
@@ -467,6 +467,10 @@ def test_operating(site):
     operating.test(site, expect)
 
 
+def test_chapters(site):
+    chapters.test(site, expect)
+
+
 def test_finding(site):
     finding.test(site, expect, tidy)
 
@@ -615,7 +619,7 @@ def main():
         expect("nginx -t", (status, text if status else ""), (0, ""))
         site.start()
         for test in (test_requests, test_page, test_json, test_languages, test_go, test_hostile, test_form,
-                     test_passed_on, test_staff, test_operating, test_finding, test_lookups, test_faults,
+                     test_passed_on, test_staff, test_operating, test_chapters, test_finding, test_lookups, test_faults,
                      test_limit, test_rates, test_hostile_labels, test_restarts, test_cut_short, test_logs):
             test(site)
     finally:

@@ -174,6 +174,11 @@ class Raw(socketserver.StreamRequestHandler):
     def misnamed(self):
         self.whole(self.server.table, more=f'ETag: "{"x" * 1001}"\r\nLast-Modified: caf\xe9\r\n')
 
+    def misplaced(self):
+        """A reply that names a file of its own, elsewhere."""
+        self.whole(self.server.table, more='Content-Disposition: attachment; filename="../targets.tsv"\r\n'
+                                           "Content-Location: /targets.tsv\r\n")
+
     def busy(self):
         """Waits for as many requests as there may be at once, and then for one more."""
         wait_until(lambda: self.server.most_of_all >= 4, 5)

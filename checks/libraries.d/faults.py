@@ -1,11 +1,9 @@
-"""A bad file, list or probe of one library, and updates that cannot begin: they are felt by no other library. And a
+"""A bad file, list or probe of one library, and updates that cannot begin: they stop no other library. And a
 library that was alone on its machine."""
-import fcntl, os, re, shutil
+import fcntl, os
 from counting import expect, expect_lines
-from machine import FEW, Input, Machine, deliver, free_ports, read, started, wait_until, weeks, write
-from weeks import HTML, SMALL
-
-SITE = "etc/nginx/conf.d/openlink.conf"
+from machine import FEW, SITE, Machine, deliver, read, started, wait_until, weeks
+from weeks import HTML
 
 
 def test_bad_files():
@@ -43,13 +41,8 @@ def test_bad_files():
 def test_beside_one_alone():
     """The library of a machine alone stays as it is when another is added."""
     with Machine() as machine:
-        first = free_ports(2)
-        site = read(f"{machine.share}/nginx/openlink.conf").replace("127.0.0.1:8081", f"127.0.0.1:{first}")
-        site = site.replace("127.0.0.1:8082", f"127.0.0.1:{first + 1}")
-        site = re.sub(r"    server 127\.0\.0\.1:808[34] max_fails=0;\n", "", site)
-        write(machine.path(SITE), site)
-        shutil.copytree(f"{machine.share}/nginx", machine.path("etc/nginx/openlink"))
-        alone = Input(machine.path("etc/openlink/input"), SMALL, 3)
+        alone, _ = machine.add_alone()
+        site = read(machine.path(SITE))
         status, printed = machine.update("--all")
         expect(f"no other: {printed}", (status, "the library of openlink.conf:" in printed), (0, False))
         machine.start_nginx()

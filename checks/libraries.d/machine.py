@@ -1,5 +1,5 @@
 """A folder that stands for a machine: what is installed there, its nginx, its processes and its libraries."""
-import base64, glob, http.client, json, os, random, shutil, signal, socket, subprocess, sys, tempfile
+import base64, glob, http.client, json, os, random, re, shutil, signal, socket, subprocess, sys, tempfile
 
 HERE = os.path.dirname(os.path.abspath(__file__))
 sys.path += [os.path.join(os.path.dirname(HERE), name) for name in ("shared", "update.d")]
@@ -10,6 +10,7 @@ from weeks import QUERY, SMALL, Input
 
 PROGRAM = os.path.abspath("crates/openlink/out/openlink")
 NAMES, FEW = ("east", "north", "west"), ("tidal-press", "coastal-law")
+SITE = "etc/nginx/conf.d/openlink.conf"
 NGINX = """load_module /usr/lib/nginx/modules/ngx_http_js_module.so;
 {user}worker_processes 1;
 pid {folder}/nginx.pid;
@@ -84,13 +85,19 @@ class Machine:
         return self
 
     def __exit__(self, *_):
+        self.stop()
+        shutil.rmtree(self.folder, ignore_errors=True)
+
+    def stop(self):
+        """Ends its processes and its nginx."""
         for path in glob.glob(self.path("run", "[0-9]*")):
             if not path.endswith(".enabled"):
                 end(int(read(path)))
+                os.unlink(path)
         if self.nginx:
             self.nginx.terminate()
             self.nginx.wait()
-        shutil.rmtree(self.folder, ignore_errors=True)
+            self.nginx = None
 
     def begin(self, script, *words):
         return subprocess.Popen([sys.executable, "-S", "-B", f"{self.share}/{script}", *words], env=self.environment,
@@ -134,6 +141,15 @@ class Machine:
         if status != 0:
             raise SystemExit(f"checks/libraries: add {name}: {printed}")
         return Library(self, name, names)
+
+    def add_alone(self):
+        """The library of a machine alone, as "First start" makes it: its input, and the ports of its processes."""
+        first = free_ports(2)
+        site = read(f"{self.share}/nginx/openlink.conf").replace("127.0.0.1:8081", f"127.0.0.1:{first}")
+        site = site.replace("127.0.0.1:8082", f"127.0.0.1:{first + 1}")
+        write(self.path(SITE), re.sub(r"    server 127\.0\.0\.1:808[34] max_fails=0;\n", "", site))
+        shutil.copytree(f"{self.share}/nginx", self.path("etc/nginx/openlink"))
+        return Input(self.path("etc/openlink/input"), SMALL, 3), [first, first + 1]
 
     def start_nginx(self):
         self.nginx = subprocess.Popen(["nginx", "-c", self.path("etc/nginx/nginx.conf"), "-p", self.folder, "-g",

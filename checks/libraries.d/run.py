@@ -4,7 +4,7 @@ failures."""
 import importlib, signal, subprocess, sys, time
 from counting import counts
 
-MODULES = ("turns", "faults", "sites", "sharing", "names")
+MODULES = ("turns", "faults", "sites", "sharing", "names", "backup")
 
 
 def run(module):

@@ -1,5 +1,5 @@
 """Disks that are full or become full. The version before is served, and nothing is left."""
-import contextlib, os, resource, shutil, subprocess, sys
+import contextlib, os, re, resource, shutil, subprocess, sys
 from counting import expect
 from fixture import Library
 
@@ -56,6 +56,24 @@ def test_no_file_left():
                        (0, {"B"}, []))
 
 
+def test_oldest_away():
+    """The command of OPERATING's chapter "Disk" that deletes the oldest version: the next update is as ever."""
+    with open("docs/OPERATING.md", encoding="utf-8") as file:
+        block = next(it for it in file.read().split("\n## Disk\n")[1].split("```\n")[1::2] if "rm -r" in it)
+    command = next(line for line in block.splitlines() if line.startswith("rm "))
+    with Library() as library:
+        for week in "BA":
+            library.input.deliver(week)
+            expect(f"week {week}", library.run()[0], 0)
+        oldest, *kept = library.versions()
+        subprocess.run(["sh", "-ec", re.sub(r"/etc/openlink/versions/\w+", library.path("versions", oldest), command)],
+                       check=True)
+        expect("versions", library.versions(), kept)
+        library.input.deliver("B")
+        expect("the next week", (library.run()[0], library.weeks_served(), len(library.versions())), (0, {"B"}, 3))
+        expect("and back", (library.run("--back")[0], library.weeks_served()), (0, {"A"}))
+
+
 def fill_bytes(folder, room):
     with open(os.path.join(folder, "filler"), "wb") as file:
         file.write(bytes(max(shutil.disk_usage(folder).free - room, 0)))
@@ -95,4 +113,4 @@ def test_file_limit(library):
     expect(f"a limit: {child.stderr}", (child.returncode, library.current(), library.left_behind()), (4, first, []))
 
 
-TESTS = [test_full_disk, test_no_file_left]
+TESTS = [test_full_disk, test_no_file_left, test_oldest_away]

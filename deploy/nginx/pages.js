@@ -10,8 +10,8 @@ const is = texts.is;
 const escape = texts.escape;
 const isWeb = texts.isWeb;
 const word = words.word;
-// A longer request is none of a source. Its page has no links that repeat it, which would be most of its bytes and
-// time.
+// No source sends a longer request. Its page has no links that repeat the request, which would take most of the page's
+// bytes and time.
 const MOST_ARGS = 3000;
 const LOGO = /^[\w-]{1,60}\.(?:svg|png|jpg|gif|webp)$/;
 

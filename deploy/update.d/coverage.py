@@ -28,8 +28,8 @@ def last_day_of(year, month):
 
 @functools.lru_cache(maxsize=4096)  # the same dates come again
 def day_in(text, is_last):
-    """The first or the last day of a date; None if a cell has no date. A month or a day that there is not counts as
-    missing."""
+    """The first or the last day of a date; None if a cell has no date. A month or a day that does not exist
+    counts as missing."""
     date = date_in(text)
     if date == NONE:
         return None

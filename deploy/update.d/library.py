@@ -1,4 +1,4 @@
-"""The folder of the library: complete versions, and the links and names by which a killed run leaves no other.
+"""The folder of the library: complete versions, and the links and names that keep them complete if a run is killed.
 
     versions/STAMP/        a version, never changed; STAMP is the time at which it was made, in UTC
     versions/STAMP.new/    a version that is being made; the next run removes it

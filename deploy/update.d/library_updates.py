@@ -1,5 +1,5 @@
 """The updates of several libraries, one after the other, each by a process of its own. So a bad file, a full disk or a
-mistake in these scripts, which one of them meets, is felt by no other. Each leaves a report in its folder."""
+bug in these scripts stops only the library that it concerns. Each leaves a report in its folder."""
 import contextlib, os, signal, subprocess, sys, tempfile
 import children, interrupts, shared_tables
 from libraries import REPORT, SHARED, SITE

@@ -62,6 +62,6 @@ def path_of(files):
     with open(os.path.join(folder, MARKS), encoding="utf-8") as file:
         if not {*sums} <= {line.rstrip("\n") for line in file}:
             return None
-    # What is said of several files names them.
+    # The messages about several files have their names.
     names = [path for path, _ in files] if len(files) > 1 else []
     return os.path.join(folder, hashlib.sha256("\n".join([*sums, *names]).encode()).hexdigest())
