@@ -100,7 +100,8 @@ def hostile_queries(size=7900):
 
 def hostile_lists():
     """Addresses of lists and searches, the long ones of about 7,900 bytes."""
-    return ["/journals?q=an+of+ti+st+co+la", "/books?q=" + "a+" * 3900, "/journals?q=" + "%C3%A9t+" * 1100,
+    return ["/journals?q=an+of+ti+st+co+la", "/journals?q=of&page=40", "/books?q=" + "a+" * 3900,
+            "/journals?q=" + "%C3%A9t+" * 1100,
             "/journals?q=" + "2901-0012+" * 780, "/journals/a/1", "/books", "/find", "/cite?title=" + "x+" * 3900,
             "/find.ris?" + "rft.au=%C3%A9&" * 560]
 

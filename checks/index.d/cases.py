@@ -173,7 +173,7 @@ def test_list():
         expect("a form for the halving", list(check_form(found)), [])
     with Index({"one": table(*rows)}, has_list=False) as found:
         expect("without the list", (found.names(), found.bytes("format"), len(found.of_key("=zoo"))),
-               (["format", "keys"], b"2 no list\n", 1))
+               (["format", "keys"], b"3 no list\n", 1))
 
 
 def test_limits():

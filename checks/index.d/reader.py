@@ -63,7 +63,11 @@ class Index:
     def letters(self, kind):
         """The first line of the letters, and the others by letter, as numbers."""
         lines = self.lines("list", kind, "letters")
-        return list(map(int, lines[0])), {line[0]: tuple(map(int, line[1:])) for line in lines[1:]}
+        return list(map(int, lines[0])), {line[0]: tuple(map(int, line[1:4])) for line in lines[1:]}
+
+    def starts(self, kind):
+        """The beginnings of the pages, by letter."""
+        return {line[0]: line[4].split(";") for line in self.lines("list", kind, "letters")[1:]}
 
     def page(self, kind, number):
         return self.lines("list", kind, str(number))

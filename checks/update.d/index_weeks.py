@@ -47,7 +47,7 @@ def test_format():
         first = library.current()
         with open(library.path("current", "index", "format")) as file:
             text = file.read()
-        expect("the format", text, "2 list\n")
+        expect("the format", text, "3 list\n")
         with open(library.path("current", "index", "format"), "w") as file:
             file.write("0 list\n")
         status, printed = library.run()

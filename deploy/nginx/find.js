@@ -12,6 +12,7 @@ import menu from './menu.js';
 import openurl from './openurl.js';
 import program from './program.js';
 import query from './query.js';
+import search from './search.js';
 import texts from './text.js';
 
 // Asks the program, unless the query is empty, and gives the query and the groups to `reply`.
@@ -91,9 +92,10 @@ async function list(r) {
     if (!site.hasList || found === null) return exchange.sendFault(r, 404, site);
     const kind = found[1] === 'books' ? 'b' : 'j';
     if (found[2] !== undefined) return letter(r, kind, found[2], Number(found[3]), site);
-    const text = texts.clean(new query.Query(exchange.argsOf(r)).first('q').slice(0, MOST_SOUGHT));
+    const q = new query.Query(exchange.argsOf(r));
+    const text = texts.clean(q.first('q').slice(0, MOST_SOUGHT));
     if (text !== '') {
-        const titles = await index.search(r, kind, text);
+        const titles = await search.search(r, kind, text, lists.pageIn(q.first('page')));
         return exchange.sendPage(r, 200, lists.searchOf(kind, text, titles, site), site);
     }
     const letters = await index.lettersOf(r, kind);

@@ -4,7 +4,6 @@
 import crypto from 'crypto';
 import numbers from './numbers.js';
 import texts from './text.js';
-import titles from './titles.js';
 
 const is = texts.is;
 const NONE = [];
@@ -14,9 +13,6 @@ const MOST_LINES = 50;      // of one key
 const READ_BYTES = 512;
 const PROBED_BYTES = 256;
 const PAGE = 50;            // titles of a page of the list
-const MOST_FEW = 64;        // places in the lines of a beginning that is in few titles
-const MOST_WORDS = 6;
-const MOST_CHECKS = 2000;   // places of the rarest word
 
 function hashed(text, digits) { return crypto.createHash('md5').update(text).digest('hex').slice(0, digits); }
 
@@ -130,111 +126,27 @@ async function isThere(r) {
 }
 
 // ---------------------------------------------------------------- The list
-// The letters of the list of a kind, with the number of titles and that of the digits of the names of words.
+// The letters of the list of a kind, with the number of titles and that of the digits of the names of words. An index
+// of an earlier version has no `starts`, the beginnings of the pages of a letter.
 async function lettersOf(r, kind) {
     const text = await linesOf(r, 'list/' + kind + '/letters');
     const lines = text.map((line) => line.split('\t'));
     if (lines.length === 0) return null;
     return {
         count: Number(lines[0][0]), digits: Number(lines[0][1]),
-        letters: lines.slice(1).map((it) => ({ letter: it[0], page: Number(it[1]), pages: Number(it[2]) }))
+        letters: lines.slice(1).map((it) => {
+            return { letter: it[0], page: Number(it[1]), pages: Number(it[2]), starts: it[4] || '' };
+        })
     };
 }
+function linesOfPage(r, kind, number) { return linesOf(r, 'list/' + kind + '/' + number); }
 async function pageOf(r, kind, number) {
-    const lines = await linesOf(r, 'list/' + kind + '/' + number);
+    const lines = await linesOfPage(r, kind, number);
     return lines.map((line) => titleOf(kind, line.split('\t')));
 }
 
-// ---------------------------------------------------------------- Words
-// A set of places: `list`, `bytes` of four a place, or `bits`. Those of all words that begin so.
-function setOf(bytes, length, cells) {
-    const count = Number(cells[1]);
-    const at = length + Number(cells[2].slice(1));
-    if (cells[2].charAt(0) === '@') return { count: count, bytes: bytes.slice(at, at + 4 * count) };
-    return { count: count, bits: bytes.slice(at) };
-}
-async function placesOf(r, kind, word, digits) {
-    const beginning = word.slice(0, 3);
-    const bytes = await bytesOf(r, 'words/' + kind + '/' + hashed(beginning, digits));
-    if (bytes.length === 0) return { count: 0, list: NONE };
-    const length = Number(bytes.slice(0, bytes.indexOf('\n')).toString());
-    const lines = linesWith(bytes.slice(0, length), word.length < 3 ? word + '\t' : word, MOST_FEW);
-    if (lines.length > 0 && is(/^[@#]/, lines[0][2])) return setOf(bytes, length, lines[0]);
-    const places = Object.create(null);
-    lines.forEach((cells) => { cells[2].split(' ').forEach((place) => { places[place] = true; }); });
-    const list = Object.keys(places).map(Number).sort((a, b) => a - b);
-    return { count: list.length, list: list, has: places };
-}
-function hasPlace(set, place) {
-    if (set.list) return set.has !== undefined && set.has[place] === true;
-    if (set.bits) return ((set.bits[place >> 3] || 0) >> (7 - (place & 7)) & 1) === 1;
-    let low = 0;
-    let high = set.count - 1;
-    while (low <= high) {
-        const middle = (low + high) >> 1;
-        const found = set.bytes.readUInt32BE(middle * 4);
-        if (found === place) return true;
-        if (found < place) low = middle + 1; else high = middle - 1;
-    }
-    return false;
-}
-// The first places of a set, ascending.
-function firstPlaces(set, most) {
-    if (set.list) return set.list.slice(0, most);
-    const found = [];
-    if (set.bytes) {
-        for (let i = 0; i < set.count && i < most; i++) found.push(set.bytes.readUInt32BE(i * 4));
-        return found;
-    }
-    for (let i = 0; i < set.bits.length && found.length < most && found.length < set.count; i++) {
-        const byte = set.bits[i];
-        for (let bit = 0; byte !== 0 && bit < 8; bit++) {
-            if (byte >> (7 - bit) & 1 && found.length < set.count) found.push(i * 8 + bit);
-        }
-    }
-    return found.slice(0, most);
-}
-
-// The titles at these places of the list.
-async function titlesAt(r, kind, places) {
-    const pages = [];
-    places.forEach((place) => {
-        const page = Math.floor(place / PAGE);
-        if (pages.indexOf(page) < 0) pages.push(page);
-    });
-    const lines = await Promise.all(pages.map((page) => linesOf(r, 'list/' + kind + '/' + page)));
-    return places.map((place) => lines[pages.indexOf(Math.floor(place / PAGE))][place % PAGE]).filter(Boolean)
-        .map((line) => titleOf(kind, line.split('\t')));
-}
-
-// At most fifty titles that have all words of a text, or a number in it, and how many there are: `isMore` if only the
-// first of the rarest word's were looked at. Null if the text has neither.
-async function search(r, kind, text) {
-    const found = numbers.numbersIn([text], numbers.ISSN, 2).concat(numbers.numbersIn([text], numbers.ISBN, 2));
-    if (found.length > 0) {
-        const all = await titlesOfAll(r, found);
-        const list = all.filter((it) => it.kind === kind);
-        return { titles: list, count: list.length, isMore: false };
-    }
-    const words = titles.wordsOf(text).filter((word) => word.length > 1);
-    const sought = words.filter((word, i) => words.indexOf(word) === i).slice(0, MOST_WORDS);
-    if (sought.length === 0) return null;
-    const letters = await lettersOf(r, kind);
-    if (letters === null) return { titles: NONE, count: 0, isMore: false };
-    const sets = await Promise.all(sought.map((word) => placesOf(r, kind, word, letters.digits)));
-    return joined(r, kind, sets);
-}
-async function joined(r, kind, sets) {
-    const rare = sets.reduce((a, b) => a.count <= b.count ? a : b);
-    const others = sets.filter((set) => set !== rare);
-    const checked = firstPlaces(rare, others.length === 0 ? PAGE : MOST_CHECKS);
-    const places = checked.filter((place) => others.every((set) => hasPlace(set, place)));
-    const list = await titlesAt(r, kind, places.slice(0, PAGE));
-    if (others.length === 0) return { titles: list, count: rare.count, isMore: false };
-    return { titles: list, count: places.length, isMore: rare.count > checked.length };
-}
-
 export default {
-    linesWith: linesWith, targetOf: targetOf, rowOf: rowOf, titlesOf: titlesOf, titlesOfAll: titlesOfAll,
-    distinct: distinct, isThere: isThere, lettersOf: lettersOf, pageOf: pageOf, search: search
+    PAGE: PAGE, hashed: hashed, bytesOf: bytesOf, linesWith: linesWith, targetOf: targetOf, rowOf: rowOf,
+    titleOf: titleOf, titlesOf: titlesOf, titlesOfAll: titlesOfAll, distinct: distinct, isThere: isThere,
+    lettersOf: lettersOf, linesOfPage: linesOfPage, pageOf: pageOf
 };

@@ -14,6 +14,7 @@ const PATHS = { j: '/journals', b: '/books' };
 const NAMES = { j: 'journals', b: 'books' };
 const MOST_NUMBERS = 4;
 const MOST_ROWS = 12;
+const MOST_TITLES = index.PAGE;
 
 // The link of a title: its number, which comes first to count before others, and the request's own pairs.
 function addressOf(it, args, site) {
@@ -61,15 +62,46 @@ function navigation(name, items, site) {
     return ['<nav aria-label="' + escape(word(site, name)) + '">', '<ul class="letters">'].concat(items,
         ['</ul>', '</nav>']);
 }
+// A link of such a row. What is shown has none; `current` says what it is, as in aria-current.
+function itemHtml(address, name, current) {
+    const text = current ? '<strong aria-current="' + current + '">' + escape(name) + '</strong>'
+        : pages.anchor(address, name);
+    return '<li>' + text + '</li>';
+}
+// The links to the pages before and after one of several.
+function nearHtml(page, count, addressOf, site) {
+    const near = [[page - 1, 'before'], [page + 1, 'after']].filter((one) => one[0] >= 1 && one[0] <= count);
+    return navigation('nearPages', near.map((one) => itemHtml(addressOf(one[0]), word(site, one[1]))), site);
+}
+// The pages that a row of links names: of ten parts the first page each; of the part with the shown page, the first
+// ones of its five parts; and so on, down to the pages beside it. So any of 200 pages is at most three links away.
+function namedPages(page, first, last, parts) {
+    const step = Math.ceil((last - first + 1) / parts);
+    let found = [];
+    for (let number = first; number <= last; number += step) {
+        const end = Math.min(number + step - 1, last);
+        const isAround = step > 1 && number <= page && page <= end;
+        found = found.concat(isAround ? namedPages(page, number, end, 5) : [number]);
+    }
+    return found;
+}
+// The pages of a letter by the beginning of each, or by number if the index has no beginnings.
+function pagesHtml(it, page, addressOf, site) {
+    if (it.pages === 1) return [];
+    const starts = it.starts.split(';');
+    return navigation('letterPages', namedPages(page, 1, it.pages, 10).map((number) => {
+        const start = starts[number - 1] || String(number);
+        const name = start.charAt(0).toUpperCase() + start.slice(1);
+        return itemHtml(addressOf(number), name, number === page ? 'page' : '');
+    }), site);
+}
 function letterPath(kind, letter, page) { return PATHS[kind] + '/' + encodeURIComponent(letter) + '/' + page; }
 function letterName(letter, site) { return letter === 'other' ? word(site, 'otherLetters') : letter.toUpperCase(); }
 // The letters as links, the one that is shown without.
 function lettersHtml(kind, found, shown, site) {
     return navigation('letters', found.letters.map((it) => {
-        const name = letterName(it.letter, site);
         const address = pages.addressOf(letterPath(kind, it.letter, 1), '', site);
-        return it.letter === shown ? '<li><strong>' + escape(name) + '</strong></li>'
-            : '<li>' + pages.anchor(address, name) + '</li>';
+        return itemHtml(address, letterName(it.letter, site), it.letter === shown ? 'true' : '');
     }), site);
 }
 function documentOf(kind, title, parts, site) {
@@ -86,28 +118,44 @@ function startOf(kind, found, site) {
 }
 // A page of a letter, and the links to the pages around it.
 function letterOf(kind, found, it, page, titles, site) {
-    const near = [[page - 1, 'before'], [page + 1, 'after']].filter((one) => one[0] >= 1 && one[0] <= it.pages);
-    const links = near.map((one) => {
-        const address = pages.addressOf(letterPath(kind, it.letter, one[0]), '', site);
-        return '<li>' + pages.anchor(address, word(site, one[1])) + '</li>';
-    });
+    const addressOf = (number) => pages.addressOf(letterPath(kind, it.letter, number), '', site);
     const name = letterName(it.letter, site);
     const place = filled(site, 'pageOf', [String(page), String(it.pages)]);
     return documentOf(kind, word(site, NAMES[kind]) + ': ' + name, [searchHtml(kind, '', site),
-        lettersHtml(kind, found, it.letter, site), ['<h2>' + escape(name) + '</h2>'], titlesHtml(titles, site),
-        [paragraph(place)], navigation('nearPages', links, site)], site);
+        lettersHtml(kind, found, it.letter, site), ['<h2>' + escape(name) + '</h2>'],
+        pagesHtml(it, page, addressOf, site), titlesHtml(titles, site), [paragraph(place)],
+        nearHtml(page, it.pages, addressOf, site)], site);
 }
 // What a search has found; `null` if its text has no word.
 function searchOf(kind, text, found, site) {
     const other = kind === 'j' ? 'b' : 'j';
-    const count = found === null ? word(site, 'noWords') : found.count === 0 ? word(site, 'noTitle')
-        : found.isMore ? filled(site, 'moreThan', String(found.count)) : countText(found.count, site);
-    const again = pages.addressOf(PATHS[other], 'q=' + encodeURIComponent(text), site);
+    const args = 'q=' + encodeURIComponent(text);
+    const again = pages.addressOf(PATHS[other], args, site);
     const link = pages.anchor(again, filled(site, 'searchIn', word(site, NAMES[other])));
     const title = word(site, NAMES[kind]) + ': ' + texts.clean(text).slice(0, 100);
+    const near = found === null ? [] : nearHtml(found.page, found.pages, (page) => {
+        return pages.addressOf(PATHS[kind], page === 1 ? args : args + '&page=' + page, site);
+    }, site);
     return documentOf(kind, title, [searchHtml(kind, text, site),
-        ['<p class="nothing" role="status">' + escape(count) + '</p>'],
-        titlesHtml(found === null ? [] : found.titles, site), ['<p>' + link + '</p>']], site);
+        ['<p class="nothing" role="status">' + escape(foundText(found, site)) + '</p>'],
+        titlesHtml(found === null ? [] : found.titles, site), near, ['<p>' + link + '</p>']], site);
 }
+// How many titles a search has found, and which of them its page has.
+function foundText(found, site) {
+    if (found === null) return word(site, 'noWords');
+    const count = found.count;
+    if (count === 0) return word(site, found.isMore ? 'tooFrequent' : 'noTitle');
+    if (found.pages === 1) return found.isMore ? filled(site, 'moreThan', String(count)) : countText(count, site);
+    const last = (found.page - 1) * MOST_TITLES + found.titles.length;
+    const first = last - found.titles.length + 1;
+    const shown = found.page === 1 ? [last] : [first, last];
+    const name = (found.page === 1 ? 'firstTitles' : 'titlesBetween') + (found.isMore ? 'OfMore' : '');
+    const isWhole = !found.isMore && found.pages * MOST_TITLES >= count;
+    return filled(site, name, shown.concat([count]).map(String)) + (isWhole ? '' : ' ' + word(site, 'addWord'));
+}
+// The page of a search that an address names, which is the first one unless it is a number.
+function pageIn(text) { return texts.is(/^[1-9]\d{0,4}$/, text) ? Number(text) : 1; }
 
-export default { titleHtml: titleHtml, rowsHtml: rowsHtml, startOf: startOf, letterOf: letterOf, searchOf: searchOf };
+export default {
+    titleHtml: titleHtml, rowsHtml: rowsHtml, startOf: startOf, letterOf: letterOf, searchOf: searchOf, pageIn: pageIn
+};

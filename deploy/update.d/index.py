@@ -17,7 +17,7 @@ from index_files import digest, write, write_lines
 from title_groups import Titles
 from titles import short_key, written_key, written_out
 
-FORMAT = 2  # another number makes a new version, although its tables are the same
+FORMAT = 3  # another number makes a new version, although its tables are the same
 DIGITS, KEY_DIGITS = 3, 16  # of an MD5 sum: in the names of keys/, and before the end of the key of a title
 MOST_LINES = 50  # of a key
 

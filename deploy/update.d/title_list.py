@@ -3,13 +3,16 @@ Arabic (such as Greek and Cyrillic), and `other`, in this order; a title is unde
 a letter titles are in the order of their keys, so words come before longer words.
 
 The first line of `letters`, after the empty one, has two cells: the number of titles, and the number of digits of the
-names in words/KIND/. Each other line has four: the letter, its first page, its numbers of pages and of titles. A page
-has at most PAGE titles, and each letter begins a new one. A line of a page has the cells TITLE, NUMBERS and COVERAGE.
+names in words/KIND/. Each other line has five: the letter, its first page, its numbers of pages and of titles, and the
+STARTS of its pages, with a semicolon between them. A start is the beginning of the key of the page's first title, long
+enough that no key of the page before has it, but at least two and at most MOST_START characters. A page has at most
+PAGE titles, and each letter begins a new one. A line of a page has the cells TITLE, NUMBERS and COVERAGE.
 """
 import os
 from index_files import write_lines
 
 PAGE = 50  # titles
+MOST_START = 32  # characters of the beginning of a page
 DIGITS_LETTER, OTHER = "0-9", "other"
 LAST_ALPHABET = "\u06ff"  # those after Arabic have no letters of their own here
 
@@ -52,10 +55,22 @@ def write_pages(folder, pages, count, digits):
     letters = {}
     for number, (letter, titles) in enumerate(pages):
         write_lines(folder, str(number), [line_of(title).encode() for title in titles])
-        letters.setdefault(letter, []).append((number, len(titles)))
-    lines = [f"{letter}\t{numbers[0][0]}\t{len(numbers)}\t{sum(size for _, size in numbers)}"
-             for letter, numbers in letters.items()]
+        letters.setdefault(letter, []).append((number, titles))
+    lines = [f"{letter}\t{its[0][0]}\t{len(its)}\t{sum(len(titles) for _, titles in its)}\t{starts_of(its)}"
+             for letter, its in letters.items()]
     write_lines(folder, "letters", [line.encode() for line in (f"{count}\t{digits}", *lines)])
+
+
+def starts_of(pages):
+    """The beginnings of the pages of a letter."""
+    starts, before = [], ""
+    for _, titles in pages:
+        key = titles[0].key
+        length = max(2, len(os.path.commonprefix([before, key])) + 1)
+        length += key[length - 1:length] == " "
+        starts.append(key[:min(length, MOST_START)].rstrip())
+        before = titles[-1].key
+    return ";".join(starts)
 
 
 def line_of(title):
