@@ -188,14 +188,14 @@ def test_answers():
     cases = {
         "while :; do echo endless; done": "sh: it prints more than 65,536 bytes",
         "exec sleep 1000": "sh: no end after 1 seconds",
-        "printf 'mine\\033]0;mine\\007\\n\\033[2J' >&2; exit 3": "mine\\x1b]0;mine\\x07\n  \\x1b[2J",
+        "printf 'mine\\033]0;mine\\007\\n\\033[2J' >&2; exit 3": "mine?]0;mine?\n  ?[2J",
         "exit 7": "sh: status 7",
         "head -c 100000 /dev/zero | tr '\\0' x; exit 1": "sh: it prints more than 65,536 bytes",
         "head -c 1000 /dev/zero | tr '\\0' x; exit 1": f"{'x' * 500}..",
     }
     for command, reason in cases.items():
         expect(command, said_by(command), [f"other: {reason}"])
-    expect("a mistake of these scripts", said_by(ArithmeticError("a\x1bb")), ["other: ArithmeticError: a\\x1bb"])
+    expect("a mistake of these scripts", said_by(ArithmeticError("a\x1bb")), ["other: ArithmeticError: a?b"])
     silent = Other("true")
     silent.ask()
     expect("a machine that answers nothing has nothing", (silent.delivery, silent.stamps), ("", {}))

@@ -1,4 +1,5 @@
 """Tables and the lines that the index has of them, by hand."""
+import word_sets
 from counting import expect
 from reader import COLUMNS, Index, check_form, table
 
@@ -206,5 +207,36 @@ def test_large_files():
         expect(f"the text of a file of words ends at its limit: {longest}", (4 << 20) - 80 < longest <= (4 << 20) + 8)
 
 
-TESTS = [test_titles, test_numbers, test_rows, test_cells, test_related, test_short_keys, test_umlauts, test_list,
+class Titles:
+    """A title as the sets of words need it."""
+
+    def __init__(self, key):
+        self.key, self.name, self.article = key, key, ""
+
+
+def random_titles(count, words):
+    """Pages of titles of which each word occurs once."""
+    titles = [Titles(" ".join(f"w{number}x{place}" for place in range(words))) for number in range(count)]
+    return [("w", titles[start:start + 50]) for start in range(0, count, 50)]
+
+
+def words_of(pages):
+    return sum(map(len, word_sets.places_by_head(pages).values()))
+
+
+def test_random_words():
+    """Titles of random words have few more words in the index than honest ones, and all words of honest ones."""
+    expect("words of a title", len(word_sets.words_in(Titles(" ".join(f"x{it}" for it in range(82))))), 40)
+    expect("words of an honest title", len(word_sets.words_in(Titles(" ".join(f"x{it}" for it in range(40))))), 40)
+    # 2,500 titles of 40 words bring 100,000; each further one brings four.
+    for count, expected in ((2_500, 100_000), (2_501, 100_004), (5_000, 110_000)):
+        expect(f"words of {count} titles", words_of(random_titles(count, 82)), expected)
+    known = random_titles(2_600, 40)
+    known[-1][1].append(Titles("w0x0 w1x1 w2x2 w3x3 w4x4 w5x5"))
+    places = word_sets.places_by_head(known)
+    expect("known words are no new ones", [len(places[word[:3]][word]) for word in known[-1][1][-1].key.split(" ")],
+           [2] * 6)
+
+
+TESTS = [test_random_words, test_titles, test_numbers, test_rows, test_cells, test_related, test_short_keys, test_umlauts, test_list,
          test_limits, test_large_files]

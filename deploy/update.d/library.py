@@ -10,7 +10,7 @@
 """
 import ctypes, datetime, fcntl, os, re, shutil
 from outcome import DEVICE, Failure
-from printed_text import safe
+from shown_text import line_of
 
 STAMP = "%Y%m%dT%H%M%SZ"
 VERSION = re.compile(r"versions/([0-9]{8}T[0-9]{6}Z)")
@@ -90,7 +90,7 @@ class Library:
             return None
         stamp = text.removeprefix("versions/")
         if stamp == text or not moment_of(stamp) or not os.path.isdir(self.path(text)):
-            raise Failure(f"{self.path(link)} is a link to {safe(text)}, which is no folder versions/STAMP")
+            raise Failure(f"{self.path(link)} is a link to {line_of(text)}, which is no folder versions/STAMP")
         return stamp
 
     def current(self):

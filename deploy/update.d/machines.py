@@ -22,11 +22,11 @@ from front_door import FrontDoor, Site
 from libraries import SHARED, SITE, Libraries
 from library import Library, is_stamp, stamp_after, sync
 from outcome import ALL_NEW, KEPT, Failure
-from printed_text import safe
 from probing import Probes, load_probe
 from processes import Processes
 from run import Run, report
 from served import names_in
+from shown_text import line_of
 
 # The key is named, since the units may not read the home of root.
 SHELL = ("ssh -i /etc/openlink/ssh/key -o UserKnownHostsFile=/etc/openlink/ssh/known_hosts -o BatchMode=yes"
@@ -87,7 +87,7 @@ def run(words, seconds):
         raise Failure(f"{name}: it prints more than {MOST_BYTES:,} bytes") from fault
     if child.returncode != 0:
         lines = (printed + said).strip().splitlines()[-12:]
-        raise Failure("\n  ".join(map(safe, lines)) or f"{name}: status {child.returncode}")
+        raise Failure("\n  ".join(map(line_of, lines)) or f"{name}: status {child.returncode}")
     return printed
 
 
@@ -290,7 +290,7 @@ def does(machine, step, *what):
     except Failure as failure:
         report(f"{machine.host}: {failure}")
     except Exception as error:
-        report(f"{machine.host}: {type(error).__name__}: {safe(str(error))}")
+        report(f"{machine.host}: {type(error).__name__}: {line_of(str(error))}")
     return False
 
 

@@ -12,6 +12,12 @@ def printable(text):
     return UNSAFE.sub("?", text.replace("\t", " "))
 
 
+def line_of(text, most=500):
+    """A text of another machine or of the disk as one line, cut after so many characters."""
+    text = printable(text.replace("\n", " "))
+    return text if len(text) <= most else f"{text[:most]}.."
+
+
 def cell(text):
     """A cell that no spreadsheet runs as a formula, and that has one line."""
     text = printable(text.replace("\n", " "))

@@ -1,7 +1,9 @@
 """The titles that have a word, for the search: for each word, and for each beginning of many words, the places of its
 titles in the list. A title's place is PAGE times the number of its page, plus the number of lines before it there. Its
 words are those of its key, its article, and its words with umlauts as two letters; words of one character are left out,
-and of a longer word only the first MOST_LETTERS count.
+and of a longer word only the first MOST_LETTERS count. Of a title the first MOST_WORDS count. Once the titles of a kind
+have ANY_NEW different words, each further title brings at most MOST_NEW that none before it has, so that random words
+take no more memory than the titles themselves.
 
 A file is named after the MD5 sum of the first three characters of the word. It begins with a line that has the length
 of its text in bytes, this line included. The lines of the text have the cells WORD, COUNT and PLACES. PLACES is
@@ -15,12 +17,14 @@ To find the titles with words that begin with three characters or more, take the
 its PLACES begin with @ or #, it has them all. Otherwise each line that begins with them has some, and all of them
 together have at most FEW. Beginnings of two characters have lines of their own, always with @ or #, in the file named
 after the MD5 sum of these two."""
-import array, collections, os, sys
+import array, collections, itertools, os, sys
 from index_files import MOST_BYTES, digest, text_of, write
 from title_list import PAGE
 from titles import written_key
 
 MOST_LETTERS = 60  # of a word
+MOST_WORDS = 40  # of a title
+ANY_NEW, MOST_NEW = 100_000, 4  # different words of all titles, and those that a further title may bring
 FEW = 64  # places that words which begin alike have in all without a line for their beginning
 HEAD = 3  # letters that words in one file have in common
 
@@ -32,7 +36,8 @@ def digits_for(titles):
 
 def words_in(title):
     words = [*title.key.split(" "), title.article, *written_key(title.name).split(" ")]
-    return {word[:MOST_LETTERS] for word in words if len(word) > 1}
+    found = dict.fromkeys(word[:MOST_LETTERS] for word in words if len(word) > 1)
+    return list(itertools.islice(found, MOST_WORDS))
 
 
 def places_by_head(pages):
@@ -40,8 +45,11 @@ def places_by_head(pages):
     found = collections.defaultdict(lambda: array.array("I"))
     for number, (_, titles) in enumerate(pages):
         for place, title in enumerate(titles, PAGE * number):
+            new = 0  # words that only this title has yet
             for word in words_in(title):
-                found[word].append(place)
+                new += word not in found
+                if word in found or len(found) < ANY_NEW or new <= MOST_NEW:
+                    found[word].append(place)
     heads = collections.defaultdict(dict)
     for word, places in found.items():
         heads[word[:HEAD]][word] = places
@@ -61,12 +69,9 @@ def lines_of(words, places):
         return
     start = os.path.commonprefix([words[0], words[-1]])
     yield start, union([places[word] for word in words]), True
-    rest = [word for word in words if word != start]
-    while rest:
-        letter = rest[0][len(start)]
-        same = [word for word in rest if word[len(start)] == letter]
-        yield from lines_of(same, places)
-        rest = rest[len(same):]
+    rest = (word for word in words if word != start)
+    for _, same in itertools.groupby(rest, lambda word: word[len(start)]):
+        yield from lines_of(list(same), places)
 
 
 def all_lines(pages):
