@@ -2,7 +2,7 @@
 import glob, json, os, re, shutil, socket, subprocess, sys, tempfile, time
 from urllib.parse import quote
 from running import FOR_EVERY_REQUEST, Site, free_ports
-import cut_short, divided_tables, finding, lookups, operating, restarts, speed, staff, two_versions
+import cut_short, divided_tables, finding, lookups, operating, restarts, slow_processes, speed, staff, two_versions
 import targets_file as targets
 from patience import patience, wait_until
 
@@ -523,6 +523,7 @@ def test_restarts(site):
 def test_cut_short(site):
     cut_short.test(site, expect)  # all processes have ended
     two_versions.test(site, expect)
+    slow_processes.test(site, expect)
 
 
 def probe(*words):
