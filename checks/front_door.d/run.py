@@ -2,7 +2,8 @@
 import glob, json, os, re, shutil, socket, subprocess, sys, tempfile, time
 from urllib.parse import quote
 from running import FOR_EVERY_REQUEST, Site, free_ports
-import cut_short, divided_tables, finding, lookups, operating, restarts, slow_processes, speed, staff, two_versions
+import cut_short, divided_tables, finding, lookups, operating, privacy, restarts, slow_processes, speed, staff
+import two_versions
 import targets_file as targets
 from patience import patience, wait_until
 
@@ -622,6 +623,7 @@ def main():
     finally:
         site.stop()
     divided_tables.test(expect)
+    privacy.test(expect)
     with tempfile.TemporaryDirectory() as folder:
         test_probes(folder)
     if counts["failures"] == 0:

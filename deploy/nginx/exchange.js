@@ -76,6 +76,8 @@ function guarded(handler) {
         try {
             await handler(r);
         } catch (e) {
+            // The reader has gone. Another reply would write the request to the error log.
+            if (String(e.message) === 'failed to send response') return;
             const message = texts.clean(String(e.message));
             r.variables.openlink_found = 'exception:' + texts.replaced(message, /[^\w.]/g, '_').slice(0, 60);
             const plain = { languages: own(targetsOf(r), 'languages') };
