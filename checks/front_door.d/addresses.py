@@ -1,5 +1,5 @@
-"""What a reader, a crawler or a browser gets at the addresses around /find: the site's root, an unknown address, an icon,
-robots.txt, security.txt; and what is said where the program does not reply."""
+"""What a reader, a crawler or a browser gets at the addresses around /find: the site's root, an unknown address, an
+icon, robots.txt, security.txt; and what is said where the program does not reply."""
 import datetime, re, subprocess
 from patience import wait_until
 

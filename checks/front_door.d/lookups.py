@@ -261,8 +261,8 @@ def test_faults(it):
 
 
 def test_endless(it):
-    """A reply that does not end, whatever it says of its length: the page comes, nginx ends the connection, and the disk
-    has less than a megabyte of it."""
+    """A reply that does not end, whatever it says of its length: the page comes, nginx ends the connection, and the
+    disk has less than a megabyte of it."""
     for name in ("endless", "dripping", *(f"says{length}" for length in FALSE_LENGTHS)):
         before = bytes_in(it.site.path("lookups")) + bytes_in(it.site.path("temp"))
         reply = it.site.get(f"/find?id=doi:10.5555/{name}")

@@ -26,7 +26,8 @@ DAY = {"cache-control": "public, max-age=86400"}
 PAGES = {"allow": "GET, HEAD"}
 FORMS = {"allow": "GET, HEAD, POST"}
 ADDRESSES = [  # method, address, status, and headers that differ
-    ("GET", "/", 301, {}), ("GET", f"/find?{ARTICLE}", 200, {}), ("GET", "/find/", 301, {}), ("POST", "/find/", 308, {}),
+    ("GET", "/", 301, {}), ("GET", f"/find?{ARTICLE}", 200, {}), ("GET", "/find/", 301, {}),
+    ("POST", "/find/", 308, {}),
     ("GET", f"/find.json?{ARTICLE}", 200, DATA), ("GET", f"/find.ris?{ARTICLE}", 200, {}), ("GET", "/cite", 200, {}),
     ("GET", "/go?issn=2943-081X&date=2012", 302, {}), ("GET", "/go", 200, {}), ("GET", "/journals", 200, {}),
     ("GET", "/books?q=tidal", 200, {}), ("GET", "/openurl", 200, {}), ("GET", "/openurl.txt", 200, {}),
@@ -36,10 +37,11 @@ ADDRESSES = [  # method, address, status, and headers that differ
     ("GET", "/export/kbart.txt", 404, {}), ("GET", "/none", 404, {}), ("GET", "/journals/none/1", 404, {}),
     ("GET", "/find?" + "a" * 9000, 414, {}), ("GET", "/find.json?a=" + "%" * 4000, 200, DATA),
     ("POST", "/go", 405, PAGES), ("DELETE", "/journals", 405, PAGES), ("POST", "/openurl.txt", 405, PAGES),
-    ("PUT", "/robots.txt", 405, {**PAGES, **DAY}), ("POST", "/export/kbart.txt", 405, PAGES), ("PUT", "/find", 405, FORMS),
+    ("PUT", "/robots.txt", 405, {**PAGES, **DAY}), ("POST", "/export/kbart.txt", 405, PAGES),
+    ("PUT", "/find", 405, FORMS),
     ("DELETE", "/find.json?a", 405, {**DATA, **FORMS}), ("PATCH", "/", 405, FORMS), ("TRACE", "/find?a", 405, FORMS),
-    ("TRACE", "/cite", 405, PAGES), ("OPTIONS", "/cite", 405, PAGES), ("POST", "/menu.css", 405,
-                                                                       {**PAGES, "cache-control": "public, max-age=3600"}),
+    ("TRACE", "/cite", 405, PAGES), ("OPTIONS", "/cite", 405, PAGES),
+    ("POST", "/menu.css", 405, {**PAGES, "cache-control": "public, max-age=3600"}),
 ]
 STAFF_ADDRESSES = [
     ("GET", f"/why?{ARTICLE}", 200, {}), ("GET", "/health", 200, {}), ("GET", f"/report.txt?{ARTICLE}", 200, {}),

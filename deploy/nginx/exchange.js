@@ -33,7 +33,8 @@ function siteOf(r) {
 }
 function hasLanguage(args) { return args.indexOf('lang=') >= 0 && is(LANGUAGE, args); }
 function withoutLanguage(args) { return hasLanguage(args) ? args.replace(LANGUAGE, '').replace(/^&/, '') : args; }
-// The type has no charset: nginx adds it, and njs 0.7.9 would take both together for a type, which nginx does not compress.
+// The type has no charset: nginx adds it. njs 0.7.9 would take both together for the type, which nginx does not
+// compress.
 function send(r, status, type, text) {
     r.headersOut['Content-Type'] = type;
     r.return(status, text);

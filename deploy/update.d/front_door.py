@@ -1,5 +1,5 @@
-"""A front door of its own for probes: nginx with the module and the texts that the site has, which asks the processes as
-that of readers does, on free ports of this machine. It has a door for each list of processes."""
+"""A front door of its own for probes: nginx with the module and the texts that the site has, which asks the processes
+as that of readers does, on free ports of this machine. It has a door for each list of processes."""
 import json, os, re, shutil, subprocess, time
 import children
 from outcome import DEVICE, Failure
