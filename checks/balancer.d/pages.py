@@ -49,7 +49,7 @@ def test_page(machine):
     put(machine, "drain", None)
     expect("not for readers", machine.site.get("/health").status, 404)
     expect("another path", machine.site.get("/find", port=machine.site.balancer_port).status, 404)
-    expect("another method", machine.site.get("/health", "POST", b"", port=machine.site.balancer_port).status, 403)
+    expect("another method", machine.site.get("/health", "POST", b"", port=machine.site.balancer_port).status, 405)
 
 
 def add_second(machine, port):

@@ -1,8 +1,8 @@
 """Tests of the look-up of a DOI or PubMed number that comes alone. A server on loopback plays Crossref and NCBI over
 TLS in their documented forms: as they are, slow, byte by byte, huge, broken, hostile and down."""
-import collections, concurrent.futures, http.client, http.server, json, os, re, ssl, stat, subprocess, threading
+import collections, concurrent.futures, contextlib, http.client, http.server, json, os, re, ssl, stat, subprocess, threading
 import time, urllib.parse
-from patience import best_of_three, patience
+from patience import best_of_three, patience, wait_until
 from running import free_ports
 
 WORK = {"DOI": "10.5555/good", "type": "journal-article", "title": ["Storm surges &amp; <i>the</i> law"],
@@ -18,6 +18,9 @@ HOSTILE = {"title": ["<script>alert(1)</script>\r\nX-Evil: 1\u202e\u0000"], "vol
            "page": None, "ISSN": "2901-0012", "container-title": [["deep"]], "issued": {"date-parts": [[None]]},
            "author": [None], "type": ["x"], "__proto__": {"rft.issn": ["2901-0012"]}, "constructor": "x",
            "rft.issn": "2901-0012", "x.issn": "2901-0012"}
+DOI_300 = "10.5555/" + "a" * 292
+FALSE_LENGTHS = ("5", "100000", "400000000", "none")  # of replies that do not end
+ENOUGH = 20_000_000  # bytes of a reply, after which the stand-in does not wait any longer that nginx ends it
 READERS = 60  # at once, for the limits
 FULL_TEXT = "tidal-press aggregate-net catalogue"
 ALONE = "so we do not know whether the library has the full text."
@@ -43,8 +46,22 @@ def replies():
         "10.5555/large": (200, message({**WORK, "reference": [{"unstructured": "x" * 200}] * 3000}), ""),
         "10.5555/hostile": (200, message(HOSTILE), ""), "10.5555/slow": (200, message(WORK), "slow"),
         "10.5555/drip": (200, message(WORK), "drip"),
+        "10.5555/over": (200, message({**WORK, "abstract": "x" * 1100000}), ""),
+        DOI_300: (200, message(WORK), ""), f"{DOI_300}a": (200, message(WORK), ""),
+        "10.5555/endless": (200, "", "endless"), "10.5555/dripping": (200, "", "dripping"),
+        **{f"10.5555/says{length}": (200, length, "endless") for length in FALSE_LENGTHS},
         **{f"10.5555/held{i}": (200, message(WORK), "held") for i in range(READERS)},
     }
+
+
+def bytes_in(folder):
+    """The bytes of all files below a folder. Files may come and go meanwhile."""
+    total = 0
+    for path, _, names in os.walk(folder):
+        for name in names:
+            with contextlib.suppress(FileNotFoundError):
+                total += os.stat(os.path.join(path, name)).st_size
+    return total
 
 
 class Services:
@@ -54,6 +71,7 @@ class Services:
     def __init__(self, folder, numbers=None):
         self.port, self.asked, self.heads = free_ports(1)[0], collections.Counter(), []
         self.held, self.most_held, self.lock = 0, 0, threading.Lock()
+        self.endless, self.folders = {}, [f"{folder}/lookups", f"{folder}/temp"]
         key, certificate = f"{folder}/services.key", f"{folder}/services.pem"
         subprocess.run(["openssl", "req", "-x509", "-newkey", "rsa:2048", "-nodes", "-days", "2", "-keyout", key,
                         "-out", certificate, "-subj", "/CN=api.crossref.org", "-addext",
@@ -75,6 +93,8 @@ class Services:
                     time.sleep(6)
                 if kind == "held":
                     return services.hold(self.connection)
+                if kind in ("endless", "dripping"):
+                    return services.send_endlessly(self, number, text, kind == "dripping")
                 self.send_response(status)
                 self.send_header("Content-Type", "application/json")
                 self.send_header("Content-Length", str(len(body)))
@@ -100,6 +120,28 @@ class Services:
         # Each connection's thread shakes hands, so that one does not wait for another.
         self.server.socket = context.wrap_socket(self.server.socket, server_side=True, do_handshake_on_connect=False)
         threading.Thread(target=self.server.serve_forever, daemon=True).start()
+
+    def send_endlessly(self, it, number, length, is_dripping):
+        """Sends a reply that does not end, with a length or without, until nginx ends the connection. Notes the bytes
+        that were sent, and the most that nginx had on the disk meanwhile."""
+        head = f"HTTP/1.1 200 OK\r\nContent-Type: application/json\r\nContent-Length: {length}\r\n\r\n"
+        piece, sent, disk = b"[" if is_dripping else b"[" * 65536, 0, 0
+        try:
+            it.wfile.write((head if length else head.replace("Content-Length: ", "X-Length: none")).encode())
+            while sent < (ENOUGH if not is_dripping else 400):
+                it.wfile.write(piece)
+                sent += len(piece)
+                disk = max(disk, sum(map(bytes_in, self.folders)))
+                if is_dripping:
+                    it.connection.settimeout(0.1)
+                    try:
+                        it.connection.recv(1)
+                        break  # the end of the connection
+                    except TimeoutError:
+                        pass
+        except OSError:
+            pass
+        self.endless[number] = sent, max(disk, sum(map(bytes_in, self.folders)))
 
     def hold(self, connection):
         """Sends nothing until the other side ends the connection."""
@@ -176,9 +218,11 @@ def test_found(it):
     it.tidy("a page after a look-up", page.text)
     it.expect("asked once, then from the cache", it.services.asked["10.5555/good"], 1)
     before = sum(it.services.asked.values())
-    for query in ("id=doi:10.5555/a&issn=2901-0012", "id=pmid:7&title=x", "rft.atitle=x", "id=pmid:1234567890"):
+    for query in ("id=doi:10.5555/a&issn=2901-0012", "id=pmid:7&title=x", "rft.atitle=x", "id=pmid:1234567890",
+                  f"id=doi:{DOI_300}a"):
         it.data(query)
     it.expect("not asked", sum(it.services.asked.values()), before)
+    it.expect("a DOI of 300 characters", it.targets(f"id=doi:{DOI_300}"), f"{FULL_TEXT} doi-resolver web-search")
 
 
 def test_privacy(it):
@@ -198,7 +242,7 @@ def test_privacy(it):
 
 def test_faults(it):
     """A service that fails in any way leaves the page as it is without one, within three seconds."""
-    names = ("none", "busy", "half", "list", "null", "deep", "huge", "hostile", "slow", "drip")
+    names = ("none", "busy", "half", "list", "null", "deep", "huge", "over", "hostile", "slow", "drip")
 
     def asked(name):
         start = time.monotonic()
@@ -214,6 +258,22 @@ def test_faults(it):
         it.expect(f"{name}: its numbers", "2901-0012" in reply.text, False)
         it.tidy(f"{name}: the page", reply.text)
     it.expect("a summary that is an error", ALONE in it.site.get("/find?id=pmid:99990002").text)
+
+
+def test_endless(it):
+    """A reply that does not end, whatever it says of its length: the page comes, nginx ends the connection, and the
+    disk has less than a megabyte of it."""
+    for name in ("endless", "dripping", *(f"says{length}" for length in FALSE_LENGTHS)):
+        before = bytes_in(it.site.path("lookups")) + bytes_in(it.site.path("temp"))
+        reply = it.site.get(f"/find?id=doi:10.5555/{name}")
+        it.expect(f"{name}: the page", (reply.status, ALONE in reply.text), (200, True))
+        ended = wait_until(lambda: it.services.endless.get(f"10.5555/{name}"))
+        if not ended:
+            it.expect(f"{name}: the end", "none")
+            continue
+        sent, disk = ended
+        it.expect(f"{name}: nginx ends it, after {sent} bytes", sent < (400 if name == "dripping" else ENOUGH))
+        it.expect(f"{name}: {disk - before} bytes on the disk", disk - before < 1_000_000)
 
 
 def test_connection(it):
@@ -277,7 +337,7 @@ def test(site, expect, tidy):
         site.get("/find?id=doi:10.5555/good")
         expect("off: nothing is asked", sum(services.asked.values()), 0)
         configured(site, services, text, services.certificate)
-        for part in (test_found, test_privacy, test_faults, test_connection):
+        for part in (test_found, test_privacy, test_faults, test_endless, test_connection):
             part(it)
         test_limits(it, text)
         configured(site, services, text, "/etc/ssl/certs/ca-certificates.crt")

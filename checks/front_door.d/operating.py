@@ -1,6 +1,6 @@
 """Tests of what an operator switches on in the site: TLS, /why with a password, lists for others, the log of what was
 asked for in vain; and of what monitoring asks."""
-import base64, datetime, http.client, json, os, re, shutil, socket, ssl, subprocess
+import base64, datetime, http.client, json, os, re, shutil, socket, ssl, subprocess, warnings
 from patience import patience, wait_until
 from running import free_ports
 
@@ -104,7 +104,7 @@ def test_health(site, expect):
     site.start_process(site.ports[0])
     site.wait_for(site.ports[0])
     site.write_targets(None)
-    expect("another method", site.get("/health", "POST", b"", FORM, port=site.report_port).status, 403)
+    expect("another method", site.get("/health", "POST", b"", FORM, port=site.report_port).status, 405)
     expect("not for readers", site.get("/health").status, 404)
 
 
@@ -124,7 +124,7 @@ class Peer:
 
     def __init__(self, site, port, certificate):
         self.site, self.port = site, port
-        self.context = ssl.create_default_context(cafile=certificate)
+        self.context, self.certificate = ssl.create_default_context(cafile=certificate), certificate
 
     def get(self, target, method="GET", body=None, headers=None):
         peer = http.client.HTTPSConnection(HOST, self.port, timeout=patience(30), context=self.context)
@@ -148,7 +148,7 @@ def with_tls(site, *names):
     with open(site.path("openlink.conf")) as file:
         text = file.read()
     start = text.index("# TLS: ")
-    tls = re.sub(r"(?m)^    #(?=listen 443|ssl_|if )", "    ", text[start:])
+    tls = re.sub(r"(?m)^    #(?=listen 443|ssl_|if |include \S+/tls\.conf)", "    ", text[start:])
     for name in names:
         tls, count = re.subn(rf"(?m)^    #(?=.*{re.escape(name)})", "    ", tls)
         assert count == 1, f"{count} lines of openlink.conf have {name}"
@@ -185,6 +185,57 @@ def test_tls(site, expect):
         expect(f"{path}", site.get(path).status in (301, 404))
     test_monitoring(site, expect)
     expect("the readers' reports", peer.get("/report.txt")[0], 404)
+
+
+SUITES = [  # of TLS 1.2, and whether the site takes them
+    ("ECDHE-RSA-AES128-GCM-SHA256", True), ("ECDHE-RSA-AES256-GCM-SHA384", True), ("ECDHE-RSA-CHACHA20-POLY1305", True),
+    ("AES128-SHA", False), ("AES256-GCM-SHA384", False), ("ECDHE-RSA-AES128-SHA256", False),
+    ("ECDHE-RSA-AES256-SHA", False), ("DHE-RSA-AES128-SHA", False)]
+REFUSING = re.compile(r"# TLS for a name that .*?\n(#server \{\n.*?\n#\}\n)", re.S)
+
+
+def greeted(peer, version=None, suites=None, name=HOST):
+    """A connection by TLS, ended, or the reason why there is none."""
+    context = ssl.create_default_context(cafile=peer.certificate)
+    context.check_hostname = False
+    if version:
+        context.minimum_version = context.maximum_version = version
+    context.set_ciphers(suites or "ALL:@SECLEVEL=0")
+    try:
+        with socket.create_connection(("127.0.0.1", peer.port), patience(30)) as plain:
+            with context.wrap_socket(plain, server_hostname=name) as connection:
+                connection.sendall(b"GET /robots.txt HTTP/1.0\r\n\r\n")
+                while connection.recv(1000):
+                    pass
+                return connection.version(), connection.session.has_ticket
+    except ssl.SSLError as fault:
+        return fault.reason
+
+
+def test_ciphers(site, expect):
+    """Forward secrecy in every version, no tickets, and no handshake for the name of a stranger."""
+    peer = with_tls(site)
+    for suite, is_taken in SUITES:
+        got = greeted(peer, ssl.TLSVersion.TLSv1_2, f"{suite}:@SECLEVEL=0")
+        expect(f"TLS 1.2 with {suite}", got, ("TLSv1.2", False) if is_taken else "SSLV3_ALERT_HANDSHAKE_FAILURE")
+    expect("TLS 1.3", greeted(peer, ssl.TLSVersion.TLSv1_3)[0], "TLSv1.3")
+    with warnings.catch_warnings():
+        warnings.simplefilter("ignore", DeprecationWarning)
+        for version in (ssl.TLSVersion.TLSv1, ssl.TLSVersion.TLSv1_1):
+            expect(f"{version.name}", greeted(peer, version), "TLSV1_ALERT_PROTOCOL_VERSION")
+    blocks = []
+    for name in ("openlink.conf", "machine.conf"):
+        with open(f"deploy/nginx/{name}") as file:
+            blocks += REFUSING.findall(file.read())
+    expect("both sites have the same server for strangers", (len(blocks), len(set(blocks))), (2, 1))
+    with open(site.path("openlink.conf")) as file:
+        text = file.read()
+    block = REFUSING.search(text)
+    served = re.sub(r"(?m)^#", "", block[1])
+    site.write_site(text.replace(block[1], served))
+    expect("the site's own name", greeted(peer)[0], "TLSv1.3")
+    for name in ("evil.example", None):
+        expect(f"the name {name}", greeted(peer, name=name), "TLSV1_UNRECOGNIZED_NAME")
 
 
 def test_monitoring(site, expect):
@@ -229,8 +280,9 @@ def test_password(site, expect):
     status, headers, text = peer.get(f"/why?{ARTICLE}", headers={**basic("staff:right"), "Accept-Language": "de"})
     expect("with it", (status, "<h2>Abfrage 2</h2>" in text, "rft.issn=2901-0012" in text), (200, True, True))
     expect("its headers once", [len(headers.get_all(name)) for name in (
-        "Content-Security-Policy", "Cache-Control", "Referrer-Policy", "X-Content-Type-Options")], [1] * 4)
-    expect("a form", peer.get("/why", "POST", ARTICLE.encode(), {**FORM, **basic("staff:right")})[0], 403)
+        "Content-Security-Policy", "Cache-Control", "Cross-Origin-Opener-Policy", "Cross-Origin-Resource-Policy",
+        "Permissions-Policy", "Referrer-Policy", "X-Content-Type-Options", "X-Robots-Tag")], [1] * 8)
+    expect("a form", peer.get("/why", "POST", ARTICLE.encode(), {**FORM, **basic("staff:right")})[0], 405)
     for path in ("/report.txt", "/report", "/_report"):
         expect(path, peer.get(path, headers=basic("staff:right"))[0], 404)
     reply = site.get(f"/why?{ARTICLE}", headers=basic("staff:right"))
@@ -263,7 +315,7 @@ def test_exports(site, expect):
                      "/export/kbart.txt/"):
             expect(f"{path} with '{kinds}'", site.get(path).status, 404)
     site.edit((line.format(on), line.format("kbart")))
-    expect("another method", site.get("/export/kbart.txt", "POST", b"", FORM).status, 403)
+    expect("another method", site.get("/export/kbart.txt", "POST", b"", FORM).status, 405)
     expect("its headers", site.get("/export/kbart.txt").headers["X-Content-Type-Options"], "nosniff")
 
 
@@ -311,7 +363,7 @@ def test_address_families(site, expect):
 
 
 def test(site, expect):
-    for part in (test_sources, test_health, test_hosts, test_tls, test_balancer, test_password, test_exports,
+    for part in (test_sources, test_health, test_hosts, test_tls, test_ciphers, test_balancer, test_password, test_exports,
                  test_wanted, test_address_families):
         part(site, expect)
         site.write_configuration()

@@ -110,12 +110,12 @@ def test_one_stopped(site, path, expect):
 def test_none_left(site, query, expect, tidy):
     kill_all(site)
     reply = site.get(f"/find?{query}")
-    expect("no process", (reply.status, "The service is being restarted." in reply.text), (503, True))
+    expect("no process", (reply.status, "The service is not available just now." in reply.text), (503, True))
     tidy("no process", reply.text)
     reply = site.get(f"/find.json?{query}")
     expect("no process, as JSON", (reply.status, json.loads(reply.text)), (503, {"error": 503}))
     reply = site.get(f"/why?{query}", port=site.report_port)
-    is_said = "The service is being restarted." in reply.text
+    is_said = "The service is not available just now." in reply.text
     expect("no process, for staff", (reply.status, reply.text.count("<h2>"), is_said), (503, 2, True))
     tidy("no process, for staff", reply.text)
     expect("no process, passed on", site.get(f"/openurl?{query}").status in (502, 503, 504))

@@ -2,7 +2,8 @@
 import glob, json, os, re, shutil, socket, subprocess, sys, tempfile, time
 from urllib.parse import quote
 from running import FOR_EVERY_REQUEST, Site, free_ports
-import chapters, cut_short, divided_tables, finding, lookups, operating, restarts, speed, staff, two_versions
+import addresses, chapters, cut_short, divided_tables, finding, lookups, operating, privacy, reply_headers, restarts
+import slow_processes, speed, staff, two_versions
 import targets_file as targets
 from patience import patience, wait_until
 
@@ -244,8 +245,8 @@ def test_languages(site):
                              ("\u00e4\u00fc,de".encode().decode("latin-1"), "de")):
         reply = reply_in(header)
         name = f"Accept-Language {(header or '')[:20]}"
-        expect(name, (reply.status, reply.headers["Content-Language"], reply.headers["Vary"]),
-               (200, language, "Accept-Language"))
+        expect(name, (reply.status, reply.headers["Content-Language"], reply.headers.get_all("Vary")),
+               (200, language, ["Accept-Encoding", "Accept-Language"]))
         expect(f"{name}: the page", f'<html lang="{language}" dir="ltr">' in reply.text)
     reply = reply_in("de")
     tidy("a page in German", reply.text)
@@ -262,12 +263,15 @@ def test_languages(site):
     group = json.loads(reply.text)["groups"][1]
     expect("JSON in German", (group["name"], group["label"], group["links"][0]["label"]),
            ("In the library", "In der Bibliothek", "Bibliothekskatalog"))
-    expect("headers of JSON", (reply.headers["Content-Language"], reply.headers["Vary"]), ("de", "Accept-Language"))
-    for target, method, title in (("/none", "GET", "Seite nicht gefunden"), ("/find", "DELETE", "Anfrage abgelehnt")):
+    expect("headers of JSON", (reply.headers["Content-Language"], reply.headers.get_all("Vary")),
+           ("de", ["Accept-Encoding", "Accept-Language"]))
+    for target, method, title in (("/none", "GET", "Seite nicht gefunden"),
+                                  ("/find", "DELETE", "Methode nicht angenommen")):
         reply = site.get(target, method, headers={"Accept-Language": "de"})
         expect(f"a fault in German: {method}",
                (f"<h1>{title}</h1>" in reply.text, reply.headers["Content-Language"],
-                                                    reply.headers["Vary"]), (True, "de", "Accept-Language"))
+                                                    "Accept-Language" in reply.headers.get_all("Vary")),
+               (True, "de", True))
     expect("a redirect has no language", site.get("/go?issn=2943-081X&date=2012").headers["Content-Language"], None)
     for name, reply in zip(("reader", "staff"), hebrew(site)):
         tidy(f"a page from right to left, {name}", reply.text)
@@ -391,11 +395,10 @@ def test_hostile_labels(site):
 
 def test_faults(site):
     form = {"Content-Type": "application/x-www-form-urlencoded"}
-    titles = {403: "Request refused", 404: "Page not found", 405: "Request refused", 413: "Request too long",
-              414: "Request too long"}
-    for target, method, body, status in (("/none", "GET", None, 404), ("/find", "DELETE", None, 403),
-                                         ("/go", "POST", b"", 403),
-                                         ("/openurl", "POST", b"", 403), ("/report", "GET", None, 404),
+    titles = {404: "Page not found", 405: "Method not accepted", 413: "Request too long", 414: "Request too long"}
+    for target, method, body, status in (("/none", "GET", None, 404), ("/find", "DELETE", None, 405),
+                                         ("/go", "POST", b"", 405),
+                                         ("/openurl", "POST", b"", 405), ("/report", "GET", None, 404),
                                          ("/_menu", "GET", None, 404),
                                          ("/report.txt", "GET", None, 404), ("/_report", "GET", None, 404),
                                          ("/fault", "GET", None, 404), ("/find", "TRACE", None, 405),
@@ -411,18 +414,18 @@ def test_faults(site):
     expect("a cookie", site.get("/find", headers={"Cookie": "a" * 7000}).status, 200)
     expect("no request", b"<h1>Request not readable</h1>" in site.send(b"\x01\x02\r\n\r\n"))
     reply = site.get("/find.json", "DELETE")
-    expect("a fault as JSON", (reply.status, json.loads(reply.text)), (403, {"error": 403}))
+    expect("a fault as JSON", (reply.status, json.loads(reply.text)), (405, {"error": 405}))
     for path in ("/find", "/openurl"):
         reply = site.get(f"{path}/?a=b")
         expect(f"{path}/", (reply.status, reply.headers["Location"]), (301, f"{path}?a=b"))
-    for target in ("/find", "/none", f"/find.json?{ARTICLE}"):
-        headers = site.get(target).headers
-        expect(f"headers of {target[:10]}",
-               [headers[name] for name in ("X-Content-Type-Options", "Referrer-Policy", "Cache-Control",
-                                           "X-Robots-Tag")],
-               ["nosniff", "strict-origin", "private, no-store", "noindex, nofollow"])
-        expect(f"content policy of {target[:10]}",
-               headers["Content-Security-Policy"].startswith("default-src 'none'; style-src 'self';"))
+
+
+def test_headers(site):
+    reply_headers.test(site, expect)
+
+
+def test_addresses(site):
+    addresses.test(site, expect, tidy)
 
 
 def test_form(site):
@@ -525,8 +528,10 @@ def test_restarts(site):
 
 
 def test_cut_short(site):
-    cut_short.test(site, expect)  # all processes have ended
+    addresses.test_without_program(site, expect, tidy)  # all processes have ended
+    cut_short.test(site, expect)
     two_versions.test(site, expect)
+    slow_processes.test(site, expect)
 
 
 def probe(*words):
@@ -620,11 +625,13 @@ def main():
         site.start()
         for test in (test_requests, test_page, test_json, test_languages, test_go, test_hostile, test_form,
                      test_passed_on, test_staff, test_operating, test_chapters, test_finding, test_lookups, test_faults,
-                     test_limit, test_rates, test_hostile_labels, test_restarts, test_cut_short, test_logs):
+                     test_headers, test_addresses, test_limit, test_rates, test_hostile_labels, test_restarts,
+                     test_cut_short, test_logs):
             test(site)
     finally:
         site.stop()
     divided_tables.test(expect)
+    privacy.test(expect)
     with tempfile.TemporaryDirectory() as folder:
         test_probes(folder)
     if counts["failures"] == 0:

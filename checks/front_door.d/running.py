@@ -21,7 +21,7 @@ LIBRARY = {
 }
 # Where the front door's own files are installed, and those that the site includes.
 INSTALLED = "/usr/local/share/openlink/nginx/"
-INCLUDED = ("http.conf", "readers.conf", "pages.conf", "why.conf")
+INCLUDED = ("http.conf", "readers.conf", "pages.conf", "processes.conf", "headers.conf", "tls.conf", "why.conf")
 # Targets that answer every request that has what their links need.
 FOR_EVERY_REQUEST = {
     "interlibrary-loan":

@@ -174,12 +174,8 @@ def test_server(staff):
         expect("the server of the reports is found at another address", False)
     except OSError:
         pass
-    for method, status in (("HEAD", 200), ("POST", 403), ("DELETE", 403)):
+    for method, status in (("HEAD", 200), ("POST", 405), ("DELETE", 405)):
         expect(f"{method} /why", staff.get(ARTICLE, method=method).status, status)
-    headers = staff.get(ARTICLE).headers
-    expect("its headers", [headers[name] for name in ("X-Content-Type-Options", "Referrer-Policy", "Cache-Control")],
-           ["nosniff", "no-referrer", "private, no-store"])
-    expect("its content policy", headers["Content-Security-Policy"].startswith("default-src 'none'; style-src 'self';"))
     expect("its style", site.get("/menu.css", port=site.report_port).headers["Content-Type"], "text/css")
     for query in ("", "&&", "rft.isbn="):
         reply = staff.get(query)

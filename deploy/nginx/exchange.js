@@ -1,6 +1,7 @@
 // What a reader sends and gets: the query of an address and a form, and replies in the reader's language. text.js says
 // in which njs it runs.
 import languages from './languages.js';
+import openurl from './openurl.js';
 import pages from './pages.js';
 import texts from './text.js';
 
@@ -32,6 +33,8 @@ function siteOf(r) {
 }
 function hasLanguage(args) { return args.indexOf('lang=') >= 0 && is(LANGUAGE, args); }
 function withoutLanguage(args) { return hasLanguage(args) ? args.replace(LANGUAGE, '').replace(/^&/, '') : args; }
+// The type has no charset: nginx adds it. njs 0.7.9 would take both together for the type, which nginx does not
+// compress.
 function send(r, status, type, text) {
     r.headersOut['Content-Type'] = type;
     r.return(status, text);
@@ -42,16 +45,30 @@ function sendIn(r, site, status, type, text) {
     r.headersOut.Vary = 'Accept-Language';
     send(r, status, type, text);
 }
-function sendPage(r, status, text, site) { sendIn(r, site, status, 'text/html; charset=utf-8', text); }
+function sendPage(r, status, text, site) { sendIn(r, site, status, 'text/html', text); }
 function sendJson(r, status, data, site) { sendIn(r, site, status, 'application/json', JSON.stringify(data) + '\n'); }
 function sendFault(r, status, site) {
     if (is(/^\/find\.json(?:\?|$)/, String(r.variables.request_uri))) sendJson(r, status, { error: status }, site);
-    else sendPage(r, status, pages.faultOf(status, site), site);
+    else sendPage(r, status, pages.faultOf(status, site, status < 500 ? '' : doiOf(r)), site);
+}
+// The DOI of a request, or ''. Its rules may be what has failed.
+function doiOf(r) {
+    try {
+        return openurl.begun(r.uri === '/fault' ? argsOfFault(r) : argsOf(r)).first('x.doi');
+    } catch (e) {
+        return '';
+    }
 }
 
 // The query of the address and of a form, as ASCII. Every other byte is escaped, line ends first of all: a subrequest's
 // arguments reach the program as they are.
 function argsOf(r) { return withoutLanguage(sentBy(r)); }
+// A page of an error has no query of its own.
+function argsOfFault(r) {
+    const address = asciiOf(r.rawVariables.request_uri);
+    const at = address.indexOf('?');
+    return at < 0 ? '' : address.slice(at + 1);
+}
 function sentBy(r) {
     if (r.sent === undefined) r.sent = bytesToText(r);
     return r.sent;
@@ -62,6 +79,9 @@ function bytesToText(r) {
     if (r.method === 'POST' && isForm(String(r.headersIn['Content-Type'])) && r.requestBuffer) {
         bytes = bytes.length > 0 ? Buffer.concat([bytes, Buffer.from('&'), r.requestBuffer]) : r.requestBuffer;
     }
+    return asciiOf(bytes);
+}
+function asciiOf(bytes) {
     const text = bytes.toString();
     if (is(ASCII, text)) return text;
     return bytes.toString('hex').replace(/../g, (hex) => {
@@ -76,6 +96,8 @@ function guarded(handler) {
         try {
             await handler(r);
         } catch (e) {
+            // The reader has gone. Another reply would write the request to the error log.
+            if (String(e.message) === 'failed to send response') return;
             const message = texts.clean(String(e.message));
             r.variables.openlink_found = 'exception:' + texts.replaced(message, /[^\w.]/g, '_').slice(0, 60);
             const plain = { languages: own(targetsOf(r), 'languages') };

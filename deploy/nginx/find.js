@@ -3,6 +3,7 @@
 // in words/. text.js says in which njs it runs.
 import citation from './citation.js';
 import completion from './completion.js';
+import contact from './contact.js';
 import exchange from './exchange.js';
 import form from './form.js';
 import index from './index.js';
@@ -79,7 +80,7 @@ async function ris(r) {
     const q = await completion.queryOf(r);
     r.headersOut['Content-Disposition'] = 'attachment; filename="citation.ris"';
     const text = citation.risOf(q, openurl.kindOf(q), site);
-    exchange.send(r, 200, 'application/x-research-info-systems; charset=utf-8', text);
+    exchange.send(r, 200, 'application/x-research-info-systems', text);
 }
 
 // Journals and books by letter, and those that a search finds.
@@ -115,7 +116,14 @@ async function report(r) {
     const q = await completion.queryOf(r);
     const replies = await program.askAll(r, '/_report', program.queriesOf(q));
     if (replies.status !== 200) return exchange.sendFault(r, program.faultStatus(replies), exchange.siteOf(r));
-    exchange.send(r, 200, 'text/plain; charset=utf-8', program.joinedReports(replies.texts));
+    exchange.send(r, 200, 'text/plain', program.joinedReports(replies.texts));
+}
+
+// Whom to tell of a weakness, if the site says it (RFC 9116). The reply is valid for a part of a year, from today.
+function security(r) {
+    const text = contact.textOf(String(r.variables.openlink_security || ''), Date.now());
+    if (text === '') return exchange.sendFault(r, 404, exchange.siteOf(r));
+    exchange.send(r, 200, 'text/plain', text);
 }
 
 // The page in place of nginx's own text.
@@ -124,5 +132,5 @@ function fault(r) { exchange.sendFault(r, Number(r.variables.status) || 503, exc
 export default {
     find: exchange.guarded(find), json: exchange.guarded(json), go: exchange.guarded(go),
     cite: exchange.guarded(cite), ris: exchange.guarded(ris), list: exchange.guarded(list),
-    report: exchange.guarded(report), fault: exchange.guarded(fault)
+    report: exchange.guarded(report), security: exchange.guarded(security), fault: exchange.guarded(fault)
 };

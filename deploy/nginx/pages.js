@@ -45,7 +45,7 @@ function addLinks(items, site) {
         if (label !== '' && isWeb(url)) items.push('<li>' + anchor(url, label) + '</li>');
     }
 }
-// The same page in the other languages. A page of an error has no address of its own.
+// The same page in the other languages. A page of an error has no address of its own, but it leads to those that have.
 function addLanguages(items, site) {
     if (!site.path || site.languages.length < 2 || site.args.length > MOST_ARGS) return;
     const address = escape(site.path + '?' + (site.args === '' ? '' : site.args + '&') + 'lang=');
@@ -60,8 +60,8 @@ function footerHtml(site) {
     const add = (path, name) => {
         items.push('<li><a href="' + addressOf(path, '', site) + '">' + escape(word(site, name)) + '</a></li>');
     };
-    if (site.path && !site.isForStaff) add('/find', 'form');
-    if (site.path && !site.isForStaff && site.hasList) {
+    if (!site.isForStaff) add('/find', 'form');
+    if (!site.isForStaff && site.hasList) {
         add('/journals', 'journals');
         add('/books', 'books');
     }
@@ -84,12 +84,21 @@ function documentOf(title, heading, body, site) {
     return is(CONTROLS, text) ? texts.replaced(text, CONTROLS, ' ') : text;
 }
 
-const FAULTS = { 403: 'refused', 404: 'missing', 405: 'refused', 413: 'tooLong', 414: 'tooLong', 429: 'busy' };
+const FAULTS = { 403: 'refused', 404: 'missing', 405: 'method', 413: 'tooLong', 414: 'tooLong', 429: 'busy' };
 function faultName(status) { return FAULTS[status] || (status < 500 ? 'unreadable' : 'unavailable'); }
 function faultHtml(status, site) { return notice(faultName(status), site); }
-function faultOf(status, site) {
+// The way to an item that needs no resolver.
+const MOST_DOI = 300;
+function doiHtml(doi, site) {
+    if (!doi || doi.length > MOST_DOI) return [];
+    const link = anchor('https://doi.org/' + encodeURIComponent(doi).split('%2F').join('/'), 'doi.org/' + doi);
+    const text = words.filled(site, 'byDoi', '\t').split('\t').map(escape);
+    return ['<p>' + (text.length > 1 ? text.join(link) : link) + '</p>'];
+}
+// The page of an error, for a request that may have a DOI.
+function faultOf(status, site, doi) {
     const title = word(site, faultName(status) + 'Title');
-    return documentOf(title, title, [faultHtml(status, site)], site);
+    return documentOf(title, title, [faultHtml(status, site)].concat(doiHtml(doi, site)), site);
 }
 
 export default {

@@ -1,5 +1,5 @@
-"""A front door of its own for probes: nginx with the module and the texts that the site has, on free ports of this
-machine. It has a door for each list of processes."""
+"""A front door of its own for probes: nginx with the module and the texts that the site has, which asks the processes
+as that of readers does, on free ports of this machine. It has a door for each list of processes."""
 import json, os, re, shutil, subprocess, time
 import children
 from outcome import DEVICE, Failure
@@ -20,11 +20,6 @@ http {{
     uwsgi_temp_path {folder}/temp;
     scgi_temp_path {folder}/temp;
     large_client_header_buffers 4 8k;
-    subrequest_output_buffer_size 8m;
-    proxy_http_version 1.1;
-    proxy_pass_request_headers off;
-    proxy_set_header Host openlink;
-    proxy_set_header Connection close;
     {module_lines}
 {doors}}}
 """
@@ -33,13 +28,11 @@ DOOR = """    upstream door{port} {{
     server {{
         listen 127.0.0.1:{port};
         {targets_line}
+        set $openlink_upstream door{port};
+        set $openlink_folder "{version}";
+        include "{processes}";
         location = /find.json {{ js_content door.json; }}
         location = /report.txt {{ js_content door.report; }}
-        location /index/ {{ internal; root "{version}"; try_files $uri =204; }}
-        location = /_menu {{ internal; proxy_pass http://door{port}/openurl.txt; }}
-        location = /_report {{ internal; proxy_pass http://door{port}/report; }}
-        location = /_menu_there {{ internal; proxy_pass http://$openlink_process/openurl.txt$is_args$args; }}
-        location = /_report_there {{ internal; proxy_pass http://$openlink_process/report$is_args$args; }}
     }}
 """
 
@@ -59,14 +52,17 @@ def text_with_includes(path):
 
 class Site:
     """What the site of the front door (openlink.conf) and the files that it includes say: the module, its texts and its
-    languages, targets.json, the ports of the processes, the base URL, and whether there is a list of titles. For a
-    library of several, `machine` is the openlink.conf that has the module and the languages of all."""
+    languages, how nginx asks the processes, targets.json, the ports of the processes, the base URL, and whether there
+    is a list of titles. For a library of several, `machine` is the openlink.conf that has the module and the languages
+    of all."""
 
     def __init__(self, path, machine=None):
         self.path, text = path, text_with_includes(path)
         self.ports = [int(port) for port in re.findall(r"^\s*server\s+127\.0\.0\.1:(\d+)", text, re.M)]
         every = text if machine is None else text_with_includes(machine) + "\n" + text
         self.module_lines = re.findall(r"^\s*(js_(?:path|import|preload_object|var)\s[^;]*;)", every, re.M)
+        module = re.search(r"^\s*js_path\s+[\"']?([^;\s\"']+)", every, re.M)
+        self.processes = os.path.join(module[1], "processes.conf") if module else ""
         self.targets = re.findall(rf"^\s*{TARGETS}\s*from\s+([^;\s]+)\s*;", text, re.M)
         words = re.findall(r"^\s*js_preload_object\s+words_(\w+)\s", every, re.M)
         self.languages = [it.partition("__")[0].replace("_", "-") for it in words]
@@ -108,7 +104,7 @@ class FrontDoor:
         self.module = modules_of(self.nginx) if self.nginx else None
         if not self.module:
             raise Failure("probes need nginx with its JavaScript module", DEVICE)
-        if not site.module_lines:
+        if not site.processes:
             raise Failure(f"{site.path}: no front door, and probes need one", DEVICE)
 
     def __enter__(self):
@@ -125,7 +121,8 @@ class FrontDoor:
         port = children.free_port()
         servers = "".join(f"        server 127.0.0.1:{it} max_fails=0;\n" for it in ports)
         line = f'js_preload_object targets from "{targets}";' if targets else ""
-        self.doors.append({"port": port, "servers": servers, "version": version, "targets_line": line})
+        self.doors.append({"port": port, "servers": servers, "version": version, "targets_line": line,
+                           "processes": self.site.processes})
         return f"http://127.0.0.1:{port}"
 
     def start(self):
