@@ -175,7 +175,7 @@ const FIRST_PAGES = [
     ['a shortened range of a supplement', 'rft_val_fmt=x&rft.spage=S12-20', 'rft.spage=S12 rft.epage=S20'],
     ['Roman', 'rft_val_fmt=x&rft.spage=xii-xx', 'rft.spage=xii rft.epage=xx'],
     ['two hyphens', 'rft_val_fmt=x&rft.spage=101--118', 'rft.spage=101 rft.epage=118'],
-    ['pages that follow', 'rft_val_fmt=x&rft.spage=2344+ff.', 'rft.spage=2344'],
+    ['pages that follow', 'rft_val_fmt=x&rft.spage=2344ff.', 'rft.spage=2344'],
     ['several', 'rft_val_fmt=x&rft.spage=101,+105', 'rft.spage=101'],
     ['a German word', 'rft_val_fmt=x&rft.spage=S.+12-15', 'rft.spage=12 rft.epage=15'],
     ['a part of an article number', 'rft_val_fmt=x&rft.spage=045101-1', 'rft.spage=045101'],

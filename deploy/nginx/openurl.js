@@ -29,11 +29,10 @@ const FINDING = [
     title,        // `title` is a book's, a dissertation's or a journal's
     format,       // a request that does not say its format is a book's or a journal's
     markup,       // titles and names have no tags, entities and commands of LaTeX, and are not encoded twice
-    retraction,   // and no remark that the article was retracted
     identifiers   // DOIs, the numbers of arXiv, PubMed, PMC and OCLC, ISSNs and ISBNs are found in any form
 ];
 const WRITING = [
-    retraction,      // a title that was looked up may have the remark too
+    retraction,      // no title has a remark that the article was retracted, and none that was looked up
     isxns,           // ISSNs and ISBNs are found in their values, and written as the standards do
     date,            // a date becomes YEAR-MONTH-DAY, YEAR-MONTH or YEAR; its first and last day are x.from and x.to
     volumes.volume,  // volume and issue are numbers without a word, and a supplement of a volume is its issue
