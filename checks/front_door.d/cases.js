@@ -161,7 +161,41 @@ const PAGES = [
     ['a supplement', 'rft_val_fmt=x&rft.pages=pp.+S12-S20', 'rft.spage=S12'],
     ['Roman', 'rft_val_fmt=x&rft.pages=xii-xx', 'rft.spage=xii'],
     ['one that the request has', 'rft_val_fmt=x&rft.pages=101-118&rft.spage=102', ''],
-    ['none', 'rft_val_fmt=x&rft.pages=n/a', '']
+    ['none', 'rft_val_fmt=x&rft.pages=n/a', ''],
+    ['an electronic supplement', 'rft_val_fmt=x&rft.pages=123.e1-123.e5', 'rft.spage=123.e1'],
+    ['digits of Arabic', 'rft_val_fmt=x&rft.pages=%D9%A1%D9%A2-%D9%A1%D9%A5', 'rft.spage=12 rft.pages=12-15']
+];
+// What sources have in the fields of the first and the last page.
+const FIRST_PAGES = [
+    ['a range', 'rft_val_fmt=x&rft.spage=2344-2355', 'rft.spage=2344 rft.epage=2355'],
+    ['a word', 'rft_val_fmt=x&rft.spage=p.+2344', 'rft.spage=2344'],
+    ['a range with a word', 'spage=pp.+12-15&rft_val_fmt=x', 'rft.spage=12 rft.epage=15'],
+    ['a no-break space and a dash', 'rft_val_fmt=x&rft.spage=pp.%C2%A012%E2%80%9315', 'rft.spage=12 rft.epage=15'],
+    ['a shortened range', 'rft_val_fmt=x&rft.spage=2344-55', 'rft.spage=2344 rft.epage=2355'],
+    ['a shortened range of a supplement', 'rft_val_fmt=x&rft.spage=S12-20', 'rft.spage=S12 rft.epage=S20'],
+    ['Roman', 'rft_val_fmt=x&rft.spage=xii-xx', 'rft.spage=xii rft.epage=xx'],
+    ['two hyphens', 'rft_val_fmt=x&rft.spage=101--118', 'rft.spage=101 rft.epage=118'],
+    ['pages that follow', 'rft_val_fmt=x&rft.spage=2344ff.', 'rft.spage=2344'],
+    ['several', 'rft_val_fmt=x&rft.spage=101,+105', 'rft.spage=101'],
+    ['a German word', 'rft_val_fmt=x&rft.spage=S.+12-15', 'rft.spage=12 rft.epage=15'],
+    ['a part of an article number', 'rft_val_fmt=x&rft.spage=045101-1', 'rft.spage=045101'],
+    ['a last page that the request has', 'rft_val_fmt=x&rft.spage=101-118&rft.epage=119', 'rft.spage=101'],
+    ['the last page of a range', 'rft_val_fmt=x&rft.spage=101&rft.epage=pp.+101-118', 'rft.epage=118'],
+    ['a last page with a word', 'rft_val_fmt=x&rft.spage=101&rft.epage=p.+118', 'rft.epage=118'],
+    ['a supplement', 'rft_val_fmt=x&rft.spage=S12&rft.epage=S20', ''],
+    ['letters', 'rft_val_fmt=x&rft.spage=e1004&rft.epage=e1010', ''],
+    ['Roman, as it should be', 'rft_val_fmt=x&rft.spage=xii&rft.epage=xx', ''],
+    ['a letter after it, and a hyphen', 'rft_val_fmt=x&rft.spage=12A&rft.epage=C-15', ''],
+    ['EBSCO, none', 'rft_val_fmt=x&rft.spage=N.PAG', '']
+];
+const ARTICLES = [
+    ['a number', 'rft_val_fmt=x&rft.artnum=045101', 'rft.spage=045101'],
+    ['Web of Science', 'artnum=ARTN+e0123456&rft_val_fmt=x', 'rft.artnum=ARTN+e0123456 rft.spage=e0123456'],
+    ['words', 'rft_val_fmt=x&rft.artnum=Article+No.+123', 'rft.spage=123'],
+    ['and no page', 'rft_val_fmt=x&rft.artnum=e55&rft.spage=N.PAG', 'rft.spage=e55'],
+    ['and a page', 'rft_val_fmt=x&rft.artnum=e55&rft.spage=101', ''],
+    ['and pages', 'rft_val_fmt=x&rft.artnum=e55&rft.pages=1-12', 'rft.spage=1'],
+    ['other words', 'rft_val_fmt=x&rft.artnum=in+press', '']
 ];
 
 const ENCODINGS = [
@@ -188,14 +222,198 @@ const PREFIXES = [
     ['prefixes alone', 'rft_val_fmt=x&rft_id=info:doi/https://doi.org/', '', 'rft_val_fmt=x']
 ];
 
+// What identifiers have around them.
+const AROUND = [
+    ['a bracket', 'rft_val_fmt=x&rft_id=info:doi/10.5555/xyz123)', 'x.doi=10.5555/xyz123'],
+    ['brackets and a full stop', 'id=10.5555/xyz123].&rft_val_fmt=x', 'x.doi=10.5555/xyz123'
+        + ' rft_id=info:doi/10.5555/xyz123'],
+    ['brackets of its own', 'rft_val_fmt=x&rft_id=info:doi/10.5555/x(12)3', 'x.doi=10.5555/x(12)3'],
+    ['its own at the end, and one more', 'rft_val_fmt=x&rft_id=info:doi/10.5555/x(12)),', 'x.doi=10.5555/x(12)'],
+    ['quotes', 'rft_val_fmt=x&rft_id=%2210.5555/abc%22', 'x.doi=10.5555/abc'],
+    ['an address in angle brackets', 'rft_val_fmt=x&rft_id=%3Chttps://doi.org/10.5555/abc%3E', 'x.doi=10.5555/abc'],
+    ['Wiley, angle brackets of its own',
+        'rft_val_fmt=x&rft_id=info:doi/10.1002/(SICI)1096(1996)99:1%3C1::AID-A1%3E3.0.CO;2-1',
+        'x.doi=10.1002/(SICI)1096(1996)99:1<1::AID-A1>3.0.CO;2-1'],
+    ['brackets around it', 'rft_val_fmt=x&rft_id=(doi:+10.5555/abc)', 'x.doi=10.5555/abc'],
+    ['a proxy', 'rft_val_fmt=x&rft_id=https://doi-org.proxy.example.edu/10.5555/abc', 'x.doi=10.5555/abc'],
+    ['stars', 'rft_val_fmt=x&rft_id=*10.5555/abc**', 'x.doi=10.5555/abc'],
+    ['PubMed, a full stop', 'pmid=PMID:+7.&rft_val_fmt=x', 'x.pmid=7 rft_id=info:pmid/7'],
+    ['PubMed, brackets', 'rft_val_fmt=x&pmid=(7)', 'x.pmid=7 rft_id=info:pmid/7'],
+    ['curly quotes', 'rft_val_fmt=x&rft_id=%E2%80%9C10.5555/abc%E2%80%9D', 'x.doi=10.5555/abc'],
+    ['no-break spaces', 'rft_val_fmt=x&rft_id=doi:%C2%A010.5555/abc%C2%A0', 'x.doi=10.5555/abc'],
+    ['a line end within it', 'rft_val_fmt=x&rft_id=10.5555/%0D%0A++abc', 'x.doi=10.5555/abc'],
+    ['a line end before another one', 'rft_val_fmt=x&rft_id=10.5555/abc%0Apmid:7', 'x.doi=10.5555/abc'],
+    ['a line end in an ISSN', 'rft_val_fmt=x&rft.issn=2901-%0A0012', 'rft.issn=2901-0012 x.issn=2901-0012'],
+    ['line ends in an ISBN', 'rft_val_fmt=x&rft.isbn=978-1-234-%0D%0A56010-2', 'rft.isbn=9781234560102'
+        + ' x.isbn=9781234560102'],
+    ['two ISSNs in two lines', 'rft_val_fmt=x&rft.issn=29010012%0A29080142', 'rft.issn=2901-0012 x.issn=2901-0012'
+        + ' rft.eissn=2908-0142 x.eissn=2908-0142'],
+    ['quotes around a volume and pages',
+        'rft_val_fmt=x&rft.volume=%E2%80%9812%E2%80%99&rft.pages=%E2%80%9C7-9%E2%80%9D',
+        'rft.volume=12 rft.spage=7 rft.pages=7-9'],
+    ['quotes around a date', 'rft_val_fmt=x&rft.date=%E2%80%9C2013-08-01%E2%80%9D',
+        'rft.date=2013-08-01 x.from=20130801 x.to=20130801']
+];
+
+// Identifiers that readers have pasted into the fields of titles, and titles that look like one.
+const PASTED = [
+    ['a DOI', 'title=10.5555/abc', 'rft_val_fmt=J x.doi=10.5555/abc rft_id=info:doi/10.5555/abc', ''],
+    ['an address of a DOI', 'rft_val_fmt=x&rft.jtitle=https://doi.org/10.5555/abc', 'x.doi=10.5555/abc'
+        + ' rft_id=info:doi/10.5555/abc', 'rft_val_fmt=x'],
+    ['a DOI after a title', 'rft_val_fmt=x&atitle=Storm+surges.+doi:10.5555/abc.',
+        'rft.atitle=Storm+surges x.doi=10.5555/abc rft_id=info:doi/10.5555/abc', 'rft_val_fmt=x'],
+    ['PubMed', 'rft_val_fmt=x&jtitle=PMID:+99990001', 'x.pmid=99990001 rft_id=info:pmid/99990001', 'rft_val_fmt=x'],
+    ['PubMed in small letters', 'rft_val_fmt=x&rft.btitle=pmid+99990001', 'x.pmid=99990001 rft_id=info:pmid/99990001',
+        'rft_val_fmt=x'],
+    ['an ISBN', 'title=978-1-234-56010-2', 'rft.isbn=9781234560102 rft_val_fmt=B x.isbn=9781234560102', ''],
+    ['an ISBN with its word after a title', 'btitle=Harbours+(ISBN+978-1-234-56010-2)',
+        'rft.isbn=9781234560102 rft.btitle=Harbours rft_val_fmt=B x.isbn=9781234560102', ''],
+    ['an ISBN of ten digits', 'title=0198534531', 'rft.isbn=9780198534532 rft_val_fmt=B x.isbn=9780198534532', ''],
+    ['both', 'rft_val_fmt=x&rft.atitle=Silt+https://doi.org/10.5555/abc,+PMID+7',
+        'rft.atitle=Silt x.doi=10.5555/abc rft_id=info:doi/10.5555/abc rft_id=info:pmid/7 x.pmid=7', 'rft_val_fmt=x'],
+    ['arXiv', 'rft_val_fmt=x&rft.atitle=arXiv:2101.00001v2', 'rft_id=info:doi/10.48550/arXiv.2101.00001'
+        + ' x.doi=10.48550/arXiv.2101.00001', 'rft_val_fmt=x'],
+    ['a title that is a year', 'title=1984', 'rft.jtitle=1984 rft_val_fmt=J'],
+    ['a title that is a number', 'title=12345678', 'rft.jtitle=12345678 rft_val_fmt=J'],
+    ['ten digits that are no ISBN', 'title=1234567890', 'rft.jtitle=1234567890 rft_val_fmt=J'],
+    ['a DOI that the request has', 'rft_val_fmt=x&rft.atitle=On+10.5555/abc&rft_id=info:doi/10.5555/other',
+        'x.doi=10.5555/other'],
+    ['the article of a notice', 'rft_val_fmt=x&rft.atitle=Erratum:+Silt+(2003,+DOI:+10.5555/abc)', ''],
+    ['a number within a title', 'rft_val_fmt=x&rft.btitle=Area+51+and+9781234560103', '']
+];
+
+const OTHER_ARCHIVES = [
+    ['arXiv', 'id=arXiv:2101.00001v2&rft_val_fmt=x', 'rft_id=info:doi/10.48550/arXiv.2101.00001'
+        + ' x.doi=10.48550/arXiv.2101.00001'],
+    ['arXiv with a class', 'id=arXiv:2101.00001v2+[cs.LG]&rft_val_fmt=x', 'rft_id=info:doi/10.48550/arXiv.2101.00001'
+        + ' x.doi=10.48550/arXiv.2101.00001'],
+    ['an address of arXiv', 'rft_val_fmt=x&rft_id=https://arxiv.org/abs/hep-th/9901001',
+        'x.doi=10.48550/arXiv.hep-th/9901001'],
+    ['a file of arXiv', 'rft_val_fmt=x&rft_id=http://arxiv.org/pdf/2101.00001v3.pdf',
+        'x.doi=10.48550/arXiv.2101.00001'],
+    ['Wikipedia, arXiv', 'rft_val_fmt=x&rft_id=info:arxiv/math.GT/0309136', 'x.doi=10.48550/arXiv.math/0309136'],
+    ['a DOI of arXiv with a version', 'rft_val_fmt=x&rft_id=info:doi/10.48550/arXiv.2101.00001v2',
+        'x.doi=10.48550/arXiv.2101.00001'],
+    ['arXiv and a DOI', 'rft_val_fmt=x&rft_id=info:arxiv/2101.00001&rft_id=info:doi/10.5555/a', 'x.doi=10.5555/a'],
+    ['no number of arXiv', 'rft_val_fmt=x&rft_id=arXiv:21', ''],
+    ['PMC', 'id=PMC1234567&rft_val_fmt=x', 'rft_id=https://pmc.ncbi.nlm.nih.gov/articles/PMC1234567/'],
+    ['PMC in rft_id', 'rft_val_fmt=x&rft_id=PMC1234567', 'rft_id=https://pmc.ncbi.nlm.nih.gov/articles/PMC1234567/'],
+    ['an old address of PMC', 'rft_val_fmt=x&rft_id=https://www.ncbi.nlm.nih.gov/pmc/articles/PMC1234567/',
+        'rft_id=https://pmc.ncbi.nlm.nih.gov/articles/PMC1234567/'],
+    ['Wikipedia, PMC', 'rft_val_fmt=x&rft_id=%2F%2Fwww.ncbi.nlm.nih.gov%2Fpmc%2Farticles%2FPMC1234567%23id-name%3DPMC',
+        'rft_id=https://pmc.ncbi.nlm.nih.gov/articles/PMC1234567/'],
+    ['PMC as it should be', 'rft_val_fmt=x&rft_id=https://pmc.ncbi.nlm.nih.gov/articles/PMC1234567/', ''],
+    ['a key of PMC', 'rft_val_fmt=x&pmcid=1234567', 'rft_id=https://pmc.ncbi.nlm.nih.gov/articles/PMC1234567/']
+];
+
+const DIGITS = [
+    ['Arabic', 'rft_val_fmt=x&rft.volume=%D9%A1%D9%A2&rft.spage=%D9%A7&rft.date=%D9%A2%D9%A0%D9%A1%D9%A3',
+        'rft.date=2013 x.from=20130101 x.to=20131231 rft.volume=12 rft.spage=7'],
+    ['Persian', 'rft_val_fmt=x&rft.volume=%DB%B1%DB%B2&rft.issue=%DB%B3&rft.date=%DB%B1%DB%B3%DB%B9%DB%B2',
+        'rft.date=1392 x.from=13920101 x.to=13921231 rft.volume=12 rft.issue=3'],
+    ['Devanagari', 'rft_val_fmt=x&rft.issue=%E0%A5%A9&rft.date=%E0%A5%A8%E0%A5%A6%E0%A5%A7%E0%A5%A9-%E0%A5%A6%E0%A5%AE',
+        'rft.date=2013-08 x.from=20130801 x.to=20130831 rft.issue=3'],
+    ['full width', 'rft_val_fmt=x&rft.volume=%EF%BC%91%EF%BC%92%EF%BC%88%EF%BC%93%EF%BC%89',
+        'rft.volume=12 rft.issue=3'],
+    ['a year with its word', 'rft_val_fmt=x&rft.date=%EF%BC%92%EF%BC%90%EF%BC%91%EF%BC%93%E5%B9%B4',
+        'rft.date=2013 x.from=20130101 x.to=20131231'],
+    ['Chinese and Japanese words', 'rft_val_fmt=x&rft.volume=%E7%AC%AC%EF%BC%93%E5%8D%B7&rft.issue=2%E5%8F%B7',
+        'rft.volume=3 rft.issue=2'],
+    ['a month with its word', 'rft_val_fmt=x&rft.date=2013%E5%B9%B48%E6%9C%88',
+        'rft.date=2013-08 x.from=20130801 x.to=20130831'],
+    ['an ISSN', 'rft_val_fmt=x&rft.issn=%D9%A2%D9%A9%D9%A0%D9%A1-%D9%A0%D9%A0%D9%A1%D9%A2', '']
+];
+
+const LATEX = [
+    ['braces around it', 'rft_val_fmt=x&rft.aulast=G%7B%5C%22o%7Ddel', 'rft.aulast=G\u00f6del', 'rft_val_fmt=x'],
+    ['no braces', 'rft_val_fmt=x&rft.aulast=G%5C%22odel', 'rft.aulast=G\u00f6del', 'rft_val_fmt=x'],
+    ['braces around the letter', 'rft_val_fmt=x&rft.aulast=Poincar%5C%27%7Be%7D', 'rft.aulast=Poincar\u00e9',
+        'rft_val_fmt=x'],
+    ['letters', 'rft_val_fmt=x&rft.atitle=Stra%7B%5Css%7De+in+%5CO+and+S%7B%5Co%7Dr%5Caa',
+        'rft.atitle=Stra\u00dfe+in+\u00d8and+S\u00f8r\u00e5', 'rft_val_fmt=x'],
+    ['a cedilla and a caron', 'rft_val_fmt=x&rft.au=Fran%5Cc%7Bc%7Dois&rft.au=%7B%5Cv+S%7Dkoda',
+        'rft.au=Fran\u00e7ois rft.au=\u0160koda', 'rft_val_fmt=x'],
+    ['an i without a dot', 'rft_val_fmt=x&rft.aulast=D%5C%27%7B%5Ci%7Daz&rft.aufirst=Ji%5Cv%7Br%7D%7B%5C%27%5Ci%7D',
+        'rft.aulast=D\u00edaz rft.aufirst=Ji\u0159\u00ed', 'rft_val_fmt=x'],
+    ['braces in braces', 'rft_val_fmt=x&rft.au=%7B%7BErd%7B%5CH%7Bo%7D%7Ds%7D%7D', 'rft.au=Erd\u0151s',
+        'rft_val_fmt=x'],
+    ['an ampersand', 'rft_val_fmt=x&rft.jtitle=Harbour+%5C%26+Coast', 'rft.jtitle=Harbour+&+Coast', 'rft_val_fmt=x'],
+    ['a font', 'rft_val_fmt=x&rft.atitle=%5Cemph%7BZostera%7D+and+%7B%5Cit+Ruppia%7D', 'rft.atitle=Zostera+and+Ruppia',
+        'rft_val_fmt=x'],
+    ['an apostrophe', 'rft_val_fmt=x&rft.aulast=O%5C%27Neill', 'rft.aulast=O\'Neill', 'rft_val_fmt=x'],
+    ['a formula', 'rft_val_fmt=x&rft.atitle=On+$%5Calpha_%7Bn%7D$', ''],
+    ['a formula and an accent', 'rft_val_fmt=x&rft.atitle=$%5Ctilde%7Bo%7D$+by+G%5C%22odel',
+        'rft.atitle=$\\tilde{o}$+by+G\u00f6del', 'rft_val_fmt=x'],
+    ['Wikipedia, tags in pages', 'rft_val_fmt=x&rft.pages=%3Cspan%3E1%26ndash%3B%3C/span%3E12',
+        'rft.pages=1\u201312 rft.spage=1', 'rft_val_fmt=x'],
+    ['another command', 'rft_val_fmt=x&rft.atitle=C:%5Ctemp%5C%22q', '']
+];
+
+// References after the title of a journal.
+const DC = 'rft_val_fmt=info:ofi/fmt:kev:mtx:dc&rft.source=';
+const REFERENCES = [
+    ['a source with words', DC + 'Tides,+Vol.+5,+No.+2,+pp.+12-20',
+        'rft.jtitle=Tides rft.volume=5 rft.issue=2 rft.pages=12-20 rft.spage=12'],
+    ['a source with short words', DC + 'Tides+v.+11(1)+p.+24-30',
+        'rft.jtitle=Tides rft.volume=11 rft.issue=1 rft.pages=24-30 rft.spage=24'],
+    ['a source with signs', DC + 'Tides+12(3):45-67',
+        'rft.jtitle=Tides rft.volume=12 rft.issue=3 rft.pages=45-67 rft.spage=45'],
+    ['a source with a year', DC + 'Tides.+2012;12(3):45%E2%80%9367', 'rft.jtitle=Tides rft.volume=12 rft.issue=3'
+        + ' rft.pages=45-67 rft.date=2012 x.from=20120101 x.to=20121231 rft.spage=45'],
+    ['two sources', DC + 'Vol.+5,+No.+2,+pp.+12-20&rft.source=Tides',
+        'rft.jtitle=Tides rft.volume=5 rft.issue=2 rft.pages=12-20 rft.spage=12'],
+    ['a source of PubMed', DC + 'Ann+Tidal+Stud.+2012+Mar+15;12+Suppl+1:S45-50.', 'rft.jtitle=Ann+Tidal+Stud'
+        + ' rft.volume=12 rft.pages=S45-50 rft.date=2012 x.from=20120101 x.to=20121231 rft.issue=Suppl+1'
+        + ' rft.spage=S45'],
+    ['a German source', DC + 'Meer+12+(2003),+H.+3,+S.+101-118', 'rft.jtitle=Meer rft.volume=12 rft.issue=3'
+        + ' rft.pages=101-118 rft.date=2003 x.from=20030101 x.to=20031231 rft.spage=101'],
+    ['a source with an ISSN', DC + 'Tides,+ISSN+2901-0012', 'rft.issn=2901-0012 rft.jtitle=Tides x.issn=2901-0012'],
+    ['a title with signs', 'title=Tides+2003;12(3):101-118', 'rft.volume=12 rft.issue=3 rft.pages=101-118 rft.date=2003'
+        + ' rft.jtitle=Tides rft_val_fmt=J x.from=20030101 x.to=20031231 rft.spage=101'],
+    ['a title with words', 'rft_val_fmt=x&jtitle=Tides,+vol.+12,+no.+3,+2003,+pp.+101-18', 'rft.jtitle=Tides'
+        + ' rft.volume=12 rft.issue=3 rft.pages=101-18 rft.date=2003 x.from=20030101 x.to=20031231 rft.spage=101'],
+    ['a title in the style of APA', 'title=Tides,+12(3),+101-118', 'rft.volume=12 rft.issue=3 rft.pages=101-118'
+        + ' rft.jtitle=Tides rft_val_fmt=J rft.spage=101'],
+    ['a title in the style of Chicago', 'title=Tides+12,+no.+3+(2003):+101-118', 'rft.volume=12 rft.issue=3'
+        + ' rft.pages=101-118 rft.date=2003 rft.jtitle=Tides rft_val_fmt=J x.from=20030101 x.to=20031231'
+        + ' rft.spage=101'],
+    ['a title with the year in brackets', 'title=Tides+12+(2003)+101-118&date=2004', 'rft.date=2004 rft.volume=12'
+        + ' rft.pages=101-118 rft.jtitle=Tides rft_val_fmt=J x.from=20040101 x.to=20041231 rft.spage=101'],
+    ['a title with a volume and pages', 'title=Tides+497:491-494&date=2013', 'rft.date=2013 rft.volume=497'
+        + ' rft.pages=491-494 rft.jtitle=Tides rft_val_fmt=J x.from=20130101 x.to=20131231 rft.spage=491'],
+    ['a chapter and verses', 'title=Genesis+1:1-3', 'rft.jtitle=Genesis+1:1-3 rft_val_fmt=J'],
+    ['a volume of a book', 'title=Harbours,+Vol.+2&genre=book',
+        'rft.genre=book rft.btitle=Harbours,+Vol.+2 rft_val_fmt=B'],
+    ['a number in a title', 'title=3+Biotech', 'rft.jtitle=3+Biotech rft_val_fmt=J']
+];
+
+// Remarks of a retraction; RETRACTIONS of rules.js says of which requests the page says so.
+const RETRACTED = [
+    ['Elsevier', 'rft_val_fmt=x&rft.atitle=RETRACTED:+Storm+surges', 'rft.atitle=Storm+surges', 'rft_val_fmt=x'],
+    ['Springer', 'rft_val_fmt=x&rft.atitle=RETRACTED+ARTICLE:+Storm+surges', 'rft.atitle=Storm+surges',
+        'rft_val_fmt=x'],
+    ['Hindawi', 'rft_val_fmt=x&rft.atitle=%5BRetracted%5D+Storm+surges', 'rft.atitle=Storm+surges', 'rft_val_fmt=x'],
+    ['Web of Science', 'rft_val_fmt=x&rft.atitle=Storm+surges+(Retracted+article.+See+vol.+18,+pg.+344,+2015)',
+        'rft.atitle=Storm+surges', 'rft_val_fmt=x'],
+    ['at the end', 'rft_val_fmt=x&rft.atitle=Storm+surges+%5BRETRACTED%5D', 'rft.atitle=Storm+surges', 'rft_val_fmt=x'],
+    ['a translated title', 'rft_val_fmt=x&rft.atitle=%5BRETRACTED:+Storm+surges%5D', 'rft.atitle=Storm+surges',
+        'rft_val_fmt=x'],
+    ['both', 'rft_val_fmt=x&rft.btitle=Retracted:+Silt+(Retracted)', 'rft.btitle=Silt', 'rft_val_fmt=x'],
+    ['a notice', 'rft_val_fmt=x&rft.atitle=Retraction+of:+Storm+surges', ''],
+    ['another notice', 'rft_val_fmt=x&rft.atitle=Retraction+notice+to+%22Storm+surges%22', ''],
+    ['a notice of Web of Science', 'rft_val_fmt=x&rft.atitle=Storm+surges+(Retraction+of+vol+12,+pg+3,+2013)', ''],
+    ['an article about retractions', 'rft_val_fmt=x&rft.atitle=Retracted+articles:+a+review', ''],
+    ['nothing else', 'rft_val_fmt=x&rft.atitle=%5BRetracted%5D', '']
+];
+
 const CORE = [
     ['an article', 'rft_val_fmt=info:ofi/fmt:kev:mtx:dc&rft.title=Storm+surges&rft.creator=Smith&rft.creator=Li'
         + '&rft.source=Annals+of+Tidal+Studies&rft.identifier=https://doi.org/10.5555/a', 'rft.au=Smith rft.au=Li'
         + ' rft.jtitle=Annals+of+Tidal+Studies rft.atitle=Storm+surges x.doi=10.5555/a rft_id=info:doi/10.5555/a'],
     ['the parts of a source', 'rft_val_fmt=info:ofi/fmt:kev:mtx:dc&rft.title=Storm+surges&rft.source=2901-0012'
         + '&rft.source=Annals+of+Tidal+Studies;+Vol.+12+No.+3+(2003);+101-118', 'rft.issn=2901-0012'
-        + ' rft.jtitle=Annals+of+Tidal+Studies rft.volume=12 rft.issue=3 rft.pages=101-118 rft.atitle=Storm+surges'
-        + ' x.issn=2901-0012 rft.spage=101'],
+        + ' rft.jtitle=Annals+of+Tidal+Studies rft.volume=12 rft.issue=3 rft.pages=101-118 rft.date=2003'
+        + ' rft.atitle=Storm+surges x.issn=2901-0012 x.from=20030101 x.to=20031231 rft.spage=101'],
     ['a book', 'rft_val_fmt=info:ofi/fmt:kev:mtx:dc&rft.title=Harbours&rft.type=Book'
         + '&rft.identifier=ISBN+978-1-234-56010-2', 'rft.genre=Book rft.btitle=Harbours'
         + ' rft_id=urn:ISBN:978-1-234-56010-2 rft.isbn=9781234560102 x.isbn=9781234560102'],
@@ -230,14 +448,37 @@ const VOLUMES = [
     ['a year after the issue', 'rft_val_fmt=x&rft.issue=No.+2+(2003)', 'rft.issue=2'],
     ['the volume in the issue', 'rft_val_fmt=x&rft.issue=53+(2A)', 'rft.issue=2A rft.volume=53'],
     ['a part of an issue', 'rft_val_fmt=x&rft.volume=12&rft.issue=3+PART+1', ''],
-    ['a part of a volume', 'rft_val_fmt=x&rft.volume=12+Pt+2', ''],
+    ['a part of a volume', 'rft_val_fmt=x&rft.volume=12+Pt+2', 'rft.volume=12 rft.issue=2'],
     ['a part in brackets', 'rft_val_fmt=x&rft.volume=12&rft.issue=3+(Pt+1)', ''],
     ['an issue of several', 'rft_val_fmt=x&rft.volume=12&rft.issue=3(1)', ''],
     ['the same volume twice', 'rft_val_fmt=x&rft.volume=12&rft.issue=12(3)', 'rft.issue=3'],
     ['an issue that the request has', 'rft_val_fmt=x&rft.volume=Vol.+53,+no.+2&rft.issue=3', 'rft.volume=53'],
     ['letters', 'rft_val_fmt=x&rft.volume=12A&rft.issue=S1', ''],
     ['several numbers', 'rft_val_fmt=x&rft.issue=nos.+5-6', 'rft.issue=5-6'],
-    ['other words', 'rft_val_fmt=x&rft.volume=12+Suppl+1&rft.issue=Special+issue', '']
+    ['other words', 'rft_val_fmt=x&rft.volume=Twelve&rft.issue=Special+issue', '']
+];
+
+const SUPPLEMENTS = [
+    ['PubMed', 'rft_val_fmt=x&rft.volume=136+Suppl+1', 'rft.volume=136 rft.issue=Suppl+1'],
+    ['in brackets', 'rft_val_fmt=x&rft.volume=12+(Suppl+1)', 'rft.volume=12 rft.issue=Suppl+1'],
+    ['a letter', 'rft_val_fmt=x&rft.volume=5+Suppl+A', 'rft.volume=5 rft.issue=Suppl+A'],
+    ['no number', 'rft_val_fmt=x&rft.volume=136,+Supplement', 'rft.volume=136 rft.issue=Suppl'],
+    ['of an issue', 'rft_val_fmt=x&rft.volume=136(1+Suppl.+2)', 'rft.volume=136 rft.issue=1+Suppl+2'],
+    ['a word before it', 'volume=Vol.+136,+Suppl.+1&rft_val_fmt=x', 'rft.volume=136 rft.issue=Suppl+1'],
+    ['Springer', 'rft_val_fmt=x&rft.volume=136+S2', 'rft.volume=136 rft.issue=S2'],
+    ['an issue that the request has', 'rft_val_fmt=x&rft.volume=136+Suppl+1&rft.issue=3', 'rft.volume=136'],
+    ['a part of a volume in brackets', 'rft_val_fmt=x&rft.volume=75+(+Pt+2)', 'rft.volume=75 rft.issue=2'],
+    ['a part of an issue', 'rft_val_fmt=x&rft.volume=75+(3+Pt+2)', 'rft.volume=75 rft.issue=3+Pt+2'],
+    ['a special number', 'rft_val_fmt=x&rft.volume=27+Spec+No', 'rft.volume=27 rft.issue=Spec+No'],
+    ['a full stop in the issue', 'rft_val_fmt=x&rft.volume=136&rft.issue=Suppl.+3', 'rft.issue=Suppl+3'],
+    ['Scopus, capitals', 'rft_val_fmt=x&rft.volume=136&rft.issue=3+SUPPL.+1', 'rft.issue=3+Suppl+1'],
+    ['the whole word', 'rft_val_fmt=x&rft.volume=136&rft.issue=Supplement+1', 'rft.issue=Suppl+1'],
+    ['the volume in the issue', 'rft_val_fmt=x&rft.issue=12+(Suppl+1)', 'rft.issue=Suppl+1 rft.volume=12'],
+    ['the same volume twice', 'rft_val_fmt=x&rft.volume=12&rft.issue=12+(Suppl+1)', 'rft.issue=Suppl+1'],
+    ['a volume that is a supplement', 'rft_val_fmt=x&rft.volume=Suppl.+3', 'rft.volume=Suppl+3'],
+    ['as they should be', 'rft_val_fmt=x&rft.volume=136&rft.issue=Suppl+A', ''],
+    ['the number of a supplement', 'rft_val_fmt=x&rft.volume=136&rft.issue=S2', ''],
+    ['Oxford', 'rft_val_fmt=x&rft.volume=136&rft.issue=suppl_1', '']
 ];
 
 const MARKUP = [
@@ -292,5 +533,6 @@ const FIELDS = [
 
 export default {
     SEPARATORS, DROPPED, VERSIONS, OLD, IDENTIFIERS, NUMBERS, DATES, DAYS, PAGES, ENCODINGS, PREFIXES, CORE,
-    QUESTION_MARKS, CAPITALS, VOLUMES, MARKUP, TWICE, OTHER_ENCODINGS, UNKNOWN_ENCODINGS, FIELDS
+    QUESTION_MARKS, CAPITALS, VOLUMES, MARKUP, TWICE, OTHER_ENCODINGS, UNKNOWN_ENCODINGS, FIELDS, FIRST_PAGES, ARTICLES,
+    SUPPLEMENTS, AROUND, PASTED, OTHER_ARCHIVES, DIGITS, LATEX, REFERENCES, RETRACTED
 };

@@ -1,6 +1,7 @@
 // The unit tests of the module: the cases of cases.js, requests of good form, limits, menus and commands. Runs in njs
 // and in node, in a folder with the module and sample.js, which run.py writes; prints each failure, and a last line
 // that counts.
+import citation from './citation.js';
 import door from './find.js';
 import health from './health.js';
 import index from './index.js';
@@ -138,6 +139,64 @@ function testNotices() {
         const site = languages.siteIn(named, '');
         const page = menus.pageOf(q, menus.groupsOf('', site), site);
         expect('the notice of ' + it[0] + ', ' + it[1], /NOTICE (\w+)|$/.exec(page)[1], it[2]);
+    });
+}
+
+// The title of an article, and whether the page says that it was retracted, before its links.
+const RETRACTIONS = [
+    ['RETRACTED: Silt', true], ['Retracted article: Silt', true], ['RETRACTED CHAPTER: Silt', true],
+    ['[Retracted] Silt', true], ['*RETRACTED* Silt', true], ['Retracted \u2013 Silt', true],
+    ['Silt (Retracted article. See vol. 18, pg. 344, 2015)', true], ['Silt (Retracted in 2015)', true],
+    ['Silt - RETRACTED', true], ['Silt [This article has been retracted]', true],
+    ['Retraction: Silt', false], ['Retraction of: Silt', false], ['Retraction notice to Silt', false],
+    ['Retraction Note: Silt', false], ['Silt (Retraction of vol 12, pg 3, 2013)', false],
+    ['Retracted articles: a review', false], ['Why articles are retracted', false],
+    ['Silt (retracted testimony)', false], ['Retracted and republished: Silt', false]
+];
+function testRetractions() {
+    const site = languages.siteIn({ groups: [{ name: 'A' }], targets: {}, words: { retracted: 'RETRACTION <' } }, '');
+    RETRACTIONS.forEach(function (it) {
+        ['atitle', 'rft.btitle', 'title'].forEach(function (key) {
+            const q = openurl.queryOf(key + '=' + encodeURIComponent(it[0]) + '&issn=2901-0012');
+            q.titles = [];
+            q.maybe = [];
+            const page = menus.pageOf(q, menus.groupsOf('t\thttp://t/\n', site), site);
+            const at = page.indexOf('RETRACTION &lt;');
+            expect('retracted: ' + key + '=' + it[0], at > 0 && at < page.indexOf('http://t/'), it[1]);
+            expect('the title ' + it[0], page.indexOf('<bdi>Silt</bdi>') > 0, it[1]);
+        });
+    });
+    const q = openurl.begun('issn=2901-0012');
+    q.put('rft.atitle', ['RETRACTED: Silt']);  // as a look-up does
+    openurl.finish(q);
+    expect('a title that was looked up', q.first('rft.atitle') + ' ' + q.isRetracted, 'Silt true');
+}
+
+// What a request says of its kind, and the type of RIS.
+const RIS_TYPES = [
+    ['genre=article&issn=2901-0012', 'JOUR'], ['rft_val_fmt=info:ofi/fmt:kev:mtx:journal', 'JOUR'],
+    ['title=Tides', 'JOUR'], ['genre=unknown&issn=2901-0012', 'JOUR'],
+    ['genre=book&title=Tides', 'BOOK'], ['isbn=9781234560102', 'BOOK'],
+    ['rft_val_fmt=info:ofi/fmt:kev:mtx:book', 'BOOK'],
+    ['genre=bookitem&isbn=9781234560102', 'CHAP'], ['isbn=9781234560102&atitle=Silt', 'CHAP'],
+    ['rft_val_fmt=info:ofi/fmt:kev:mtx:book&rft.atitle=Silt', 'CHAP'],
+    ['genre=dissertation&title=On+Silt', 'THES'], ['rft_val_fmt=info:ofi/fmt:kev:mtx:dissertation', 'THES'],
+    ['rft_val_fmt=info:ofi/fmt:kev:mtx:dc&rft.type=info:eu-repo/semantics/doctoralThesis', 'THES'],
+    ['genre=report&title=Silt', 'RPRT'], ['rft_val_fmt=info:ofi/fmt:kev:mtx:book&rft.genre=report', 'RPRT'],
+    ['rft_val_fmt=info:ofi/fmt:kev:mtx:dc&rft.type=Report', 'RPRT'],
+    ['rft.genre=dataset&rft.title=Levels', 'DATA'], ['rft_val_fmt=info:ofi/fmt:kev:mtx:dc&rft.type=Dataset', 'DATA'],
+    ['rft_val_fmt=info:ofi/fmt:kev:mtx:dataset&rft.title=Levels', 'DATA'],
+    ['genre=preprint&atitle=Silt', 'UNPB'], ['rft_val_fmt=info:ofi/fmt:kev:mtx:journal&rft.genre=preprint', 'UNPB'],
+    ['rft_val_fmt=info:ofi/fmt:kev:mtx:dc&rft.type=preprint', 'UNPB'],
+    ['genre=proceeding&isbn=9781234560102&atitle=Silt', 'CONF'], ['genre=conference&title=Dredging', 'CONF'],
+    ['rft_val_fmt=info:ofi/fmt:kev:mtx:dc&rft.type=conferencePaper', 'CONF'],
+    ['genre=constructor', 'JOUR'], ['rft.genre=__proto__&rft.isbn=9781234560102', 'BOOK']
+];
+function testRis() {
+    RIS_TYPES.forEach(function (it) {
+        const q = openurl.queryOf(it[0]);
+        const text = citation.risOf(q, openurl.kindOf(q), languages.siteIn({}, ''));
+        expect('RIS of ' + it[0], text.split('\r\n')[0], 'TY  - ' + it[1]);
     });
 }
 
@@ -423,6 +482,8 @@ testGoodForm();
 testLimits();
 testMenus();
 testNotices();
+testRetractions();
+testRis();
 testHeaders();
 testWords();
 testCases();

@@ -13,7 +13,18 @@ const requests = {
     usual: sample[0],
     long: (sample[0] + '&rft.description=' + 'word+and%2C+'.repeat(700)).slice(0, 8192),
     many: 'rft.issn=1234-567&'.repeat(455),
-    latin: 'atitle=%E9&'.repeat(740)
+    latin: 'atitle=%E9&'.repeat(740),
+    braces: ('rft.au=' + '{a}'.repeat(660) + '&').repeat(4),
+    accents: ('rft.au=' + '\\\\"o'.repeat(660) + '&').repeat(4),
+    formulas: ('rft.au=' + '$a{'.repeat(660) + '&').repeat(4),
+    remarks: 'rft.atitle=' + '(retracted '.repeat(740),
+    pasted: ('title=' + '10.5555/a)'.repeat(95) + '&').repeat(8),
+    lines: ('rft.source=' + '10.5555/%0A'.repeat(43) + '&').repeat(16),
+    brackets: ('rft_id=' + ')'.repeat(490) + '&').repeat(16),
+    numbers: ('rft.source=' + '1(1) '.repeat(98) + '&').repeat(16),
+    volumes: ('rft.volume=' + '1 Suppl '.repeat(25) + '&').repeat(38),
+    pages: ('rft.spage=' + '1-'.repeat(100) + '&').repeat(38),
+    digits: 'rft.date=' + '%D9%A1'.repeat(1360)
 };
 const headers = {
     commas: ','.repeat(8192),
@@ -28,8 +39,13 @@ function peer() { return requests.usual.split('&').map((pair) => pair.split('=')
 for (let i = 0; i < COUNT; i++) CALL;
 """
 # For each: how often a script calls it, so that no script takes long, and how many calls of the peer may at most take
-# as long as one of it. When these limits were set, it was 2.4, 5, 12 and 35, and 1.1, 5, 0.14, 0.14 and 1.7.
-REQUESTS = {"usual": (200, 5), "long": (100, 12), "many": (40, 26), "latin": (15, 76)}
+# as long as one of it. When these limits were set, it was 3, 7, 15 and 40, then 56, 97, 31, 6, 15, 37, 90, 17, 7, 5 and
+# 18, and 0.9, 5, 0.3, 0.3 and 1.4. A limit of 200 is 27 ms where the peer takes 0.14 ms.
+REQUESTS = {
+    "usual": (200, 5), "long": (100, 12), "many": (40, 30), "latin": (15, 76), "braces": (10, 110),
+    "accents": (10, 190), "formulas": (10, 70), "remarks": (10, 15), "pasted": (10, 30), "lines": (10, 75),
+    "brackets": (10, 180), "numbers": (10, 35), "volumes": (10, 15), "pages": (10, 15), "digits": (10, 40),
+}
 HEADERS = {"commas": (400, 3), "ranges": (100, 8), "hyphens": (3000, 0.5), "spaces": (3000, 0.5), "stars": (300, 4)}
 CALLS = {
     "nothing": ("0", 0), "peer": ("peer()", 500),

@@ -53,8 +53,29 @@ function citationHtml(c, site) {
     return '<p class="citation">' + (parts.length > 0 ? parts.join(', ') : escape(word(site, 'noCitation'))) + '</p>';
 }
 
+// The types of RIS for genres, for types of Dublin Core (those of OpenAIRE too), and for the format and kind of a
+// request that names neither. A paper of a conference is CONF, since Zotero and EndNote read that as one in published
+// proceedings; CPAPER is an unpublished one for EndNote. A preprint is UNPB, which both read as an unpublished work:
+// RIS has no type for preprints, and JOUR would name a journal.
+const TYPES = {
+    article: 'JOUR', journal: 'JOUR', issue: 'JOUR', journalarticle: 'JOUR', book: 'BOOK', document: 'BOOK',
+    bookitem: 'CHAP', booksection: 'CHAP', bookpart: 'CHAP', chapter: 'CHAP', dissertation: 'THES', thesis: 'THES',
+    bachelorthesis: 'THES', masterthesis: 'THES', doctoralthesis: 'THES', report: 'RPRT', workingpaper: 'RPRT',
+    dataset: 'DATA', preprint: 'UNPB', conference: 'CONF', proceeding: 'CONF', proceedings: 'CONF',
+    conferencepaper: 'CONF', conferenceobject: 'CONF', conferenceproceedings: 'CONF',
+    conferenceorworkshopitem: 'CONF', patent: 'PAT'
+};
+function typeNamed(name) {
+    return texts.own(TYPES, texts.replaced(name.slice(name.lastIndexOf('/') + 1).toLowerCase(), /[^a-z]/g, ''));
+}
+function typeOf(q, kind) {
+    const format = q.first('rft_val_fmt');
+    const named = typeNamed(q.first('rft.genre')) || typeNamed(q.first('rft.type'))
+        || typeNamed(format.slice(format.lastIndexOf(':') + 1));
+    const type = named || typeNamed(kind);
+    return type === 'BOOK' && q.has('rft.atitle') ? 'CHAP' : type;
+}
 // `clean` leaves no line end in a value, so no value begins a field of its own.
-const TYPES = { journal: 'JOUR', book: 'BOOK', dissertation: 'THES' };
 const FIELDS = 'TI title,T2 journal,PY year,VL volume,IS issue,SP first,EP last,SN number,DO doi';
 function authorsOf(q) {
     const authors = q.all('rft.au');
@@ -63,11 +84,10 @@ function authorsOf(q) {
 }
 function risOf(q, kind, site) {
     const c = citationOf(q, site);
-    const isChapter = kind === 'book' && q.has('rft.atitle');
     c.first = q.first('rft.spage');
     c.last = q.first('rft.epage');
     c.number = c.issn || c.isbn;
-    const lines = [isChapter ? 'TY  - CHAP' : 'TY  - ' + TYPES[kind]];
+    const lines = ['TY  - ' + typeOf(q, kind)];
     const put = (tag, value) => {
         const text = clean(String(value || '')).slice(0, 1000);
         if (text !== '') lines.push(tag + '  - ' + text);

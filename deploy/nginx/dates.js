@@ -3,12 +3,12 @@ import numbers from './numbers.js';
 import texts from './text.js';
 
 const is = texts.is;
-const plain = numbers.plain;
 
 // The forms of a date, tried in this order, and the reader of what their groups are.
 const DATES = [
     [/^([12]\d{3})([-\/. ]?)(\d\d)\2(\d\d)(?=\D|\d{4}(?:\d\d)?$|$)/, yearFirst],  // 2013-08-01, 20130801T1015
     [/^([12]\d{3})([-\/. ])(\d{1,2})(?:\2(\d{1,2}))?(?!\d)/, yearFirst],  // 2013/8/1, 2013-08/2013-09, 2013-08/09
+    [/^([12]\d{3})() ?\u5e74 ?(\d{1,2}) ?\u6708(?: ?(\d{1,2}) ?\u65e5)?/, yearFirst],     // 2013年8月1日
     [/^([12]\d{3})()(\d\d)$/, yearFirst],                                      // 201308
     [/^(\d{1,2})[-\/.](\d{1,2})[-\/.]([12]\d{3})(?!\d)/, yearLast],         // 25/12/2013, 12/25/2013
     [/^()(\d{1,2})[-\/.]([12]\d{3})$/, yearLast],                            // 08/2013
@@ -43,7 +43,7 @@ function monthIn(text) {
 function dateOf(value) {
     const year = Number(value);
     if (String(year) === value && year >= 1000 && year < 3000) return value;  // the usual form, without a search
-    const text = plain(value);
+    const text = numbers.ascii(value);
     for (let i = 0; i < DATES.length; i++) {
         if (is(DATES[i][0], text)) return DATES[i][1](DATES[i][0].exec(text), text);
     }

@@ -177,6 +177,7 @@ function pageOf(q, groups, site) {
     const body = [citation.citationHtml(cited, site)];
     const put = (html) => { if (html !== '') body.push(html); };
     put(foundHtml(q, site));
+    if (q.isRetracted) put('<p class="retracted"><strong>' + escape(word(site, 'retracted')) + '</strong></p>');
     put(noticeHtml(q, groups, site));
     put(maybeHtml(q, site));
     shownGroups(groups).forEach((g) => {

@@ -2,10 +2,15 @@
 // the request's text. text.js says in which njs it runs.
 import dates from './dates.js';
 import encodings from './encodings.js';
+import identifying from './identifiers.js';
+import latex from './latex.js';
 import numbers from './numbers.js';
 import query from './query.js';
+import references from './references.js';
+import retractions from './retractions.js';
 import texts from './text.js';
 import titles from './titles.js';
+import volumes from './volumes.js';
 
 const is = texts.is;
 const own = texts.own;
@@ -18,18 +23,21 @@ const FINDING = [
     version,      // a version that is not OpenURL 1.0's is corrected
     fields,       // what a reader has typed into the form is a number of this or that kind
     oldKeys,      // the keys of OpenURL 0.1 give those of 1.0
-    dublinCore,   // and so do those of Dublin Core
+    pasted,       // an identifier in the field of a title is none of it
+    dublinCore,   // the keys of Dublin Core give those of 1.0 too
+    cited,        // a title with a volume and pages after it has more than a title
     title,        // `title` is a book's, a dissertation's or a journal's
     format,       // a request that does not say its format is a book's or a journal's
-    markup,       // titles and names have no tags and entities, and are not encoded twice
-    identifiers   // DOIs, PubMed and OCLC numbers, ISSNs and ISBNs are found in any form
+    markup,       // titles and names have no tags, entities and commands of LaTeX, and are not encoded twice
+    identifiers   // DOIs, the numbers of arXiv, PubMed, PMC and OCLC, ISSNs and ISBNs are found in any form
 ];
 const WRITING = [
-    isxns,        // ISSNs and ISBNs are found in their values, and written as the standards do
-    date,         // a date becomes YEAR-MONTH-DAY, YEAR-MONTH or YEAR, and its first and last day are x.from and x.to
-    volume,       // volume and issue are numbers without a word before them
-    page,         // the first page is found in the range of pages
-    encoding      // what had another encoding is UTF-8 now, and says so
+    retraction,      // no title has a remark that the article was retracted, and none that was looked up
+    isxns,           // ISSNs and ISBNs are found in their values, and written as the standards do
+    date,            // a date becomes YEAR-MONTH-DAY, YEAR-MONTH or YEAR; its first and last day are x.from and x.to
+    volumes.volume,  // volume and issue are numbers without a word, and a supplement of a volume is its issue
+    volumes.page,    // first and last page are found in ranges, and the number of an article is its page
+    encoding         // what had another encoding is UTF-8 now, and says so
 ];
 
 function correct(q, key, value) { if (q.has(key) && q.first(key) !== value) q.set(key, value); }
@@ -83,49 +91,66 @@ function kindIn(q) {
     return has('btitle') ? 'b' : has('jtitle') || has('stitle') ? 'j' : '';
 }
 
-// Dublin Core: the source of an article is its journal, often with the volume, issue and pages behind the title.
-const SOURCE_PARTS = [
-    ['rft.volume', /\bv(?:ol(?:ume)?)?[. ]+([a-z]?\d+[a-z]{0,3})/i],
-    ['rft.issue', /\bn(?:o|r|um)?[. ]+([a-z]?\d+[a-z]{0,3})/i],
-    ['rft.pages', /(\d+ ?[-\u2013] ?\d+)\D*$/]
-];
-const END_OF_NAME = /\s*(?:[;(\[]|,?\s+(?:vol(?:ume)?\b|v\.|no\.|n\.|\d)|,\s*$)[\s\S]*$/i;
+// Dublin Core: the source of an article is its journal, often with the volume, issue and pages after the title.
+const END_OF_NAME = /\s*(?:[;(\[]|,?\s+(?:vol(?:ume)?\b|v\.|no\.|n\.|issn\b|\d)|,\s*$)[\s\S]*$/i;
+const PARTS = ['volume', 'issue', 'pages'];
+function addParts(q, parts) {
+    PARTS.forEach((name) => { if (parts[name] && !q.has('rft.' + name)) q.add('rft.' + name, parts[name]); });
+    if (parts.year && !q.has('rft.date') && !q.has('rft.year')) q.add('rft.date', parts.year);
+}
 function isCore(q) {
     if (q.has('rft_val_fmt')) return is(/:dc$/i, q.first('rft_val_fmt'));
     return q.has('rft.creator') || q.has('rft.source') || q.has('rft.identifier');
+}
+const MOST_SOURCE = 500;  // characters
+const MOST_SOURCES = 6;
+function isName(source) {
+    return is(/[a-z\u00c0-\uffff]{2}/i, source.replace(/issn/i, '')) && !is(/^https?:/i, source);
 }
 function dublinCore(q) {
     if (!isCore(q)) return;
     q.copy('rft.creator', 'rft.au');
     const type = q.first('rft.type').trim().toLowerCase();
     if (own(KINDS, type)) q.copy('rft.type', 'rft.genre');
-    const sources = q.all('rft.source').map(numbers.plain);
+    const sources = q.all('rft.source').slice(0, MOST_SOURCES)
+        .map((source) => texts.clean(numbers.plain(source, MOST_SOURCE)));
     const issn = numbers.numbersIn(sources, numbers.ISSN, 1)[0];
     if (issn && !q.has('rft.issn')) q.add('rft.issn', issn);
-    const isName = (it) => is(/[a-z\u00c0-\uffff]{2}/i, it.replace(/issn/i, '')) && !is(/^https?:/i, it);
-    const source = sources.filter(isName)[0];
-    if (source) {
-        if (!q.has('rft.jtitle')) q.add('rft.jtitle', source.replace(END_OF_NAME, '') || source);
-        SOURCE_PARTS.forEach((it) => {
-            if (!q.has(it[0]) && is(it[1], source)) q.add(it[0], it[1].exec(source)[1]);
-        });
-    }
+    const known = sources.map((source) => references.partsOf(source, false));
+    const names = sources.map((source, i) => known[i] === null ? source : known[i].name).filter(isName);
+    if (names.length > 0 && !q.has('rft.jtitle')) q.add('rft.jtitle', names[0].replace(END_OF_NAME, '') || names[0]);
+    known.filter(Boolean).forEach((parts) => { addParts(q, parts); });
     if (q.has('rft.jtitle')) q.copy('rft.title', 'rft.atitle');
     else if (kindOf(q) === 'book') q.copy('rft.title', 'rft.btitle');
 }
 
+const TITLE_KEYS = ['rft.btitle', 'rft.title', 'rft.jtitle'];
+// A reader may have typed the volume and the pages after the title of the journal.
+function cited(q) {
+    const isTitle = q.has('title') && TITLE_KEYS.every((key) => !q.has(key));
+    const key = q.has('rft.jtitle') ? 'rft.jtitle' : isTitle && kindOf(q) === 'journal' ? 'title' : '';
+    const isNumbered = key !== '' && is(/\d/, q.first(key));
+    const isArticle = q.has('rft.atitle') || q.has('rft.date') || is(/^article$/i, q.first('rft.genre'));
+    const text = isNumbered ? retractions.withoutRemark(q.first(key)) : '';
+    const parts = isNumbered ? references.partsOf(text, !isArticle) : null;
+    if (parts !== null && isArticle && !parts.issue && !parts.pages) return;
+    if (parts === null || !isName(parts.name)) return;
+    addParts(q, parts);
+    q.lead('rft.jtitle', parts.name);
+}
+
 function title(q) {
-    if (!q.has('title') || q.has('rft.btitle') || q.has('rft.title') || q.has('rft.jtitle')) return;
+    if (!q.has('title') || TITLE_KEYS.some((key) => q.has(key))) return;
     q.copy('title', TITLES[kindOf(q)]);
 }
 function format(q) {
-    if (!q.has('rft_val_fmt') && q.pairs.length > 0) q.add('rft_val_fmt', 'info:ofi/fmt:kev:mtx:' + kindOf(q));
+    if (q.has('rft_val_fmt') || (q.isEmpty() && q.pasted.length === 0)) return;
+    q.add('rft_val_fmt', 'info:ofi/fmt:kev:mtx:' + kindOf(q));
 }
 
-// Titles and names as text: some sources send HTML or the braces of BibTeX, or encode them twice.
+// Titles and names as text: some sources send HTML or what BibTeX has, or encode them twice.
 const WRITTEN = ['rft.atitle', 'rft.jtitle', 'rft.btitle', 'rft.title', 'rft.stitle', 'rft.au', 'rft.aulast',
-    'rft.aufirst', 'rft.aucorp'];
-const BRACES = texts.lazy('(?<![$\\\\])\\{([^{}]+)\\}', 'g');
+    'rft.aufirst', 'rft.aucorp', 'rft.pages'];
 function decodedAgain(value) {
     if (is(/\s/, value)) return value;
     const hasEscapes = is(/%[0-9a-f]{2}/i, value) && !is(/%(?![0-9a-f]{2})/i, value);
@@ -139,14 +164,14 @@ function decodedAgain(value) {
 }
 function readable(value) {
     const decoded = is(/[%+]/, value) ? decodedAgain(value) : value;
-    const text = decoded.indexOf('{') < 0 ? decoded : texts.replaced(decoded, BRACES(), '$1').trim();
+    const text = is(/[{\\]/, decoded) ? latex.plain(decoded) : decoded;
     return is(/[<&]/, text) ? titles.plain(text) || value : text;
 }
 function markup(q) {
     WRITTEN.forEach((key) => {
         if (!q.has(key)) return;
         const values = q.all(key);
-        if (!values.some((value) => is(/[<&%+{]/, value))) return;
+        if (!values.some((value) => is(/[<&%+{\\]/, value))) return;
         const read = values.map(readable);
         if (read.every((value, i) => value === values[i])) return;
         q.drop(key);
@@ -154,61 +179,78 @@ function markup(q) {
     });
 }
 
-// The key, the beginning of the URI in OpenURL 1.0, and the forms in which sources send it.
-const IDENTIFIERS = [
-    ['x.doi', 'info:doi/',
-        /^(?:(?:info:doi[\/:]|doi:?|(?:(?:https?:)?\/\/)?(?:dx\.|www\.)?doi\.org\/)\s*){0,3}(10\.[\d.]{4,20}\/\S+)$/i],
-    ['x.pmid', 'info:pmid/', /^(?:info:pmid[\/:]|pmid:?)\s*(\d{1,9})$/i],
-    ['x.pmid', 'info:pmid/', /^https?:\/\/(?:www\.)?pubmed\.gov\/(?:\?term=)?(\d+)\b/i],
-    ['x.pmid', 'info:pmid/',
-        /^https?:\/\/(?:www\.|pubmed\.)?ncbi\.nlm\.nih\.gov\/(?:pubmed\/)?(?:\?term=)?(\d+)\b/i],
-    ['x.oclc', 'info:oclcnum/',
-        /^(?:info:oclcnum[\/:]|oclc(?:num)?:|https?:\/\/\w*\.?worldcat\.org\/oclc\/)(?:\(\w+\))?(?:oc\w)?(\d+)$/i],
-    ['rft.issn', 'urn:ISSN:', /^(?:urn:)?issn[: ]\s*(\d{4}-?\d{3}[\dx])$/i],
-    ['rft.isbn', 'urn:ISBN:', /^(?:urn:)?isbn[: ]\s*([\d-]{9,17}[\dx])$/i]
-];
-
-// The identifier in a value as [key, number, URI], or null. Under `pmid` a bare number counts, under Dublin Core's
-// `rft.identifier` a bare ISSN or ISBN.
-function identifierIn(value, key) {
-    let text = value.trim();
-    if (text.length > 500) return null;
-    if (text.indexOf('%') >= 0) {
-        try { text = decodeURIComponent(text); } catch (e) { /* not encoded twice */ }
-    }
-    if (is(/^(?:info:)?pmid[\/:]http/i, text)) text = text.slice(text.indexOf('http'));
-    if ((key === 'pmid' || key === 'rft.pmid') && is(/^\d{1,9}$/, text)) text = 'pmid:' + text;
-    if (key === 'rft.identifier' && is(/^\d{4}-\d{3}[\dx]$/i, text)) text = 'issn:' + text;
-    if (key === 'rft.identifier' && is(/^(?:97[89]-?)?(?:\d-?){9}[\dx]$/i, text)) text = 'isbn:' + text;
-    for (let i = 0; i < IDENTIFIERS.length; i++) {
-        if (!is(IDENTIFIERS[i][2], text)) continue;
-        const found = IDENTIFIERS[i][2].exec(text);
-        const number = IDENTIFIERS[i][0] === 'x.doi' ? found[1].replace(/(?<![.,])[.,]+$/, '') : found[1];
-        return [IDENTIFIERS[i][0], number, IDENTIFIERS[i][1] + number];
-    }
-    return null;
+// What a source says of a retraction is shown and not part of a title.
+const RETRACTED = ['rft.atitle', 'rft.btitle', 'rft.title', 'rft.jtitle'];
+function retraction(q) {
+    RETRACTED.forEach((key) => {
+        const found = retractions.withoutRemark(q.first(key));
+        if (found === q.first(key)) return;
+        q.isRetracted = true;
+        q.drop(key);
+        q.put(key, [found]);
+    });
 }
 
-const SOURCES = ['rft_id', 'id', 'rft.doi', 'doi', 'pmid', 'rft.pmid', 'rft.identifier'];
+const SOURCES = ['rft_id', 'id', 'rft.doi', 'doi', 'pmid', 'rft.pmid', 'pmcid', 'rft.pmcid', 'rft.identifier'];
+function identifiersUnder(q, source) {
+    return q.all(source).map((value) => identifying.identifierIn(value, source)).filter(Boolean);
+}
+
+// An identifier that a reader has pasted into the field of a title counts if the request has none of its kind. The
+// title of a notice names the article that the notice is about.
+const TITLES_PASTED = ['title', 'jtitle', 'btitle', 'atitle'];
+const NOTICE = texts.lazy('^\\W*(?:(?:author|publisher)(?:\'s)? )?(?:errat|corrigend|correction|retract|withdraw'
+    + '|expression of|comment|reply|response|addend)', 'i');
+function pasted(q) {
+    q.pasted = NONE;
+    TITLES_PASTED.forEach((name) => {
+        const key = q.has('rft.' + name) ? 'rft.' + name : name;
+        const it = q.has(key) ? identifying.pastedIn(q.first(key)) : null;
+        if (it === null || (it.rest !== '' && is(NOTICE(), q.first(key)))) return;
+        const found = it.found.filter((one) => isNew(q, one));
+        if (found.length === 0) return;
+        q.pasted = q.pasted.concat(found);
+        q.drop('rft.' + name);
+        q.drop(name);
+        const rest = key === 'title' ? TITLES[kindOf(q)] : 'rft.' + name;
+        if (it.rest !== '' && !q.has(rest)) q.put(rest, [it.rest]);
+    });
+}
+function isNew(q, found) {
+    const isSame = (it) => it[0] === found[0];
+    if (found[0] !== 'rft.isbn') return !SOURCES.some((source) => identifiersUnder(q, source).some(isSame));
+    if (isbnsOf(q).length > 0) return false;
+    q.put('rft.isbn', [found[1]]);
+    return true;
+}
+
+// The number of PMC is in `rft_id` as one address, whatever its form was; that of arXiv is a DOI if there is no other.
 function identifiers(q) {
     const sources = SOURCES.filter((source) => q.has(source));
-    if (sources.length === 0) return;
+    if (sources.length === 0 && q.pasted.length === 0) return;
     const known = Object.create(null);
-    const numbersOf = { 'rft.issn': [], 'rft.isbn': [] };
+    const others = { 'rft.issn': [], 'rft.isbn': [], arxiv: [], pmc: [] };
+    const put = (found, isUri) => {
+        if (others[found[0]]) others[found[0]].push(found[1]);
+        else if (!q.has(found[0])) q.add(found[0], found[1]);
+        const uri = found[2].toLowerCase();
+        if (!isUri && known[uri] !== true) q.add('rft_id', found[2]);
+        known[uri] = true;
+    };
     sources.forEach((source) => {
-        q.all(source).map((value) => identifierIn(value, source)).filter(Boolean).forEach((found) => {
-            if (numbersOf[found[0]]) numbersOf[found[0]].push(found[1]);
-            else if (!q.has(found[0])) q.add(found[0], found[1]);
-            const uri = found[2].toLowerCase();
+        q.all(source).forEach((value) => {
+            const found = identifying.identifierIn(value, source);
+            if (found === null) return;
             if (source !== 'rft_id') q.copied[source] = true;
-            if (source !== 'rft_id' && known[uri] !== true) q.add('rft_id', found[2]);
-            known[uri] = true;
+            put(found, source === 'rft_id' && (found[0] !== 'pmc' || found[2] === value));
         });
     });
-    Object.keys(numbersOf).forEach((key) => {
+    q.pasted.forEach((found) => { put(found, found[0] === 'rft.isbn'); });
+    if (others.arxiv.length > 0 && !q.has('x.doi')) q.add('x.doi', others.arxiv[0]);
+    ['rft.issn', 'rft.isbn'].forEach((key) => {
         const kind = key === 'rft.issn' ? numbers.ISSN : numbers.ISBN;
-        if (numbersOf[key].length === 0 || numbers.numbersIn(q.all(key), kind, 1).length > 0) return;
-        q.put(key, numbersOf[key].concat(q.added[key] || NONE));
+        if (others[key].length === 0 || numbers.numbersIn(q.all(key), kind, 1).length > 0) return;
+        q.put(key, others[key].concat(q.added[key] || NONE));
     });
 }
 
@@ -252,36 +294,6 @@ function date(q) {
     q.lead('x.to', days[1]);
 }
 
-// `Vol. 53`, `No. 5`, `Pt 8`, `53(2)`, `53 (2003)`. A value of other words stays what it is.
-const OF_ISSUE = 'nos?|nr|num(?:ber)?|n[\u00b0\u00ba]|iss(?:ue)?|heft';
-const WORD = '(?:(?:vol(?:ume)?s?|bd|band|tom[eo]?|jg|jahrgang|pt|part|' + OF_ISSUE + ')[.:]?\\s*|[vtnh][.:\\s]\\s*)';
-const ISSUE = '(?:(?:' + OF_ISSUE + ')[.:]?\\s*|[nh][.:\\s]\\s*)';
-const COUNT = '([a-z]{0,3}\\d+[a-z]{0,3}(?:[-\\/\u2013]\\d+[a-z]{0,3})?)';
-const ONE = texts.lazy('^' + WORD + '?' + COUNT + '[.,]?$', 'i');
-const BOTH = texts.lazy('^' + WORD + '?' + COUNT + '\\s*(?:\\(\\s*' + ISSUE + '?' + COUNT + '\\s*\\)|[,;]?\\s*'
-    + ISSUE + COUNT + ')$', 'i');
-function volume(q) {
-    ['rft.volume', 'rft.issue'].forEach((key) => {
-        if (!q.has(key) || String(Number(q.first(key))) === q.first(key)) return;
-        const text = numbers.plain(q.first(key));
-        if (is(ONE(), text)) q.lead(key, ONE().exec(text)[1]);
-        if (!is(BOTH(), text)) return;
-        const found = BOTH().exec(text);
-        if (is(/^[12]\d{3}$/, found[2] || '')) return q.lead(key, found[1]);  // a year in brackets
-        const values = { 'rft.volume': found[1], 'rft.issue': found[2] || found[3] };
-        const other = key === 'rft.volume' ? 'rft.issue' : 'rft.volume';
-        if (key === 'rft.issue' && q.has(other) && q.first(other) !== found[1]) return;  // parts of an issue
-        q.lead(key, values[key]);
-        if (!q.has(other)) q.add(other, values[other]);
-    });
-}
-
-function page(q) {
-    if (q.has('rft.spage')) return;
-    const text = numbers.plain(q.first('rft.pages'));
-    const found = /^\W*(?:pages?|pp?)?[.:\s]*([ivxlcdm]+\b|[a-z]{0,3}\d+)/i.exec(text) || /([a-z]{0,3}\d+)/i.exec(text);
-    if (found !== null) q.add('rft.spage', found[1]);
-}
 function encoding(q) {
     const isOther = q.encoding !== '' && q.encoding !== 'unicode' && q.encoding !== 'unknown';
     if (isOther || q.decodedTexts > 0) q.set('ctx_enc', 'info:ofi/enc:UTF-8');
