@@ -2,11 +2,11 @@
 //! written to any output (RFC 9110 and RFC 9112; RFC 6585, section 5, for status 431). [`serve_on`] serves the
 //! connections of a listener one at a time, each with one exchange.
 //!
-//! Differences from the standard, with their tests in `checks/commands.d`:
-//! - A connection has one request and one reply (`test_one_exchange_a_connection` in `connections.py`); whatever
-//!   follows the request's head is ignored (`test_whole_requests` in `requests_over_http.py`).
-//! - There is no clock, and so no Date field (every reply in `requests_over_http.py` is compared as a whole).
-//! - Every method other than GET and HEAD gets 405 (`test_methods_and_targets` in `requests_over_http.py`).
+//! Differences from the standard, with their tests in `tests/commands`:
+//! - A connection has one request and one reply (`test_one_exchange_a_connection` in `test_connections.py`); whatever
+//!   follows the request's head is ignored (`test_whole_requests` in `test_requests_over_http.py`).
+//! - There is no clock, and so no Date field (every reply in `test_requests_over_http.py` is compared as a whole).
+//! - Every method other than GET and HEAD gets 405 (`test_methods_and_targets` in `test_requests_over_http.py`).
 //!
 //! ```rust
 //! let registry = Registry::new(rt.alloc());

@@ -47,7 +47,7 @@ fn route_without_head(bytes: &[u8]) -> Route<'_>
 /// begins neither with `/` nor with `http://` or `https://` and an authority (sections 3.2.1 and 3.2.2); its path is
 /// none of the pages. Nothing is allocated.
 ///
-/// Differences from RFC 9112, each with its test in `checks/commands.d/requests_over_http.py`:
+/// Differences from RFC 9112, each with its test in `tests/commands/test_requests_over_http.py`:
 /// - Only the versions 1.0 and 1.1 are accepted, so HTTP/1.2 is a bad request (`test_whole_requests`).
 /// - Of the methods only GET and HEAD are served (`test_methods_and_targets`).
 /// - The value of the Host field is not examined, only the number of Host fields (`test_whole_requests`).

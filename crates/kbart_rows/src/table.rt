@@ -38,11 +38,11 @@ use target_vars::{Env, VarsError};
 
 /// A holdings table; contracts see the cells of its header and of its rows.
 ///
-/// Differences from NISO RP-9-2014, each with its test in `checks/commands.d/tables.py`:
+/// Differences from NISO RP-9-2014, each with its test in `tests/commands/test_tables.py`:
 /// - Columns may come in any order, and none is required; a column is found by its exact name
 ///   (`test_lines_and_cells`).
-/// - Only `print_identifier` and `online_identifier` have a meaning here (`test_keys_and_columns` in `keys.py`). Every
-///   other column, even one that the practice does not name, is just a variable (`test_lines_and_cells`).
+/// - Only `print_identifier` and `online_identifier` have a meaning here (`test_keys_and_columns` in `test_keys.py`).
+///   Every other column, even one that the practice does not name, is just a variable (`test_lines_and_cells`).
 /// - If several columns have the same name, the first one counts, even in a row in which its cell is empty
 ///   (`test_lines_and_cells`). A name may be empty (`reads_cells` in the crate `menu_tests`).
 /// - Quotes are plain characters, cells are not trimmed, and `#` does not begin a comment (`test_lines_and_cells`).
@@ -51,8 +51,8 @@ use target_vars::{Env, VarsError};
 /// - One byte order mark at the beginning is dropped (`test_lines_and_cells`).
 /// - An empty or missing cell is undefined. Cells beyond the columns of the header are ignored, but their bytes count
 ///   (`test_lines_and_cells`, `test_faults`).
-/// - A table has at most 16,777,216 bytes (`test_limit_of_bytes` in `holdings.py`) and 200,000 rows, and a line at most
-///   65,536 bytes of cells and tabs (`test_faults`).
+/// - A table has at most 16,777,216 bytes (`test_limit_of_bytes` in `test_holdings.py`) and 200,000 rows, and a line at
+///   most 65,536 bytes of cells and tabs (`test_faults`).
 #[derive(Drop)]
 pub struct Table {
     // The first line is the header.

@@ -25,7 +25,7 @@ pub const MAX_PAIRS: usize = 4_096;
 /// dropped, and the others are decoded, with U+FFFD for bytes that are not UTF-8. The versions are
 /// compared decoded.
 ///
-/// Differences from the standard, each with its test in `checks/commands.d/requests.py`:
+/// Differences from the standard, each with its test in `tests/commands/test_requests.py`:
 /// - `ctx_ver` and `url_ver` may be missing; if one is given more than once, its first value counts
 ///   (`test_refused_queries`).
 /// - Texts are read as UTF-8 whatever `ctx_enc` says; bytes that are not UTF-8 become U+FFFD (`test_first_values`).

@@ -1,4 +1,4 @@
-//! Tests that `checks/allocations` runs with each of their allocations failing in turn: what a call returns then, and
+//! Tests that `./test allocations` runs with each of their allocations failing in turn: what a call returns then, and
 //! what it leaves. If an allocation of the tested call fails, the test compares this and then ends with the error
 //! `CALL: out of memory`.
 #![tactic(auto)]
@@ -15,7 +15,7 @@ use std::alloc::Global;
 #[cfg(test)]
 use std::test::Fail;
 
-/// The last allocation of each test, by which `checks/allocations` sees that it has tried them all.
+/// The last allocation of each test, by which `./test allocations` sees that it has tried them all.
 #[cfg(test)]
 fn allocate_last(alloc: Global) -> Result<(), Fail> {
     match String::from_str(alloc, "last") {

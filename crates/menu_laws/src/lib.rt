@@ -1,6 +1,6 @@
 //! Laws of menus that a library can rely on: what one target, one key of a request and one update of a table can
 //! change, which host a link can have, and how much work a request is. Each law is the contract of a function with an
-//! empty body. `sweeps/edits` has wrong definitions and missing premises with which the prover refuses them.
+//! empty body. `edits/` has wrong definitions and missing premises with which the prover refuses them.
 #![tactic(auto)]
 
 mod hosts;

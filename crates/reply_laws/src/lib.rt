@@ -1,4 +1,4 @@
-//! Laws of the replies of the HTTP front. Each law is the contract of a function with an empty body. `sweeps/edits` has
+//! Laws of the replies of the HTTP front. Each law is the contract of a function with an empty body. `edits/` has
 //! wrong definitions and missing premises with which the prover refuses them.
 #![tactic(auto)]
 

@@ -25,14 +25,14 @@ pub const MAX_BYTES: usize = 8192;
 /// A template: its text and its tree (RFC 6570, section 2).
 ///
 /// Differences from RFC 6570, each with its test:
-/// - The apostrophe is a literal (`test_other_texts` in `checks/commands.d/templates.py`).
+/// - The apostrophe is a literal (`test_other_texts` in `tests/commands/test_templates.py`).
 /// - The operators that the RFC reserves are errors (`test_braces_and_operators` in
-///   `checks/commands.d/template_errors.py`).
+///   `tests/commands/test_template_errors.py`).
 /// - A template has at most 8,192 bytes, and a name at most 255 (`test_limits` in
-///   `checks/commands.d/template_errors.py`).
+///   `tests/commands/test_template_errors.py`).
 /// - There are no associative arrays: a variable is a text or a list (`test_examples_of_the_standard` in
-///   `checks/commands.d/rfc6570.py` has the RFC's other examples).
-/// - A list with a prefix is undefined (`test_lists` in `checks/commands.d/templates.py`).
+///   `tests/commands/test_rfc6570.py` has the RFC's other examples).
+/// - A list with a prefix is undefined (`test_lists` in `tests/commands/test_templates.py`).
 #[derive(Drop)]
 pub struct Template {
     text: Text,

@@ -140,7 +140,7 @@ const LAST: &str = "LIST r0 n1, EACH r1 r0 3, NEXT, PUT r1 u, HALT";
 const TWO: &[Entry] = &[(true, "list", "A", 1), (true, "list", "B", 1)];
 
 /// What a rule with a guard `counts` and a link of that list is compiled to (`COUNTS_LISTING` in
-/// `checks/commands.d/compiled_rules.py`).
+/// `tests/commands/test_compiled_rules.py`).
 const COUNTED: &str =
     "LIST r0 n1, COUNT r1 r0, CONST r2 l7, NUMBER r3 r2 5, LESS r1 r3 17, EMIT l9, CONST r4 l2, \
     LIST r0 n1, NOLIST r0 16, EMPTY r4 11, EMIT l0, CONST r4 l7, EACH r5 r0 16, SEP l0, PUT r5 u, NEXT, HALT, FAIL";
