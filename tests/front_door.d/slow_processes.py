@@ -1,0 +1,63 @@
+"""A process that takes five seconds for a menu. Readers get no page of it, and so no probe of an update may hold there:
+both ask the processes by the same file of front_door."""
+import contextlib, select, socket, threading
+from openlink_update.site import front_door, probing
+from cut_short import ARTICLE, WHOLE
+
+SECONDS = 5  # nginx leaves a process after three
+
+
+class Process(threading.Thread):
+    """Listens at a port, and gives each connection its reply after some seconds, unless the other side ends it."""
+
+    def __init__(self, port, seconds):
+        super().__init__(daemon=True)
+        self.seconds, self.listener = seconds, socket.create_server(("127.0.0.1", port))
+        self.start()
+
+    def run(self):
+        while True:
+            try:
+                peer, _ = self.listener.accept()
+            except OSError:  # closed
+                return
+            threading.Thread(target=self.serve, args=(peer,), daemon=True).start()
+
+    def serve(self, peer):
+        with peer, contextlib.suppress(OSError):
+            request = b""
+            while b"\r\n\r\n" not in request and (part := peer.recv(65536)):
+                request += part
+            is_ended, _, _ = select.select([peer], [], [], self.seconds)
+            if not is_ended:
+                peer.sendall(WHOLE.encode())
+
+    def stop(self):
+        self.listener.shutdown(socket.SHUT_RDWR)
+        self.listener.close()
+        self.join()
+
+
+def links_at(probe, address):
+    """The names of the links that a probe finds there, or why there are none."""
+    try:
+        return [name for name, _ in probe.links(address, ARTICLE)]
+    except probe.Unreachable as fault:
+        return str(fault).removeprefix(f"{address}: ")
+
+
+def test(site, expect):
+    """All processes have ended."""
+    probe = probing.load_probe("update")
+    with front_door.FrontDoor(front_door.Site(site.path("openlink.conf")), site.path("trial")) as doors:
+        door = doors.add_door(site.ports[:1], site.version(), "")
+        doors.start()
+        refused = f"status 503 for /find.json?{ARTICLE}"
+        for seconds, expected in ((0, ["tidal-press"]), (SECONDS, refused)):
+            processes = [Process(port, seconds) for port in site.ports]
+            try:
+                for name, address in (("readers", f"http://127.0.0.1:{site.port}"), ("probes", door)):
+                    expect(f"{name}, of processes that take {seconds} s", links_at(probe, address), expected)
+            finally:
+                for process in processes:
+                    process.stop()

@@ -1,0 +1,80 @@
+"""Embargoes: everything that the update makes of a cell reads it in the same way. Worked out by hand for 2026-11-27."""
+import os, re
+from counting import expect
+from openlink_update.tables import coverage
+from openlink_update.exports import kbart_file, scholar
+from openlink_update.exports.registry import tables_of
+from openlink_update.exports.site_names import SiteNames
+from versions import DAY, HEADER, Weeks, table
+
+OPEN = ("", "19950101", "99999999", "1995", "")
+# A cell of a row that begins in 1995: its last date as it is served, coverage_from, coverage_to, the dates and the
+# embargo in the index, the days that Google Scholar gets, and whether the wall moves within a year.
+CASES = {
+    "about P6M": (*OPEN, False), "GROUP3M": (*OPEN, False), "6 months": (*OPEN, False), "": (*OPEN, False),
+    "P6": (*OPEN, False), "XP6M": (*OPEN, False), "P6M,R5Y": (*OPEN, False), "P6M;": (*OPEN, False),
+    "p1y": ("2025-11", "19950101", "20251127", "1995 - P1Y", "366", False),
+    "P 6 M": ("2026-05", "19950101", "20260527", "1995 - P6M", "183", True),
+    "P6M; R5Y": ("2026-05", "20211128", "20260527", "1995 - P6M,R5Y", "183", True),
+    "R10Y;P30D": ("2026-10-28", "20161128", "20261028", "1995 - R10Y,P30D", "30", True),
+    "P6M;P1Y": ("2025-11", "19950101", "20251127", "1995 - P6M,P1Y", "366", True),
+    "R2Y": ("", "20241128", "99999999", "1995 - R2Y", "", False),
+}
+
+
+def row(number, embargo, last=""):
+    return (f"Title {number}", f"{3000 + number}-0000", "", "1995", last, "https://x.example.org/", "t", embargo,
+            "fulltext", "serial")
+
+
+def index_entries(version):
+    """The dates and the embargo of each row in the index of a version, by its number."""
+    found, folder = {}, os.path.join(version, "index", "keys")
+    for name in os.listdir(folder):
+        with open(os.path.join(folder, name), encoding="utf-8") as file:
+            for cells in (line.split("\t") for line in file):
+                if re.fullmatch(r"\d{4}-0000", cells[0]):
+                    found[cells[0]] = cells[4].rstrip("\n").partition(" ")[2].partition(" ")[2]
+    return found
+
+
+def test_one_reading():
+    """The last date, the days, the report, the index and the exports agree about each cell."""
+    rows = [row(number, cell) for number, cell in enumerate(CASES)]
+    with Weeks() as weeks:
+        weeks.deliver("x", table(*rows))
+        said = weeks.make()
+        served, unused = weeks.rows("x")[1], [cell for cell, it in CASES.items() if cell and it[:5] == OPEN]
+        weeks.maker.make_index(True)
+        entries = index_entries(weeks.version)
+        exported = [line.split("\t") for line in kbart_file.lines(tables_of(weeks.version), SiteNames(None), DAY)]
+        items = list(scholar.items(kbart_file.rows_of(weeks.read("tables/x.txt"), DAY), "x", DAY))
+    expect("what is said", said, [f"x: new, {len(CASES)} rows", f"  embargo_info not an embargo {len(unused)}, first 0 "
+                                  '"about P6M": not used'])
+    expect("all are served, exported and in the index", (len(served), len(exported), len(items), len(entries)),
+           (len(CASES), len(CASES) + 1, len(CASES), len(CASES)))
+    for number, (cell, (last, start, end, entry, days, is_moving)) in enumerate(CASES.items()):
+        expect(f"{cell!r}: last date, days", (served[number][4], *served[number][-2:]), (last, start, end))
+        expect(f"{cell!r}: the index", entries[f"{3000 + number}-0000"], entry)
+        found = dict(zip(exported[0], exported[1 + number]))
+        expect(f"{cell!r}: the export has the provider's cells",
+               (found["date_last_issue_online"], found["embargo_info"]), ("", cell))
+        closed = re.search(r"<days_not_available>(\d+)<", items[number])
+        expect(f"{cell!r}: the days for Google Scholar", closed[1] if closed else "", days)
+        expect(f"{cell!r}: whether the wall moves daily", coverage.has_walls(table(row(0, cell))), is_moving)
+
+
+def test_dates_of_providers():
+    """A row that has a last date keeps it, whatever its embargo."""
+    dates = ("2003-04", "2026-08", "2026-08-27")
+    with Weeks() as weeks:
+        weeks.deliver("x", table(*(row(number, "GROUP3M", date) for number, date in enumerate(dates)),
+                                 row(9, "P6M", "2020")))
+        weeks.make()
+        expect("as they are served", [cells[4] for cells in weeks.rows("x")[1]], [*dates, "2020"])
+        place = HEADER.index("date_last_issue_online")
+        found = list(kbart_file.rows_of(weeks.read("tables/x.txt"), DAY))
+    expect("as they are exported", [it[HEADER[place]] for it in found], [*dates, "2020"])
+
+
+TESTS = [test_one_reading, test_dates_of_providers]

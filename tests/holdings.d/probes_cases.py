@@ -1,0 +1,22 @@
+"""Tests of the source by which the log tells probes from readers."""
+import importlib.machinery, importlib.util
+from counting import expect
+
+MARK = "&rfr_id=info:sid/openlink:probe"
+CASES = [
+    ("issn=2901-0012", True), ("rft.issn=2901-0012&rft.date=2003", True), ("sid=google&issn=2901-0012", False),
+    ("issn=2901-0012&rfr_id=info:sid/a", False), ("issn=2901-0012;sid=a", False), ("SID=a", False),
+    ("issn=1&%73id=a", False), ("rft.issn=sid=a", True), ("pid=sid", True), ("issn=2901-0012&sid", False),
+    ("xsid=a", True),
+]
+
+
+def test_marks():
+    loader = importlib.machinery.SourceFileLoader("probe", "update/probe")
+    probe = importlib.util.module_from_spec(importlib.util.spec_from_loader("probe", loader))
+    loader.exec_module(probe)
+    for query, is_marked in CASES:
+        expect(f"the source of {query}", probe.marked(query), query + MARK if is_marked else query)
+
+
+TESTS = [test_marks]

@@ -1,0 +1,116 @@
+"""Disks that are full or become full. The version before is served, and nothing is left."""
+import contextlib, os, re, resource, shutil, subprocess, sys
+from counting import expect
+from fixture import Library
+
+
+@contextlib.contextmanager
+def disk(library, options):
+    """A folder that is a disk of its own, or None if none can be mounted here."""
+    folder = library.aside("disk")
+    os.mkdir(folder)
+    if subprocess.run(["mount", "-t", "tmpfs", "-o", options, "tmpfs", folder], stderr=subprocess.DEVNULL).returncode:
+        yield None
+        return
+    try:
+        yield folder
+    finally:
+        subprocess.run(["umount", "-l", folder], check=True)
+
+
+def test_full_disk():
+    """Less and less room, until nothing can be made: then the version before is served and nothing is left."""
+    with Library() as aside:
+        with disk(aside, "size=2m") as folder:
+            if folder is None:
+                print("tests/update: no tmpfs can be mounted here: files of limited size are tried, and no full disk",
+                      file=sys.stderr)
+                return test_file_limit(aside)
+            with Library(folder=os.path.join(folder, "library")) as library:
+                rooms = (0, 16, 64, 120, 180, 240, 300, 360, 420, 480)
+                statuses = fill(library, rooms, lambda room: fill_bytes(folder, room * 1024))
+                expect(f"a full disk: {statuses}", (set(statuses[:-1]), len(statuses) > 4, statuses[-1]),
+                       ({4}, True, 0))
+
+
+def test_no_file_left():
+    """A disk that has room for more bytes, but only for some files; and one that is filled while processes are
+    restarted, so that not even a link to the version before can be made."""
+    with Library() as aside:
+        with disk(aside, "size=8m,nr_inodes=1000") as folder:
+            if folder is None:
+                return
+            with Library(folder=os.path.join(folder, "library")) as library:
+                statuses = fill(library, (0, 20, 40, 80, 100, 108, 120, 130), lambda room: fill_files(folder, room))
+                expect(f"no file left: {statuses}", (set(statuses[:-1]), len(statuses) > 4, statuses[-1]),
+                       ({4}, True, 0))
+            with Library(folder=os.path.join(folder, "other")) as library:
+                library.input.deliver("B")
+                first, filler = library.current(), os.path.join(folder, "filler")
+                fills = f"mkdir {filler}; touch $(seq -f {filler}/%g 1000) 2>/dev/null; exit 9"
+                status, printed = library.run(restart=f"sh -c '{fills}'")
+                expect(f"a disk that is filled meanwhile: {printed}",
+                       (status, library.current(), library.weeks_served()), (3, first, {"A"}))
+                shutil.rmtree(filler)
+                expect("no longer full", (library.run()[0], library.weeks_served(), library.left_behind()),
+                       (0, {"B"}, []))
+
+
+def test_oldest_away():
+    """The command of OPERATING's chapter "Disk" that deletes the oldest version: the next update is as ever."""
+    with open("docs/OPERATING.md", encoding="utf-8") as file:
+        block = next(it for it in file.read().split("\n## Disk\n")[1].split("```\n")[1::2] if "rm -r" in it)
+    command = next(line for line in block.splitlines() if line.startswith("rm "))
+    with Library() as library:
+        for week in "BA":
+            library.input.deliver(week)
+            expect(f"week {week}", library.run()[0], 0)
+        oldest, *kept = library.versions()
+        subprocess.run(["sh", "-ec", re.sub(r"/etc/openlink/versions/\w+", library.path("versions", oldest), command)],
+                       check=True)
+        expect("versions", library.versions(), kept)
+        library.input.deliver("B")
+        expect("the next week", (library.run()[0], library.weeks_served(), len(library.versions())), (0, {"B"}, 3))
+        expect("and back", (library.run("--back")[0], library.weeks_served()), (0, {"A"}))
+
+
+def fill_bytes(folder, room):
+    with open(os.path.join(folder, "filler"), "wb") as file:
+        file.write(bytes(max(shutil.disk_usage(folder).free - room, 0)))
+
+
+def fill_files(folder, room):
+    os.mkdir(os.path.join(folder, "filler"))
+    for number in range(os.statvfs(folder).f_ffree - room):
+        open(os.path.join(folder, "filler", str(number)), "w").close()
+
+
+def fill(library, rooms, fill_up):
+    """Runs with these rooms on the disk until one has enough. Returns the statuses of the runs."""
+    library.input.deliver("B")
+    first, statuses, filler = library.current(), [], os.path.join(os.path.dirname(library.folder), "filler")
+    for room in rooms:
+        fill_up(room)
+        status, printed = library.run()
+        statuses.append(status)
+        shutil.rmtree(filler) if os.path.isdir(filler) else os.unlink(filler)
+        is_new = status == 0
+        expect(f"room {room}, the reason: {printed}", is_new or "No space left on device" in printed)
+        expect(f"room {room}: {printed}", (library.current() != first, library.weeks_served(), library.left_behind()),
+               (is_new, {"B" if is_new else "A"}, []))
+        if is_new:
+            break
+    library.input.deliver("B")
+    expect("no longer full", (library.run()[0], library.weeks_served()), (0, {"B"}))
+    return statuses
+
+
+def test_file_limit(library):
+    library.input.deliver("B")
+    first = library.current()
+    child = subprocess.run(library.words(), capture_output=True, text=True,
+                           preexec_fn=lambda: resource.setrlimit(resource.RLIMIT_FSIZE, (600, 600)))
+    expect(f"a limit: {child.stderr}", (child.returncode, library.current(), library.left_behind()), (4, first, []))
+
+
+TESTS = [test_full_disk, test_no_file_left, test_oldest_away]

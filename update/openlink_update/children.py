@@ -1,0 +1,76 @@
+"""Processes that end with this one, even if it is killed; and free ports for them."""
+import ctypes, os, random, resource, signal, socket, subprocess, time
+from openlink_update.outcome import DEVICE, Failure
+
+DEATH_SIGNAL = 1  # PR_SET_PDEATHSIG of prctl
+LIBC = ctypes.CDLL(None)
+PORTS = range(20000, 32000)  # below those that the system gives to clients, from 32768 on
+claimed = []  # the sockets whose names are those of ports that this process took
+
+
+def tied(most_bytes=None):
+    """What a child calls before its command starts: it gets SIGTERM when this process ends, and writes no longer
+    files."""
+    parent = os.getpid()
+
+    def tie():
+        LIBC.prctl(DEATH_SIGNAL, signal.SIGTERM)
+        if os.getppid() != parent:
+            os._exit(1)
+        if most_bytes is not None:
+            hard = resource.getrlimit(resource.RLIMIT_FSIZE)[1]
+            most = most_bytes if hard == resource.RLIM_INFINITY else min(most_bytes, hard)
+            resource.setrlimit(resource.RLIMIT_FSIZE, (most, hard))
+
+    return tie
+
+
+def start(words, folder, most_bytes=None, **how):
+    """Starts a command that ends with this process."""
+    how = {"stdin": subprocess.DEVNULL, "start_new_session": True, **how}
+    return subprocess.Popen(words, cwd=folder, preexec_fn=tied(most_bytes), **how)
+
+
+def stop(child):
+    if child.poll() is None:
+        child.terminate()
+        try:
+            child.wait(10)
+        except subprocess.TimeoutExpired:
+            child.kill()
+            child.wait()
+
+
+def is_open(port):
+    """Whether something listens at a port of this machine."""
+    try:
+        socket.create_connection(("127.0.0.1", port), 1).close()
+        return True
+    except OSError:
+        return False
+
+
+def free_port():
+    """A port at which nothing listens. No process gets it from here again until this one ends: for so long it holds the
+    name openlink-port-N of an abstract socket. A Failure says that there is none: any user can take these names."""
+    for port in random.sample(PORTS, len(PORTS)):
+        claim = socket.socket(socket.AF_UNIX)
+        try:
+            claim.bind(f"\0openlink-port-{port}")
+            socket.create_server(("127.0.0.1", port)).close()
+            claimed.append(claim)
+            return port
+        except OSError:
+            claim.close()
+    raise Failure(f"no free port from {PORTS[0]} to {PORTS[-1]}: their names openlink-port-N are taken, as `ss -xl` "
+                  "shows, or something listens at each", DEVICE)
+
+
+def wait_for(port, child, seconds):
+    """Whether a child listens at a port before it ends and before the time is over."""
+    end = time.monotonic() + seconds
+    while time.monotonic() < end and child.poll() is None:
+        if is_open(port):
+            return True
+        time.sleep(0.02)
+    return False

@@ -1,0 +1,1 @@
+"""A library's holdings for others."""

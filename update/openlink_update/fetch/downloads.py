@@ -1,0 +1,160 @@
+"""The download of a file: several transfers, since redirects are followed here and a failed try is repeated: curl would
+send a header such as X-Key to every host that it is led to. Several downloads are made side by side, with one
+connection to a host at a time."""
+import http.client, os, re, time, traceback
+from openlink_update.fetch import hosts
+from openlink_update.fetch.hosts import host_of, place_of
+from openlink_update.outcome import Interrupted
+from openlink_update.fetch.transfers import PASSING, WRITE_FAILED, Transfer
+
+MOST_HOSTS = 4  # at once
+MOST_BYTES = 256 * 2**20  # of a file, in all tries
+MOST_REDIRECTS = 5
+MOST_TRIES = 3
+# An address whose host no two programs read in different ways.
+ADDRESS = re.compile(r"https://[A-Za-z0-9.:\[\]-]+(?:[/?#][!-~]*)?", re.I)
+REDIRECTS = (301, 302, 303, 307, 308)
+PASSING_STATUSES = (408, 425, 429, 500, 502, 503, 504)  # another try may end well
+UNCHANGED = 304
+
+
+def fault_of(error):
+    """A line for an error that these scripts did not expect. Its text is not printed: it may repeat a secret."""
+    if isinstance(error, OSError):
+        return f"{error.filename or 'curl'}: {error.strerror}"
+    place = traceback.extract_tb(error.__traceback__)[-1]
+    return f"{type(error).__name__} at {os.path.basename(place.filename)}:{place.lineno}"
+
+
+class Download:
+    """Ends with `is_whole` (the file `body` has all of a reply of status 200), `is_unchanged`, or a `fault`;
+    `has_failed` says that the error is this machine's."""
+
+    def __init__(self, address, headers, conditions, body, seconds, pause):
+        """`headers` go to the host and port of the address alone, `conditions` (ETag and date of what is there) to
+        any."""
+        self.first, self.headers, self.conditions, self.body = address, headers, conditions, body
+        self.limit, self.pause = seconds, pause
+        self.seconds, self.bytes = seconds, MOST_BYTES  # that are left
+        self.address, self.redirects, self.tries, self.ready_at = address, 0, 1, 0
+        self.transfer = self.fault = self.lookup = None
+        self.addresses, self.may_lead_inside = [], False  # those of the host, if a redirect named it
+        self.is_whole = self.is_unchanged = self.has_failed = False
+
+    def host(self):
+        return host_of(self.address)
+
+    def start(self):
+        if os.path.lexists(self.body):
+            os.unlink(self.body)
+        headers = self.headers if place_of(self.address) == place_of(self.first) else []
+        self.transfer = Transfer(self.address, headers + self.conditions, self.body, self.seconds, self.bytes,
+                                 self.addresses)
+
+    def is_done(self):
+        return self.is_whole or self.is_unchanged or self.fault is not None
+
+    def is_ready(self):
+        """Whether it can start, or has ended with a fault. Takes the addresses of a host, once they are looked up."""
+        if self.lookup and self.lookup.has_ended():
+            lookup, self.lookup = self.lookup, None
+            self.seconds -= lookup.took()
+            self.addresses = lookup.addresses()
+            if any(hosts.is_inner(it) for it in self.addresses):
+                self.fault = "a redirect that leads into a private network"
+            elif not self.addresses and not hosts.is_proxied():
+                self.fault = "a redirect that leads to a host whose name is unknown"
+        return self.lookup is None and (self.is_done() or time.monotonic() >= self.ready_at)
+
+    def stop(self):
+        for it in filter(None, (self.lookup, self.transfer)):
+            it.stop()
+
+    def has_ended(self):
+        """Whether the transfer has ended. Then it takes its result: it is the last one, or there will be another."""
+        if self.is_done() or not self.transfer.has_ended():
+            return self.is_done()
+        self.end()
+        return True
+
+    def end(self):
+        transfer = self.transfer
+        transfer.end()
+        self.seconds -= transfer.took()
+        self.bytes -= transfer.written()
+        fault = transfer.fault()
+        if fault:
+            self.has_failed = transfer.exit == WRITE_FAILED and self.bytes > 0
+            self.try_again(fault, transfer.exit in PASSING or transfer.exit < 0)
+        elif transfer.status == 200:
+            self.is_whole = True
+        elif transfer.status == UNCHANGED and self.conditions:
+            self.is_unchanged = True
+        elif transfer.status in REDIRECTS and transfer.redirect:
+            if self.address == self.first:  # with a proxy, nobody here knows to what it was connected
+                self.may_lead_inside = hosts.is_inner(host_of(self.first) if hosts.is_proxied() else transfer.remote)
+            self.follow(transfer.redirect)
+        else:
+            words = http.client.responses.get(transfer.status, "")
+            self.try_again(f"{transfer.status} {words}".strip(), transfer.status in PASSING_STATUSES)
+
+    def follow(self, address):
+        """Goes to the address of a redirect, which curl has completed. Nothing of it is printed: it may repeat a
+        secret."""
+        self.redirects += 1
+        if not address.lower().startswith("https:"):
+            self.fault = "a redirect that leads to no https: address"
+        elif not ADDRESS.fullmatch(address) or not host_of(address):
+            self.fault = "a redirect that leads nowhere"
+        elif self.redirects > MOST_REDIRECTS:
+            self.fault = f"more than {MOST_REDIRECTS} redirects"
+        elif self.seconds < 1:
+            self.fault = f"no end, within {self.limit:g} seconds"
+        else:
+            self.address, self.addresses = address, []
+            self.lookup = None if self.may_lead_inside else hosts.Lookup(host_of(address))
+
+    def try_again(self, fault, may_end_well):
+        """Begins again at the first address after a pause that grows, if there is time for it."""
+        self.ready_at = time.monotonic() + self.pause * 2 ** (self.tries - 1)
+        if self.seconds < 1:
+            self.fault = f"{fault}, within {self.limit:g} seconds"
+        elif not may_end_well or self.tries == MOST_TRIES or self.bytes < 1:
+            self.fault = fault
+        if self.fault:
+            return
+        self.tries += 1
+        self.address, self.redirects, self.addresses = self.first, 0, []
+
+
+def attempt(download, step):
+    """What a step of a download returns. What goes wrong in it is the fault of this download alone, which is then done;
+    so True is returned."""
+    try:
+        return step()
+    except Interrupted:
+        raise
+    except Exception as error:
+        download.fault, download.has_failed = fault_of(error), isinstance(error, OSError)
+        return True
+
+
+def run(downloads):
+    """Yields each of these downloads when it is done."""
+    waiting, running = list(downloads), {}
+    try:
+        while waiting or running:
+            for host in [it for it, download in running.items() if attempt(download, download.has_ended)]:
+                waiting.append(running.pop(host))
+            for download in [it for it in waiting if attempt(it, it.is_ready)]:
+                if download.is_done():
+                    waiting.remove(download)
+                    yield download
+                elif len(running) < MOST_HOSTS and download.host() not in running:
+                    waiting.remove(download)
+                    running[download.host()] = download
+                    attempt(download, download.start)
+            time.sleep(0.02)
+    finally:
+        for download in (*running.values(), *waiting):
+            download.stop()

@@ -1,0 +1,1 @@
+"""The index of a version, by which the front door finds titles."""

@@ -1,0 +1,1 @@
+"""Several libraries on a machine, and several machines."""

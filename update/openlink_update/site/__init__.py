@@ -1,0 +1,1 @@
+"""The front door and the processes of a library."""

@@ -1,0 +1,1 @@
+"""Holdings tables: as they come, prepared, and as they are served."""

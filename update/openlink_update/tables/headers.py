@@ -1,0 +1,123 @@
+"""The header of a table, which may come after other lines, with commas or semicolons, and in another spelling. A table
+with fewer than LEAST names of KBART is used as it is, with its first line as the header, such as ANY.tsv. Quotes that
+do not match reject a file: one that is not closed would take the rows after it into its cell."""
+import csv, itertools, re
+from openlink_update.outcome import Unreadable
+from openlink_update.tables.table_limits import MOST_LINE_BYTES, check_columns
+
+# The 25 columns of NISO RP-9-2014.
+COLUMNS = (
+    "publication_title", "print_identifier", "online_identifier", "date_first_issue_online", "num_first_vol_online",
+    "num_first_issue_online", "date_last_issue_online", "num_last_vol_online", "num_last_issue_online", "title_url",
+    "first_author", "title_id", "embargo_info", "coverage_depth", "notes", "publisher_name", "publication_type",
+    "date_monograph_published_print", "date_monograph_published_online", "monograph_volume", "monograph_edition",
+    "first_editor", "parent_publication_title_id", "preceding_publication_title_id", "access_type",
+)
+LEAST = 3  # names of a header
+MOST_LINES = 20  # in which it is searched
+SEPARATORS = {"\t": "tabs", ",": "commas", ";": "semicolons"}
+AROUND = " \t\"'\xa0\u201c\u201d"
+
+
+def spelling(name):
+    """What two spellings of a name have in common: its letters and digits, in lower case."""
+    return re.sub("[^a-z0-9]", "", name.lower())
+
+
+NAMES = {spelling(name): name for name in COLUMNS}
+
+
+def cells_of(lines, separator, before=0):
+    """Yields the cells of each line that is not blank. Commas and semicolons may be in quotes. `before` is the number
+    of lines of the file before these."""
+    if separator == "\t":
+        yield from (line.split("\t") for line in lines if line)
+        return
+    size = 0  # of the row that is read
+
+    def counted():
+        nonlocal size
+        for line in lines:
+            size += len(line)
+            if size > MOST_LINE_BYTES:  # in several lines, as after a quote that is not closed
+                raise csv.Error
+            yield f"{line}\n"
+
+    reader = csv.reader(counted(), delimiter=separator, strict=True)
+    first = 1  # line of a row
+    try:
+        for cells in reader:
+            check_columns(len(cells), lambda: before + first)  # what is in quotes separates no cells
+            first, size = reader.line_num + 1, 0
+            if cells:
+                yield [cell.replace("\t", " ").replace("\n", " ") for cell in cells]
+    except csv.Error as fault:
+        raise Unreadable(f"line {before + first}: quotes that do not match") from fault
+
+
+def find(lines):
+    """The number of lines before the header (None if there is no header of the standard), and its separator."""
+    for number, line in enumerate(itertools.islice(lines, MOST_LINES)):
+        for separator in "\t" if "\t" in line else ",;":
+            if len(known_names(line, separator)) >= LEAST:
+                return number, separator
+    return None, "\t"
+
+
+def known_names(line, separator):
+    try:
+        cells = next(csv.reader([f"{line}\n"], delimiter=separator, strict=True), []) if separator != "\t" else (
+            line.split("\t"))
+    except csv.Error:
+        return set()
+    return {spelling(cell) for cell in cells} & NAMES.keys()
+
+
+def spelled(cells):
+    """The names of columns as the standard spells them, without spaces and quotes around them. The first of two
+    spellings of one name gets it, unless a column has the name itself."""
+    names = [cell.strip(AROUND) for cell in cells]
+    taken = set(names)
+    for place, name in enumerate(names):
+        standard = NAMES.get(spelling(name))
+        if standard and standard not in taken:
+            names[place] = standard
+            taken.add(standard)
+    return names
+
+
+def lines_of(text):
+    """Yields the lines of a text, so that they are not in memory all at once."""
+    start = 0
+    while (end := text.find("\n", start)) >= 0:
+        yield text[start:end]
+        start = end + 1
+    yield text[start:]
+
+
+def table_of(text):
+    """The header and the rows of a text, and lines that say what was done. Without a header of the standard, the table
+    begins at the first line, with tabs."""
+    top = list(itertools.islice(lines_of(text), MOST_LINES))
+    before, separator = find(top)
+    parsed = [*cells_of(itertools.islice(lines_of(text), before or 0, None), separator, before or 0)]
+    if not parsed:
+        raise Unreadable("it is empty")
+    if before is None:
+        return parsed[0], parsed[1:], []
+    names = spelled(parsed[0])
+    above = sum(1 for line in top[:before] if line)
+    changed = sum(name != cell for name, cell in zip(names, parsed[0]))
+    return names, parsed[1:], told(
+        (f"{SEPARATORS[separator]} between cells", len(parsed) - 1 if separator != "\t" else 0, "row"),
+        ("above the header, left out", above, "line"),
+        ("names of columns as the standard spells them", changed, "cell"))
+
+
+def told(*counts):
+    """A line for each count above 0: what was done, and to how many."""
+    return [f"{what}: {number(count, noun)}" for what, count, noun in counts if count]
+
+
+def number(count, noun):
+    return f"{count} {noun}" if count == 1 else f"{count} {noun}s"

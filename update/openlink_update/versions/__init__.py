@@ -1,0 +1,1 @@
+"""The versions of a library: made from its input, judged, and kept."""
