@@ -1,0 +1,235 @@
+"""Reads declarations into entries, in the order of the file: units of systemd, files of nginx and haproxy, the YAML of
+Kubernetes, control files of Debian and Containerfiles. A ValueError says why a text is none."""
+from __future__ import annotations
+
+import os
+import re
+from collections.abc import Callable
+from collections.abc import Iterator
+from typing import NamedTuple
+
+# A line that an operator may take the # from; in a comment for people one space or two follow it.
+_COMMENTED = re.compile(r"(\s*)#(?=[^\s#]|    )(.*)")
+_TOKEN = re.compile(r"""\s+|\#.*|"(?:\\.|[^"\\])*"|'(?:\\.|[^'\\])*'|[;{}]|(?!["'])(?:\$\{\w+\}|\\.|[^\s;{}])+""")
+_PLACEHOLDER = re.compile(r"@[A-Z]+@")
+_FIELD = re.compile(r"([A-Z][\w-]*):(?: (.*))?")
+_KEY = re.compile(r"([\w./-]+):(?: +(.*))?", re.A)
+
+
+class Entry(NamedTuple):
+    """A directive with its value, and the section or the blocks that it is in."""
+
+    place: str
+    name: str
+    value: str
+
+
+def is_commented(line: str) -> bool:
+    """Whether a line is a directive that an operator may take out of its comment."""
+    return bool(_COMMENTED.fullmatch(line))
+
+
+def _words(text: str) -> str:
+    return " ".join(text.split())
+
+
+def _joined(text: str) -> Iterator[str]:
+    """The lines without comments and blank ones, and each that a backslash ends with the next."""
+    started = ""
+    for line in text.splitlines():
+        if line.lstrip().startswith(("#", ";")) or not started and not line.strip():
+            continue
+        if line.endswith("\\"):
+            started += line[:-1] + " "
+        else:
+            yield started + line
+            started = ""
+    if started:
+        raise ValueError("the last line ends with a backslash")
+
+
+def unit(text: str) -> list[Entry]:
+    """A unit of systemd."""
+    found, section = [], ""
+    for line in _joined(text):
+        if line.startswith("["):
+            section = line.strip()
+            found.append(Entry("", section, ""))
+            continue
+        name, equals, value = line.partition("=")
+        if not equals or not section:
+            raise ValueError(f"no directive: {line}")
+        found.append(Entry(section, name.strip(), _words(value)))
+    return found
+
+
+def nginx(text: str) -> list[Entry]:
+    """A file of nginx. The name of a directive that an operator may take out of a comment begins with #."""
+    found: list[Entry] = []
+    blocks: list[str] = []
+    tokens: list[str] = []
+    mark = ""
+    for token, commented in _tokens(text):
+        if not tokens:
+            mark = commented
+        if token in (";", "{") and tokens:
+            name, *rest = tokens
+            found.append(Entry(" > ".join(blocks), mark + name, " ".join(rest + ["{"] * (token == "{"))))
+            blocks += [" ".join(tokens)] * (token == "{")
+            tokens = []
+        elif token == "}" and blocks and not tokens:
+            blocks.pop()
+        elif token in (";", "{", "}"):
+            raise ValueError(f"a {token} after {tokens or 'no directive'}")
+        elif not tokens and _PLACEHOLDER.fullmatch(token):
+            found.append(Entry(" > ".join(blocks), token, ""))
+        else:
+            tokens.append(token)
+    if blocks or tokens:
+        raise ValueError(f"the file ends within {blocks[-1] if blocks else tokens[0]}")
+    return found
+
+
+def _tokens(text: str) -> Iterator[tuple[str, str]]:
+    """The tokens of nginx, each with "#" if its line is a comment that an operator may take away, or with ""."""
+    for line in text.splitlines():
+        commented = _COMMENTED.fullmatch(line)
+        code, at = commented[2] if commented else line, 0
+        while at < len(code):
+            match = _TOKEN.match(code, at)
+            if not match:
+                raise ValueError(f"no token: {code[at:]}")
+            at = match.end()
+            if not match[0].isspace() and not match[0].startswith("#"):
+                yield match[0], "#" if commented else ""
+
+
+def haproxy(text: str) -> list[Entry]:
+    """A file of haproxy, with the same mark."""
+    found, section = [], ""
+    for line in text.splitlines():
+        commented = _COMMENTED.fullmatch(line)
+        code = commented[1] + commented[2] if commented else line
+        words = _words(re.sub(r"(^|\s)#.*", "", code))
+        if not words:
+            continue
+        name, _, value = words.partition(" ")
+        if not code[0].isspace():
+            section = words
+        found.append(Entry("" if section == words else section, ("#" if commented else "") + name, value))
+    return found
+
+
+def yaml(text: str) -> list[Entry]:
+    """The YAML of one object: blocks of names and lists. The blocks of a list are numbered from 1, and the items of one
+    that are no blocks are the value of its name, separated by commas."""
+    found: list[Entry] = []
+    blocks = [_Block(-1, "")]
+    for indent, name, value in _parts(text):
+        while blocks[-1].indent >= indent:
+            blocks.pop()
+        block = blocks[-1]
+        if block.value or block.below not in (-1, indent):
+            raise ValueError(f"{name or value} has another indent than what is beside it")
+        if block.below == -1 and block.name and not block.is_item:
+            found.pop()  # the name, which has this below it
+        block.below = indent
+        block.items += 1
+        if name == "-" and value is not None:
+            if block.items > 1:
+                value = f"{found.pop().value}, {value}"
+            found.append(Entry(_place(blocks[:-1]), block.name, value))
+        elif name != "-":
+            found.append(Entry(_place(blocks), name, value or ""))
+        blocks.append(_Block(indent, str(block.items) if name == "-" else name, value or "", name == "-"))
+    return found
+
+
+def _place(blocks: list[_Block]) -> str:
+    return " > ".join(it.name for it in blocks[1:])
+
+
+class _Block:
+    """A name or an item of a list, with the indent of what is below it, and how many names or items that is up to
+    now."""
+
+    def __init__(self, indent: int, name: str, value: str = "", is_item: bool = False) -> None:
+        self.indent, self.name, self.value, self.is_item = indent, name, value, is_item
+        self.below, self.items = -1, 0
+
+
+def _parts(text: str) -> Iterator[tuple[int, str, str | None]]:
+    """Each name and each item with its indent and its value: "" for a block below it. An item whose first name is on
+    its line has the value None."""
+    for line in text.splitlines():
+        content = line if '"' in line else re.sub(r"(^|\s+)#.*", "", line)
+        indent, rest = len(content) - len(content.lstrip()), content.strip()
+        while rest.startswith("- "):
+            match = _KEY.fullmatch(rest[2:].strip())
+            if not match and not rest[2:].lstrip().startswith("- "):
+                yield indent, "-", rest[2:].strip()
+                rest = ""
+                break
+            yield indent, "-", None
+            indent += len(rest) - len(rest[2:].lstrip())
+            rest = rest[2:].strip()
+        if rest:
+            match = _KEY.fullmatch(rest)
+            if not match:
+                raise ValueError(f"no name: {line}")
+            yield indent, match[1], match[2] or ""
+
+
+def control(text: str) -> list[Entry]:
+    """A control file of Debian: fields, and the further lines of one."""
+    found, field = [], ""
+    for line in text.splitlines():
+        match = _FIELD.fullmatch(line)
+        if match:
+            field = match[1]
+            found.append(Entry("", field, match[2] or ""))
+        elif line.startswith(" ") and field:
+            found.append(Entry(field, "+", line[1:]))
+        elif line:
+            raise ValueError(f"no field: {line}")
+    return found
+
+
+def container(text: str) -> list[Entry]:
+    """A Containerfile: its instructions, and each command of a RUN apart."""
+    found = []
+    for line in _joined(text):
+        name, _, value = _words(line).partition(" ")
+        if not name.isupper() or not value:
+            raise ValueError(f"no instruction: {line}")
+        if name != "RUN":
+            found.append(Entry("", name, value))
+            continue
+        run = f"RUN {sum(it.name == 'RUN' for it in found) + 1}"
+        commands = value.split(" && ")
+        found.append(Entry("", "RUN", f"{len(commands)} commands"))
+        found += [Entry(run, command.partition(" ")[0], command.partition(" ")[2]) for command in commands]
+    return found
+
+
+def plain(text: str) -> list[Entry]:
+    """A file of lines, each a subject and what is said of it."""
+    return [Entry("", *line.partition(" ")[::2]) for line in _joined(text)]
+
+
+_READERS: dict[str, Callable[[str], list[Entry]]] = {
+    ".service": unit,
+    ".timer": unit,
+    ".conf": nginx,
+    ".cfg": haproxy,
+    ".yaml": yaml,
+    "control": control,
+    "Containerfile": container,
+    "lintian-overrides": plain,
+}
+
+
+def reader(path: str) -> Callable[[str], list[Entry]]:
+    """The reader of a file, by its name."""
+    name = os.path.basename(path)
+    return _READERS[name if name in _READERS else os.path.splitext(name)[1]]

@@ -1,0 +1,32 @@
+"""The images: each instruction of the Containerfiles, and each command of a RUN, is one that its table explains."""
+from __future__ import annotations
+
+import glob
+import re
+
+from fixtures.cases import Case
+from packaging import spoiling
+
+CONTAINER = "packaging/container/Containerfile"
+PATHS = [CONTAINER, "packaging/kubernetes/Containerfile"]
+
+
+class Images(Case):
+    """What the Containerfiles declare."""
+
+    def test_each_instruction_is_as_its_table_says(self) -> None:
+        self.expect("the files", sorted(glob.glob("packaging/**/Containerfile", recursive=True)), PATHS)
+        spoiling.check_files(self, *PATHS)
+
+    def test_each_spoilt_line_is_a_fault(self) -> None:
+        spoiling.check_spoilt(self, *PATHS)
+
+    def test_the_logs_of_the_site_go_to_the_container(self) -> None:
+        with open(CONTAINER, encoding="utf-8") as file:
+            text = file.read()
+        named = set()
+        for path in ("front_door/openlink.conf", "front_door/readers.conf", "front_door/http.conf"):
+            with open(path, encoding="utf-8") as file:
+                named |= set(re.findall(r"^ *(?:access|error)_log (/var/log/\S+?)[ ;]", file.read(), re.M))
+        self.expect("logs of the site", len(named) >= 3)
+        self.expect("logs that the image does not have", [it for it in sorted(named) if it not in text], [])

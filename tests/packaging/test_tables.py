@@ -1,0 +1,59 @@
+"""The tables of expected/ themselves: each row has a reason, and each table has its declaration."""
+from __future__ import annotations
+
+import glob
+
+from fixtures.cases import Case
+from packaging import expected_table
+
+PATH = "packaging/systemd/example.timer"
+TEXT = "[Timer]\nOnCalendar=Mon 04:00\nPersistent=yes\n"
+TABLE = (
+    "# A comment.\n\t[Timer]\t\tthe section of times\n[Timer]\tOnCalendar\tMon 04:00\tonce a week, early\t.*:00\n"
+    "[Timer]\tPersistent\tyes\tno week is missed\n[Timer]\tUnit\t(none)\tits own name is enough\n"
+)
+
+
+class Tables(Case):
+    """What a table finds, and which tables are refused."""
+
+    def faults(self, old: str, new: str) -> str:
+        """The faults of the text with this change."""
+        self.assertIn(old, TEXT)
+        return "\n".join(expected_table.faults(PATH, TEXT.replace(old, new), expected_table.rows_of(TABLE)))
+
+    def test_each_difference_is_a_line(self) -> None:
+        for old, new, wanted in (
+            ("yes", "yes", ""),
+            ("Persistent=yes\n", "", "missing: [[Timer]] Persistent yes: no week is missed"),
+            ("=yes", "=no", "changed to 'no': [[Timer]] Persistent yes: no week is missed"),
+            ("Mon", "Tue", "changed to 'Tue 04:00': [[Timer]] OnCalendar Mon 04:00: once a week, early"),
+            ("=yes\n", "=yes\nUnit=a\n", "must not be there: [[Timer]] Unit a: its own name is enough"),
+            ("=yes\n", "=yes\nA=b\n", "surplus: [[Timer]] A b; if it is right, add the row '[Timer]\\tA\\tb\\tREASON'"),
+            (
+                "[Timer]\nOnCalendar=Mon 04:00\nPersistent=yes",
+                "[Timer]\nPersistent=yes\nOnCalendar=Mon 04:00",
+                "[[Timer]] Persistent yes where the table has [[Timer]] OnCalendar Mon 04:00",
+            ),
+            ("=yes", "", "no directive: Persistent"),
+        ):
+            self.expect(f"{old!r} as {new!r}", self.faults(old, new), f"{PATH}: {wanted}" if wanted else "")
+
+    def test_a_row_without_a_reason_is_refused(self) -> None:
+        for old, new in (
+            ("\tno week is missed", ""),
+            ("no week is missed", "yes"),
+            ("\tOnCalendar", "\t"),
+            (".*:00", ".*:30"),
+            ("once a week, early\t", "once a week, early\tmore\t"),
+        ):
+            self.assertIn(old, TABLE)
+            with self.assertRaises(ValueError, msg=new):
+                expected_table.rows_of(TABLE.replace(old, new))
+            self.compared += 1
+
+    def test_each_table_has_its_declaration(self) -> None:
+        tables = glob.glob(f"{expected_table.FOLDER}/**/*.tsv", recursive=True)
+        paths = [*glob.glob("packaging/**/*", recursive=True), *glob.glob("front_door/*")]
+        self.expect(f"{len(tables)} tables", len(tables) >= 25)
+        self.expect("tables of nothing", set(tables) - {expected_table.table_of(path) for path in paths}, set())
