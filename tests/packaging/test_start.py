@@ -1,12 +1,11 @@
-"""packaging/container/start: it starts nginx and the processes, restarts them one at a time, and ends with nginx. It runs as
-the first process of a namespace, as in a container, with stand-ins for nginx and the program."""
+"""packaging/container/start: it starts nginx and the processes, restarts them one at a time, and ends with nginx. It runs
+as the first process of a namespace, as in a container, with stand-ins for nginx and the program."""
 from __future__ import annotations
 
 import contextlib
 import os
 import shutil
 import signal
-import socket
 import subprocess
 import unittest
 from collections.abc import Callable
@@ -14,6 +13,7 @@ from collections.abc import Callable
 from fixtures import needs
 from fixtures.cases import Case
 from fixtures.patience import wait_until
+from openlink_update import children
 from packaging.standins import Machine
 
 SCRIPT = os.path.abspath("packaging/container/start")
@@ -78,12 +78,6 @@ def has_namespaces() -> bool:
     return subprocess.run([*NAMESPACE, "true"], capture_output=True, check=False).returncode == 0
 
 
-def free_ports(number: int) -> list[str]:
-    with contextlib.ExitStack() as stack:
-        listeners = [stack.enter_context(socket.create_server(("127.0.0.1", 0))) for _ in range(number)]
-        return [str(it.getsockname()[1]) for it in listeners]
-
-
 @needs.root()
 @unittest.skipUnless(has_namespaces(), "no namespace of processes: it needs root, unshare and nsenter of util-linux")
 class Container(Case):
@@ -91,7 +85,7 @@ class Container(Case):
 
     def setUp(self) -> None:
         self.machine = Machine(self)
-        self.ports = free_ports(2)
+        self.ports = [str(children.free_port()) for _ in range(2)]
         for name, text in (("openlink", _PROGRAM), ("nginx", _NGINX), ("setpriv", _SETPRIV), ("sleep", _SLEEP)):
             self.machine.make(f"bin/{name}", text, 0o755)
         first, second = self.ports
