@@ -1,10 +1,19 @@
 """The example of a balancer: each line of haproxy.cfg is one that its table explains."""
 from __future__ import annotations
 
+import contextlib
+import http.client
 import os
 import re
+import shutil
+import ssl
+import subprocess
+import tempfile
 
+from fixtures import needs
 from fixtures.cases import Case
+from fixtures.patience import wait_until
+from openlink_update import children
 from packaging import declarations
 from packaging import spoiling
 
@@ -39,3 +48,80 @@ class Balancer(Case):
                 machines.setdefault(place, []).append(value)
         self.expect("the machine that makes versions", machines["backend maker"], machines["backend machines"][:1])
         self.expect("machines that are drained", machines["backend drained"], machines["backend machines"])
+
+
+@needs.command("haproxy", "openssl")
+class Tls(Case):
+    """haproxy with the lines for TLS taken out of their comments. None of its machines is there."""
+
+    def setUp(self) -> None:
+        self.folder = tempfile.mkdtemp(prefix="haproxy.")
+        self.addCleanup(shutil.rmtree, self.folder)
+        self.plain, self.secure, self.closed = (children.free_port() for _ in range(3))
+        words = [
+            "openssl",
+            "req",
+            "-x509",
+            "-newkey",
+            "rsa:2048",
+            "-nodes",
+            "-days",
+            "2",
+            "-subj",
+            "/CN=a",
+            "-keyout",
+            f"{self.folder}/key",
+            "-out",
+            f"{self.folder}/chain",
+        ]
+        subprocess.run(words, check=True, capture_output=True)
+        with open(f"{self.folder}/certificate", "w", encoding="utf-8") as file:
+            file.write(text_of(f"{self.folder}/chain") + text_of(f"{self.folder}/key"))
+        with open(f"{self.folder}/haproxy.cfg", "w", encoding="utf-8") as file:
+            file.write(self.configuration())
+        child = subprocess.Popen(
+            ["haproxy", "-db", "-f", f"{self.folder}/haproxy.cfg"],
+            stderr=subprocess.DEVNULL,
+            env={**os.environ, "PATH": f"{os.environ.get('PATH', '')}:/usr/sbin"},
+        )
+        self.addCleanup(child.wait)
+        self.addCleanup(child.kill)
+        self.assertTrue(wait_until(lambda: self.replies("GET", "/find")), "haproxy does not start")
+
+    def configuration(self) -> str:
+        """The file with ports of this test, and without what needs root."""
+        text = re.sub(r"^    (chroot|stats|user|group|log /dev/log) .*\n", "", text_of(FILE), flags=re.M)
+        text = re.sub(r"^    #(?=\S)", "    ", text, flags=re.M).replace(
+            "/etc/haproxy/certificate.pem", f"{self.folder}/certificate"
+        )
+        text = re.sub(r"192\.0\.2\.\d+:80 check port 8077", f"127.0.0.1:{self.closed} check", text)
+        return text.replace("bind :80\n", f"bind 127.0.0.1:{self.plain}\n").replace(
+            "bind :443 ", f"bind 127.0.0.1:{self.secure} "
+        )
+
+    def replies(self, method: str, path: str, is_secure: bool = False) -> tuple[int, str | None, str | None] | None:
+        """The status, the address and the HSTS of a reply."""
+        context = ssl.create_default_context(cafile=f"{self.folder}/chain")
+        context.check_hostname = False
+        connection = (
+            http.client.HTTPSConnection("127.0.0.1", self.secure, context=context, timeout=60)
+            if is_secure
+            else http.client.HTTPConnection("127.0.0.1", self.plain, timeout=60)
+        )
+        with contextlib.suppress(ConnectionError), contextlib.closing(connection):
+            connection.request(
+                method, path, body="a=b" if method == "POST" else None, headers={"Host": "links.example"}
+            )
+            reply = connection.getresponse()
+            return reply.status, reply.getheader("Location"), reply.getheader("Strict-Transport-Security")
+        return None
+
+    def test_pages_and_forms_go_to_tls(self) -> None:
+        address = "https://links.example/find?a=b"
+        self.expect("a page", self.replies("GET", "/find?a=b"), (301, address, None))
+        self.expect("a form", self.replies("POST", "/find?a=b"), (308, address, None))
+        self.expect("certbot", self.replies("GET", "/.well-known/acme-challenge/a"), (503, None, None))
+
+    def test_browsers_keep_to_tls(self) -> None:
+        for method in ("GET", "POST"):
+            self.expect(method, self.replies(method, "/find", is_secure=True), (503, None, "max-age=31536000"))
