@@ -224,6 +224,7 @@ _READERS: dict[str, Callable[[str], list[Entry]]] = {
     ".cfg": haproxy,
     ".yaml": yaml,
     "control": control,
+    "copyright": control,
     "Containerfile": container,
     "lintian-overrides": plain,
 }

@@ -8,11 +8,11 @@ from packaging import spoiling
 
 FOLDER = "packaging/debian"
 NAMES = ["control", "copyright", "lintian-overrides", "postinst", "postrm", "prerm"]
-PATHS = [f"{FOLDER}/control", f"{FOLDER}/lintian-overrides"]
+PATHS = [f"{FOLDER}/{name}" for name in NAMES[:3]]
 
 
 class Control(Case):
-    """What the control file and its overrides declare."""
+    """What the control file, the copyright file and the overrides declare."""
 
     def test_each_field_is_as_its_table_says(self) -> None:
         self.expect("the files", sorted(os.listdir(FOLDER)), NAMES)
