@@ -227,6 +227,7 @@ _READERS: dict[str, Callable[[str], list[Entry]]] = {
     "copyright": control,
     "Containerfile": container,
     "lintian-overrides": plain,
+    ".containerignore": plain,
 }
 
 

@@ -1,4 +1,5 @@
-"""The images: each instruction of the Containerfiles, and each command of a RUN, is one that its table explains."""
+"""The images: each instruction of the Containerfiles, each command of a RUN, and each line of .containerignore is one
+that its table explains."""
 from __future__ import annotations
 
 import glob
@@ -9,17 +10,18 @@ from packaging import spoiling
 
 CONTAINER = "packaging/container/Containerfile"
 PATHS = [CONTAINER, "packaging/kubernetes/Containerfile"]
+IGNORED = ".containerignore"
 
 
 class Images(Case):
-    """What the Containerfiles declare."""
+    """What the Containerfiles declare, and what an engine takes for them."""
 
     def test_each_instruction_is_as_its_table_says(self) -> None:
         self.expect("the files", sorted(glob.glob("packaging/**/Containerfile", recursive=True)), PATHS)
-        spoiling.check_files(self, *PATHS)
+        spoiling.check_files(self, *PATHS, IGNORED)
 
     def test_each_spoilt_line_is_a_fault(self) -> None:
-        spoiling.check_spoilt(self, *PATHS)
+        spoiling.check_spoilt(self, *PATHS, IGNORED)
 
     def test_the_logs_of_the_site_go_to_the_container(self) -> None:
         with open(CONTAINER, encoding="utf-8") as file:
