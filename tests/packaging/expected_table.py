@@ -13,6 +13,7 @@ from packaging.declarations import Entry
 
 FOLDER = "tests/packaging/expected"
 NONE = "(none)"
+UNWRITTEN = "REASON"  # in place of a reason that somebody has still to write
 _LEAST_REASON = 3  # words
 
 
@@ -36,7 +37,7 @@ def rows_of(text: str) -> list[Row]:
         if not line or line.startswith("# "):
             continue
         place, name, value, reason, form = (line.split("\t") + [""])[:5] if line.count("\t") in (3, 4) else [""] * 5
-        if not name or len(reason.split()) < _LEAST_REASON:
+        if not name or UNWRITTEN in reason or len(reason.split()) < _LEAST_REASON:
             raise ValueError(f"a row without a reason, or with too few columns: {line}")
         if form and not re.fullmatch(form, value):
             raise ValueError(f"{name}: the value {value} has not the form {form}")
@@ -79,7 +80,7 @@ def _of_surplus(entry: Entry, rows: list[Row]) -> str:
     for row in rows:
         if row.entry == Entry(entry.place, entry.name, NONE):
             return f"must not be there: {_said(entry)}: {row.reason}"
-    return f"surplus: {_said(entry)}; if it is right, add the row " + repr("\t".join([*entry, "REASON"]))
+    return f"surplus: {_said(entry)}; if it is right, add the row " + repr("\t".join([*entry, UNWRITTEN]))
 
 
 def faults_of_file(path: str) -> list[str]:

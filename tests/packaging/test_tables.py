@@ -4,6 +4,7 @@ from __future__ import annotations
 import glob
 
 from fixtures.cases import Case
+from packaging import completing
 from packaging import expected_table
 
 PATH = "packaging/systemd/example.timer"
@@ -51,6 +52,24 @@ class Tables(Case):
             with self.assertRaises(ValueError, msg=new):
                 expected_table.rows_of(TABLE.replace(old, new))
             self.compared += 1
+
+    def test_a_completed_table_keeps_what_was_written(self) -> None:
+        text = TEXT.replace("Mon", "Tue") + "Unit=a.service\nAccuracySec=1s\n"
+        table = completing.completed(PATH, text, TABLE)
+        self.expect_lines(
+            "rows",
+            table,
+            "# A comment.",
+            "[Timer]\tPersistent\tyes\tno week is missed",
+            "[Timer]\tOnCalendar\tTue 04:00\tREASON (before, Mon 04:00: once a week, early)",
+            "[Timer]\tAccuracySec\t1s\tREASON",
+            "[Timer]\tUnit\t(none)\tits own name is enough",
+        )
+        with self.assertRaises(ValueError):
+            expected_table.rows_of(table)
+        written = table.replace("REASON", "since this is so")
+        self.expect("its faults", expected_table.faults(PATH, text, expected_table.rows_of(written)), [])
+        self.expect("nothing is new", completing.completed(PATH, TEXT, TABLE), TABLE)
 
     def test_each_table_has_its_declaration(self) -> None:
         tables = glob.glob(f"{expected_table.FOLDER}/**/*.tsv", recursive=True)
