@@ -9,6 +9,7 @@ import tempfile
 from collections.abc import Mapping
 
 from fixtures.cases import Case
+from fixtures.patience import patience
 
 # Notes its arguments, prints NAME.out, and ends with the first status of NAME.statuses, which it takes out; with 0 if
 # there is none. It uses what the shell has, since PATH has no other command.
@@ -71,7 +72,7 @@ class Machine:
             stdin=subprocess.DEVNULL,
             capture_output=True,
             text=True,
-            timeout=120,
+            timeout=patience(60),
         )
         with open(f"{self.folder}/calls", encoding="utf-8") as file:
             return done.returncode, done.stderr, file.read().splitlines()

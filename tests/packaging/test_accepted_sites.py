@@ -1,5 +1,5 @@
-"""nginx takes the sites as they are: that of openlink.conf with all that an operator may take out of its comments, beside
-balancer.conf, and that of the pods."""
+"""nginx takes the sites as they are: that of openlink.conf with all that an operator may take out of its comments,
+beside balancer.conf, and that of the pods."""
 from __future__ import annotations
 
 import os
