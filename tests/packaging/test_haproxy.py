@@ -52,7 +52,7 @@ class Balancer(Case):
 
 @needs.command("haproxy", "openssl")
 class Tls(Case):
-    """haproxy with the lines for TLS taken out of their comments. None of its machines is there."""
+    """haproxy with the lines for TLS taken out of their comments. None of its machines exists."""
 
     def setUp(self) -> None:
         self.folder = tempfile.mkdtemp(prefix="haproxy.")

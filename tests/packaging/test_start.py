@@ -114,7 +114,9 @@ class Container(Case):
 
     def end(self, process: subprocess.Popen[bytes]) -> None:
         process.kill()
-        process.communicate()
+        process.wait()
+        if process.stderr:
+            process.stderr.close()  # not read to its end: what runs in the container may have it open
 
     def begun(self) -> subprocess.Popen[bytes]:
         """A container that serves."""
