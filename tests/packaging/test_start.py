@@ -136,7 +136,7 @@ class Container(Case):
         self.addCleanup(self.end, process)
         return process
 
-    def wait_for(self, what: str, holds: Callable[[], object], seconds: float = 60) -> None:
+    def wait_for(self, what: str, holds: Callable[[], object], seconds: float = 20) -> None:
         if not wait_until(holds, seconds):
             self.fail(f"{what}: {self.calls()}")
 
@@ -203,7 +203,7 @@ class Starts(Container):
     def test_a_registry_that_cannot_be_loaded_is_refused(self) -> None:
         self.machine.make("resolve.status", "3")
         process = self.begin()
-        self.expect("the status", process.wait(timeout=patience(60)), 3)
+        self.expect("the status", process.wait(timeout=patience(20)), 3)
         self.expect("nothing is started", self.calls(), [TRIAL])
         self.machine.make("resolve.status", "0")
         self.begun()
@@ -211,7 +211,7 @@ class Starts(Container):
     def test_a_site_without_ports_is_refused(self) -> None:
         self.machine.make("etc/nginx/conf.d/openlink.conf", "server { listen 80; }\n")
         process = self.begin()
-        said = process.communicate(timeout=patience(60))[1].decode()
+        said = process.communicate(timeout=patience(20))[1].decode()
         self.expect("the status", (process.returncode, said), (1, "start: openlink.conf names no port of 127.0.0.1\n"))
         self.expect("nothing is started", self.calls(), [])
 
@@ -224,7 +224,7 @@ class Ends(Container):
             self.machine.make("calls", "")
             process = self.begun()
             os.kill(self.first_process, getattr(signal, name))
-            self.expect(f"{name}: the status", process.wait(timeout=patience(60)), 0)
+            self.expect(f"{name}: the status", process.wait(timeout=patience(20)), 0)
             self.expect(f"{name}: nginx", self.calls(f"nginx {name}"), [f"nginx {name}"])
             self.wait_for(f"{name}: {self.left()} is left", lambda: not self.left())
 
@@ -264,7 +264,7 @@ class Restarts(Container):
         since = self.sleeps()
         self.wait_for("it does not wait", lambda: self.sleeps() > since + 10 or process.poll() is not None)
         os.remove(f"{self.machine.folder}/closed.{first}")
-        self.expect("the status", process.wait(timeout=patience(60)), 0)
+        self.expect("the status", process.wait(timeout=patience(20)), 0)
         steps = [
             f"{first} ends",
             again,
@@ -281,7 +281,7 @@ class Restarts(Container):
         self.machine.make("resolve.status", "3")
         self.machine.make("calls", "")
         process = self.restart()
-        self.expect("the status", process.wait(timeout=patience(60)), 3)
+        self.expect("the status", process.wait(timeout=patience(20)), 3)
         self.expect("no process has ended", self.calls(), [TRIAL])
 
     def test_a_process_that_has_ended_by_itself_is_waited_for(self) -> None:
@@ -293,7 +293,7 @@ class Restarts(Container):
         process = self.restart()
         self.wait_for("it does not wait", lambda: self.sleeps() > 3 or process.poll() is not None)
         self.machine.make(f"run/openlink.{first}", "999998\n")
-        self.expect("the status", process.wait(timeout=patience(60)), 0)
+        self.expect("the status", process.wait(timeout=patience(20)), 0)
         self.expect(
             "the next one was restarted",
             self.calls(f"{second} ends", f"{second} listens"),
