@@ -79,13 +79,10 @@ class Tls(Case):
             file.write(text_of(f"{self.folder}/chain") + text_of(f"{self.folder}/key"))
         with open(f"{self.folder}/haproxy.cfg", "w", encoding="utf-8") as file:
             file.write(self.configuration())
-        child = subprocess.Popen(
-            ["haproxy", "-db", "-f", f"{self.folder}/haproxy.cfg"],
-            stderr=subprocess.DEVNULL,
-            env={**os.environ, "PATH": f"{os.environ.get('PATH', '')}:/usr/sbin"},
-        )
-        self.addCleanup(child.wait)
-        self.addCleanup(child.kill)
+        path = f"{os.environ.get('PATH', '')}:/usr/sbin"
+        words = ["haproxy", "-db", "-f", f"{self.folder}/haproxy.cfg"]
+        child = children.start(words, self.folder, stderr=subprocess.DEVNULL, env={**os.environ, "PATH": path})
+        self.addCleanup(children.stop, child)
         self.assertTrue(wait_until(lambda: self.replies("GET", "/find")), "haproxy does not start")
 
     def configuration(self) -> str:

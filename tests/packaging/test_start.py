@@ -18,7 +18,9 @@ from openlink_update import children
 from packaging.standins import Machine
 
 SCRIPT = os.path.abspath("packaging/container/start")
-NAMESPACE = ["unshare", "--pid", "--fork", "--kill-child", "--mount-proc"]
+# It ends with the process of the tests, however that ends.
+NAMESPACE = [shutil.which("setpriv") or "setpriv", "--pdeathsig", "KILL", "unshare", "--pid", "--fork", "--kill-child"]
+NAMESPACE += ["--mount-proc"]
 TRIAL = "openlink resolve registry.tsv rft.issn=0000-0000 in first"
 RIGHTS = (
     "--reuid nobody --regid nogroup --clear-groups --no-new-privs --bounding-set=-all --inh-caps=-all env "
@@ -74,13 +76,15 @@ exec /bin/sleep "$1"
 
 
 def has_namespaces() -> bool:
-    if os.geteuid() != 0 or not shutil.which("unshare") or not shutil.which("nsenter"):
+    if os.geteuid() != 0 or not all(shutil.which(it) for it in ("setpriv", "unshare", "nsenter")):
         return False
     return subprocess.run([*NAMESPACE, "true"], capture_output=True, check=False).returncode == 0
 
 
 @needs.root()
-@unittest.skipUnless(has_namespaces(), "no namespace of processes: it needs root, unshare and nsenter of util-linux")
+@unittest.skipUnless(
+    has_namespaces(), "no namespace of processes: it needs root, and unshare, nsenter and setpriv of util-linux"
+)
 class Container(Case):
     """A folder that stands for a container of two processes, with a version in use."""
 

@@ -2,10 +2,12 @@
 from __future__ import annotations
 
 import glob
+from unittest import mock
 
 from fixtures.cases import Case
 from packaging import completing
 from packaging import expected_table
+from packaging import spoiling
 
 PATH = "packaging/systemd/example.timer"
 TEXT = "[Timer]\nOnCalendar=Mon 04:00\nPersistent=yes\n"
@@ -70,6 +72,24 @@ class Tables(Case):
         written = table.replace("REASON", "since this is so")
         self.expect("its faults", expected_table.faults(PATH, text, expected_table.rows_of(written)), [])
         self.expect("nothing is new", completing.completed(PATH, TEXT, TABLE), TABLE)
+
+    def test_each_line_is_spoilt_in_each_way(self) -> None:
+        copies = dict(spoiling.spoilt(PATH, TEXT + "# A comment.\n"))
+        self.expect(
+            "taken out", copies["without line 3: Persistent=yes"], "[Timer]\nOnCalendar=Mon 04:00\n# A comment."
+        )
+        self.expect("twice", copies["twice line 1: [Timer]"].count("[Timer]"), 2)
+        self.expect(
+            "moved",
+            copies["line 2 after the next: OnCalendar=Mon 04:00"],
+            "[Timer]\nPersistent=yes\nOnCalendar=Mon 04:00\n# A comment.",
+        )
+        self.expect("changed", "Persistent=yesx" in copies["line 3: Persistent=yesx"])
+        self.expect("comments are left", [it for it in copies if "line 4" in it], [])
+        self.expect("all are seen", spoiling.unseen(PATH, TEXT, TABLE), (len(copies), []))
+        with mock.patch.object(expected_table, "faults", return_value=[]):
+            count, found = spoiling.unseen(PATH, TEXT, TABLE)
+        self.expect("a check that sees nothing", (count, sorted(found)), (len(copies), sorted(copies)))
 
     def test_each_table_has_its_declaration(self) -> None:
         tables = glob.glob(f"{expected_table.FOLDER}/**/*.tsv", recursive=True)
