@@ -6,6 +6,7 @@ import glob
 import re
 
 from fixtures.cases import Case
+from packaging import declarations
 from packaging import spoiling
 
 CONTAINER = "packaging/container/Containerfile"
@@ -32,3 +33,17 @@ class Images(Case):
                 named |= set(re.findall(r"^ *(?:access|error)_log (/var/log/\S+?)[ ;]", file.read(), re.M))
         self.expect("logs of the site", len(named) >= 3)
         self.expect("logs that the image does not have", [it for it in sorted(named) if it not in text], [])
+
+    def test_the_command_of_an_operator_gives_the_rights_of_the_pods(self) -> None:
+        with open("packaging/kubernetes/base/deployment.yaml", encoding="utf-8") as file:
+            entries = declarations.yaml(file.read())
+        needed = [it.value for it in entries if it.name == "add" and "capabilities" in it.place]
+        with open(CONTAINER, encoding="utf-8") as file:
+            command = re.search(r"^#   podman run (?:.*\\\n)*.*", file.read(), re.M)
+        words = command[0].replace("\\\n#", "").split() if command else []
+        self.expect(
+            "all rights are taken", [after for it, after in zip(words, words[1:]) if it == "--cap-drop"], ["ALL"]
+        )
+        given = [after.replace(",", ", ") for it, after in zip(words, words[1:]) if it == "--cap-add"]
+        self.expect("rights that are given", given, needed)
+        self.expect("no program gives more", "no-new-privileges" in words)
