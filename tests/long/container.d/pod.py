@@ -7,7 +7,7 @@ import json, os, shlex, shutil, sys
 
 TOP = os.path.dirname(os.path.dirname(os.path.dirname(os.path.dirname(os.path.abspath(__file__)))))
 sys.dont_write_bytecode = True
-sys.path.insert(0, os.path.join(TOP, "checks", "balancer.d"))
+sys.path.insert(0, os.path.join(TOP, "tests", "balancer.d"))
 import kubernetes
 
 WORKERS, PROBES = "OPENLINK_WORKERS", ("startupProbe", "readinessProbe", "livenessProbe")
