@@ -91,17 +91,18 @@ def nginx(text: str) -> list[Entry]:
 
 
 def _tokens(text: str) -> Iterator[tuple[str, str]]:
-    """The tokens of nginx, each with "#" if its line is a comment that an operator may take away, or with ""."""
+    """The tokens of nginx, each with a "#" for each one before its line that an operator may take away."""
     for line in text.splitlines():
-        commented = _COMMENTED.fullmatch(line)
-        code, at = commented[2] if commented else line, 0
+        code, mark, at = line, "", 0
+        while commented := _COMMENTED.fullmatch(code):
+            code, mark = commented[2], mark + "#"
         while at < len(code):
             match = _TOKEN.match(code, at)
             if not match:
                 raise ValueError(f"no token: {code[at:]}")
             at = match.end()
             if not match[0].isspace() and not match[0].startswith("#"):
-                yield match[0], "#" if commented else ""
+                yield match[0], mark
 
 
 def haproxy(text: str) -> list[Entry]:
