@@ -103,6 +103,11 @@ def test_choices(it):
             it.expect(f"the choice {chosen}",
                       (chosen.endswith(query), data.get("maybe"), ";" in str(data["citation"])), (True, None, False))
     it.expect("no titles", "maybe" in it.data("issn=2901-0012"), False)
+    it.site.write_targets({"groups": [{"name": "Full text"}], "targets": {"web-search": {"group": "Full text"}}})
+    for query, status in (("issn=3006-1962&atitle=Depths", 302), ("jtitle=Soundings&atitle=Depths", 200),
+                          ("first=1&jtitle=Soundings&atitle=Depths", 200)):
+        it.expect(f"one link, and a redirect only for one title: {query}", it.site.get(f"/go?{query}").status, status)
+    it.site.write_targets(None)
 
 
 def test_umlauts(it):
@@ -270,6 +275,12 @@ def test_form(it):
                   "TY  - JOUR", "AU  - Smith, Jane", "AU  - Li, Wei", "TI  - Storm surges",
                   "T2  - Annals of Tidal Studies", "PY  - 2003", "VL  - 12", "IS  - 3", "SP  - 101", "EP  - 118",
                   "SN  - 2901-0012", "DO  - 10.5555/a", "ER  - ", ""]))
+    for count, author in ((2, "A 0; A 1"), (3, "A 0; A 1; A 2"), (4, "A 0; A 1; A 2 and others")):
+        authors = "&".join(f"rft.au=A+{number}" for number in range(count))
+        it.expect(f"{count} authors", it.data(f"issn=2901-0012&{authors}")["citation"]["author"], author)
+    fields = it.site.get(f"/find.ris?issn=2901-0012&atitle={'a' * 2000}&rft.au={'b' * 1001}").text.split("\r\n")
+    it.expect("long fields of RIS", [field for field in fields if field[:2] in ("TI", "AU")],
+              [f"AU  - {'b' * 1000}", f"TI  - {'a' * 1000}"])
     types = [it.site.get(f"/find.ris?{query}").text[:10] for query in (
         "isbn=9781234560102", "isbn=9781234562410&genre=bookitem&atitle=x", "genre=dissertation&title=On+Silt")]
     it.expect("types of RIS", types, ["TY  - BOOK", "TY  - CHAP", "TY  - THES"])

@@ -114,6 +114,9 @@ function testMenus() {
         '[{"name":"A","links":[{"target":"constructor","label":"constructor","url":"http://c/"}]},'
         + '{"name":"More","links":[{"target":"toString","label":"toString","url":"http://t/"},'
         + '{"target":"__proto__","label":"__proto__","url":"http://p/"}]}]');
+    site.groups = [{ name: 'A' }, { name: 'B' }, { name: 'B', label: 'Twin' }];
+    expect('two groups of one name', listed('b\thttp://b/\n'),
+        '[{"name":"B","links":[{"target":"b","label":"Bee","url":"http://b/","note":"n"}]}]');
 }
 
 // What the page says of a request without full text whose title has a row: the request, the row, and the notice.
@@ -236,6 +239,9 @@ function testWords() {
     globalThis.words_de = { heading: 'Finden', group: 3, nothing: '  ' };
     globalThis.words_pt_BR = {};
     globalThis.words_he = {};
+    globalThis.words_ur_Latn = {};
+    globalThis.words_uz_Latn = {};
+    globalThis.words_uz_Arab = {};
     const site = function (targets, header) { return languages.siteIn(targets, header); };
     const chosen = function (list, header) { return site({ languages: list }, header).language; };
     expect('no languages', chosen(undefined, 'de'), 'en');
@@ -246,6 +252,9 @@ function testWords() {
     expect('a region', chosen(['en', 'pt-BR'], 'pt'), 'pt-BR');
     expect('the direction',
         site({ languages: ['he', 'en'] }, '').dir + ' ' + site({ languages: ['he', 'en'] }, 'en').dir, 'rtl ltr');
+    expect('the direction of a script', ['ur-Latn', 'uz-Latn', 'uz-Arab'].map(function (it) {
+        return site({ languages: [it] }, '').dir;
+    }).join(' '), 'ltr ltr rtl');
     const heading = function (words, header) {
         const menu = 'a\thttp://a/\n';  // no group is named, so there is one with the word `group`
         return menus.groupsOf(menu, site({ languages: ['en', 'de'], words: words }, header))[0].name;

@@ -1,6 +1,6 @@
 """Tables and the lines that the index has of them, by hand."""
 import os, subprocess, sys, tempfile
-from openlink_update.index import word_sets
+from openlink_update.index import index_files, word_sets
 from counting import expect
 from made_titles import isbn
 from reader import COLUMNS, Index, check_form, table
@@ -200,7 +200,11 @@ def test_limits():
 
 
 def test_large_files():
-    """Lines for which the front door cannot read a file are left out of it."""
+    """Lines for which the front door cannot read a file are left out of it, each as a whole."""
+    line = b"x" * 1000
+    text = index_files.text_of([line] * 5000)
+    expect("the lines of a file that is cut", set(text.split(b"\n")), {line, b""})
+    expect("it ends at its limit", (4 << 20) - 1001 < len(text) <= 4 << 20)
     words = [f"zzz{'abcdefghij'[number % 10]}{number:053}" for number in range(64000)]
     rows = [journal(" ".join(words[start:start + 8]), f"{3000000 + start}0") for start in range(0, len(words), 8)]
     with Index({"t": table(*rows)}) as found:

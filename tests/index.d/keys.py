@@ -97,6 +97,9 @@ def texts():
     found += ["".join(source.choices(PIECES, k=source.randrange(1, 25))) for _ in range(4000)]
     for length in (32, 64, 96):
         found += ["é" * length, "a" * (length - 1) + "é", "é" * (length - 1) + "–", "ab" * (length // 2 - 1) + "é&amp;"]
+    # Only the first 500 characters count, of which the last may be an umlaut, or begin a word or a subtitle.
+    for length in (498, 499, 500, 501, 5000):
+        found += [f"{'a' * length}{end}" for end in ("ü b", " bc", ": b", " (b)")]
     return [text.replace("\n", " ") for text in found]
 
 
