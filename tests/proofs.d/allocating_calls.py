@@ -52,7 +52,7 @@ def fault_of(call, path, command):
     if command is None:
         name = call.rpartition("::")[2]
         return None if re.search(rf"\b{name}(?:::<[^>]*>)?\(", text) else f"{LIST}: {path} does not call {name}"
-    runs = f'"{command}"' in text or command == "serve" and "from service import" in text
+    runs = f'"{command}"' in text or command == "serve" and "from fixtures.service import" in text
     return None if runs else f"{LIST}: {path} does not run {command}"
 
 
