@@ -1,5 +1,6 @@
 """Budgets that `verify` prints: which instructions write the element, and the bound at its limit."""
 from fixtures.assembler import OPERATIONS, code
+from fixtures.program import ProgramCase
 
 NAMES = [("text", "t"), ("list", "l")]
 LITERALS = [("link", "ab"), ("compare", "abc")]
@@ -33,25 +34,6 @@ def in_body(line):
     return ["LIST r1 n1", "EACH r0 r1 6", "JUMP 4", line, "PUT r0 u", "NEXT", "HALT"]
 
 
-def test_which_instructions_write(program):
-    """A PUT of the element counts 3 bytes for each of E; if the body writes the element, 9 and 3*E for each of M."""
-    program.expect("operations", set(OPERANDS) | {"EACH", "NEXT"}, {*OPERATIONS} - {"?"})
-    for operation, operands in OPERANDS.items():
-        puts = 2 if operation in ("PUT", "CUT") else 1
-        emitted = 2 if operation in ("EMIT", "SEP") else 0
-        bytes_ = (0, 9, 0, 3) if operation in WRITE else (0, emitted, 3 * puts, 0)
-        for version in (2,) if operation == "COUNT" else (1, 2):
-            verify(program, NAMES, LITERALS, in_body(f"{operation} {operands}"), (3, 4), bytes_, version)
-
-
-def test_other_registers(program):
-    """What writes another register leaves the element, also where it reads it."""
-    for operation, operands in OTHER_OPERANDS.items():
-        verify(program, NAMES, LITERALS, in_body(f"{operation} {operands}"), (3, 4), (0, 0, 3, 0))
-    for line in ("PUT r2 u", "CUT r2 1 ur", "CUT r1 9999 u"):
-        verify(program, NAMES, LITERALS, in_body(line), (3, 4), (0, 9, 3, 3))
-
-
 # Codes whose steps are all taken: literals, instructions, the numbers of steps, and those of bytes.
 # The names are a text and a list, `t` and `l`.
 ABC = [("compare", "abc")]
@@ -77,29 +59,45 @@ CODES = [
 ]
 
 
-def test_codes(program):
-    for literals, lines, steps, bytes_ in CODES:
-        verify(program, NAMES, literals, lines, steps, bytes_)
+class Budgets(ProgramCase):
+    def test_which_instructions_write(self):
+        """A PUT of the element counts 3 bytes for each of E; if the body writes it, 9 bytes and 3*E for each of M."""
+        self.program.expect("operations", set(OPERANDS) | {"EACH", "NEXT"}, {*OPERATIONS} - {"?"})
+        for operation, operands in OPERANDS.items():
+            puts = 2 if operation in ("PUT", "CUT") else 1
+            emitted = 2 if operation in ("EMIT", "SEP") else 0
+            bytes_ = (0, 9, 0, 3) if operation in WRITE else (0, emitted, 3 * puts, 0)
+            for version in (2,) if operation == "COUNT" else (1, 2):
+                verify(self.program, NAMES, LITERALS, in_body(f"{operation} {operands}"), (3, 4), bytes_, version)
 
+    def test_other_registers(self):
+        """What writes another register leaves the element, also where it reads it."""
+        for operation, operands in OTHER_OPERANDS.items():
+            verify(self.program, NAMES, LITERALS, in_body(f"{operation} {operands}"), (3, 4), (0, 0, 3, 0))
+        for line in ("PUT r2 u", "CUT r2 1 ur", "CUT r1 9999 u"):
+            verify(self.program, NAMES, LITERALS, in_body(line), (3, 4), (0, 9, 3, 3))
 
-def test_element_written(program):
-    lines = "LIST r0 n0, EACH r1 r0 5, CONST r1 l0, PUT r1 u, NEXT, HALT"
-    for version in (1, 2):
-        verify(program, [("list", "l")], ABC, lines, (3, 3), (0, 9, 0, 3), version)
-    program.prints(["run", "code", "l=1&l=2&l=3"], "abcabcabc")
+    def test_codes(self):
+        for literals, lines, steps, bytes_ in CODES:
+            verify(self.program, NAMES, literals, lines, steps, bytes_)
 
+    def test_element_written(self):
+        lines = "LIST r0 n0, EACH r1 r0 5, CONST r1 l0, PUT r1 u, NEXT, HALT"
+        for version in (1, 2):
+            verify(self.program, [("list", "l")], ABC, lines, (3, 3), (0, 9, 0, 3), version)
+        self.program.prints(["run", "code", "l=1&l=2&l=3"], "abcabcabc")
 
-def test_limit_of_bytes(program):
-    """16 times 3 bytes for each of 21,845 letters, and 16 of a link text, are 1,048,576."""
-    letters = "x" * 21845
-    lines = ["TEXT r0 n0", "UNDEF r0 19"] + ["PUT r0 u"] * 16 + ["EMIT l0", "HALT"]
-    # The bytes of the link text, the text, and whether the code runs.
-    cases = [(15, letters, True), (16, letters, True), (17, letters, False), (16, letters + "x", False)]
-    for length, text, runs in cases + [(64, letters[1:], True), (65, letters[1:], False)]:
-        program.write("code", code([("text", "t")], [("link", "y" * length)], lines))
-        if runs:
-            program.prints(["run", "code", f"t={text}"], text * 16 + "y" * length)
-        else:
-            program.fails(["run", "code", f"t={text}"], 3, f"over budget: {48 * len(text) + length}")
-    # Texts that the code does not print count as well.
-    program.fails(["run", "code", f"t={letters}&u=x"], 3, f"over budget: {48 * 21846 + 65}")
+    def test_limit_of_bytes(self):
+        """16 times 3 bytes for each of 21,845 letters, and 16 of a link text, are 1,048,576."""
+        letters = "x" * 21845
+        lines = ["TEXT r0 n0", "UNDEF r0 19"] + ["PUT r0 u"] * 16 + ["EMIT l0", "HALT"]
+        # The bytes of the link text, the text, and whether the code runs.
+        cases = [(15, letters, True), (16, letters, True), (17, letters, False), (16, letters + "x", False)]
+        for length, text, runs in cases + [(64, letters[1:], True), (65, letters[1:], False)]:
+            self.program.write("code", code([("text", "t")], [("link", "y" * length)], lines))
+            if runs:
+                self.program.prints(["run", "code", f"t={text}"], text * 16 + "y" * length)
+            else:
+                self.program.fails(["run", "code", f"t={text}"], 3, f"over budget: {48 * len(text) + length}")
+        # Texts that the code does not print count as well.
+        self.program.fails(["run", "code", f"t={letters}&u=x"], 3, f"over budget: {48 * 21846 + 65}")

@@ -1,5 +1,6 @@
 """Code files: their listings, their files of version 2, and why bytes are no code file."""
 from fixtures.assembler import LIST_FILE, code
+from fixtures.program import ProgramCase
 
 LIST_LISTING = """OLK1 names 1 literals 1 instructions 6
 name 0 list list
@@ -70,42 +71,11 @@ LISTINGS = [
 ]
 
 
-def test_listings(program):
-    for file, listing in LISTINGS:
-        program.write("some.olk", file)
-        program.prints(["show", "some.olk"], listing)
-
-
 def upgrades(program, file):
     """The new file is the old one, with the digit of version 2."""
     program.write("old.olk", file)
     program.prints(["upgrade", "old.olk", "new.olk"], f"{len(file)} bytes")
     program.expect("the upgraded file", program.read("new.olk"), b"OLK2" + file[4:])
-
-
-def test_upgrades(program):
-    for file, _ in LISTINGS:
-        upgrades(program, file)
-    upgrades(program, b"OLK2" + LIST_FILE[4:])
-
-
-def test_all_limits(program):
-    """256 names, 1,024 literals and 4,096 instructions."""
-    file = code([("list", "a")] * 256, [("link", "b")] * 1_024, ["HALT"] * 4_096, version=2)
-    program.expect("bytes", len(file), 37_642)
-    upgrades(program, file)
-    _, listing, _ = program.run(["show", "old.olk"])
-    program.expect("lines", len(listing.splitlines()), 5_377)
-
-
-def test_longest_file(program):
-    text = "a" * 65_515
-    file = code([], [("compare", text)], "HALT")
-    program.expect("bytes", len(file), 65_536)
-    upgrades(program, file)
-    program.prints(
-        ["show", "old.olk"], f'OLK1 names 0 literals 1 instructions 1\nliteral 0 compare "{text}"\n0 HALT'
-    )
 
 
 # Bytes, and why they are no code file.
@@ -151,17 +121,43 @@ def is_refused(program, file, fault):
     program.fails(["verify", "bad.olk"], 3, f"load: {fault}")
 
 
-def test_faults(program):
-    for file, fault in HEADERS + ENTRIES:
-        is_refused(program, file, fault)
+class CodeFiles(ProgramCase):
+    def test_listings(self):
+        for file, listing in LISTINGS:
+            self.program.write("some.olk", file)
+            self.program.prints(["show", "some.olk"], listing)
 
+    def test_upgrades(self):
+        for file, _ in LISTINGS:
+            upgrades(self.program, file)
+        upgrades(self.program, b"OLK2" + LIST_FILE[4:])
 
-def test_changed_bytes(program):
-    for place, value, fault in CHANGES:
-        is_refused(program, LIST_FILE[:place] + bytes([value]) + LIST_FILE[place + 1 :], fault)
+    def test_all_limits(self):
+        """256 names, 1,024 literals and 4,096 instructions."""
+        file = code([("list", "a")] * 256, [("link", "b")] * 1_024, ["HALT"] * 4_096, version=2)
+        self.program.expect("bytes", len(file), 37_642)
+        upgrades(self.program, file)
+        _, listing, _ = self.program.run(["show", "old.olk"])
+        self.program.expect("lines", len(listing.splitlines()), 5_377)
 
+    def test_longest_file(self):
+        text = "a" * 65_515
+        file = code([], [("compare", text)], "HALT")
+        self.program.expect("bytes", len(file), 65_536)
+        upgrades(self.program, file)
+        self.program.prints(
+            ["show", "old.olk"], f'OLK1 names 0 literals 1 instructions 1\nliteral 0 compare "{text}"\n0 HALT'
+        )
 
-def test_cut_and_lengthened_files(program):
-    for length in range(68):
-        is_refused(program, LIST_FILE[:length], "BadMagic at 0" if length < 4 else f"Truncated at {length}")
-    is_refused(program, LIST_FILE + b"\0", "Trailing at 68")
+    def test_faults(self):
+        for file, fault in HEADERS + ENTRIES:
+            is_refused(self.program, file, fault)
+
+    def test_changed_bytes(self):
+        for place, value, fault in CHANGES:
+            is_refused(self.program, LIST_FILE[:place] + bytes([value]) + LIST_FILE[place + 1 :], fault)
+
+    def test_cut_and_lengthened_files(self):
+        for length in range(68):
+            is_refused(self.program, LIST_FILE[:length], "BadMagic at 0" if length < 4 else f"Truncated at {length}")
+        is_refused(self.program, LIST_FILE + b"\0", "Trailing at 68")

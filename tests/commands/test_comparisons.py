@@ -1,5 +1,6 @@
 """Equality of texts, byte for byte, in rules and in code; and which texts have a number."""
 from fixtures.assembler import code
+from fixtures.program import ProgramCase
 
 # The characters that a text of a rule can show, and all of ASCII.
 PRINTABLE = [chr(number) for number in range(0x20, 0x7F)]
@@ -36,40 +37,6 @@ def write_rule(program, *lines):
     program.write("rules", "\n".join(["rule", *lines, ""]))
 
 
-def test_each_character(program):
-    """A rule for each character; the link says which of them holds."""
-    for condition, key in [("x is", "x"), ("rft.au holds", "rft.au")]:
-        rules = [f"rule\nwhen {condition} {quoted(one)}\nlink {ord(one)}\n" for one in PRINTABLE]
-        program.write("rules", "".join(rules))
-        for one in ASCII:
-            arguments = ["link", "rules", f"{key}={encoded(one)}"]
-            if one in PRINTABLE:
-                program.prints(arguments, str(ord(one)))
-            else:
-                program.finds_no_link(arguments)
-
-
-def test_texts(program):
-    for condition, key in [("x is", "x"), ("rft.au holds", "rft.au")]:
-        for one, other in UNEQUAL + [(other, one) for one, other in UNEQUAL]:
-            write_rule(program, f"when {condition} {quoted(one)}", "link e")
-            program.finds_no_link(["link", "rules", f"{key}={encoded(other)}"])
-        for text in EQUAL:
-            write_rule(program, f"when {condition} {quoted(text)}", "link e")
-            program.prints(["link", "rules", f"{key}={encoded(text)}"], "e")
-
-
-def test_code(program):
-    """The code has the empty link where its two texts differ, and none where they are equal."""
-    lines = "CONST r0 l0, CONST r1 l1, DIFFER r0 r1 4, FAIL, HALT"
-    for one, other in UNEQUAL + [(other, one) for one, other in UNEQUAL]:
-        program.write("code", code([], [("compare", one), ("compare", other)], lines))
-        program.prints(["run", "code", ""], "")
-    for text in EQUAL:
-        program.write("code", code([], [("compare", text), ("compare", text)], lines))
-        program.finds_no_link(["run", "code", ""])
-
-
 def gives_link(program, holds, query):
     if holds:
         program.prints(["link", "rules", query], "e")
@@ -77,25 +44,55 @@ def gives_link(program, holds, query):
         program.finds_no_link(["link", "rules", query])
 
 
-def test_numbers(program):
-    """The condition without bounds holds where there is a number."""
-    write_rule(program, "when x from * to *", "link e")
-    cases = [(value, number is not None) for value, number in NUMBERS]
-    cases += [(encoded(one) + "5", one.isdigit()) for one in ASCII] + [("5" + encoded(one), True) for one in ASCII]
-    for value, is_number in cases:
-        gives_link(program, is_number, f"x={value}")
+class Comparisons(ProgramCase):
+    def test_each_character(self):
+        """A rule for each character; the link says which of them holds."""
+        for condition, key in [("x is", "x"), ("rft.au holds", "rft.au")]:
+            rules = [f"rule\nwhen {condition} {quoted(one)}\nlink {ord(one)}\n" for one in PRINTABLE]
+            self.program.write("rules", "".join(rules))
+            for one in ASCII:
+                arguments = ["link", "rules", f"{key}={encoded(one)}"]
+                if one in PRINTABLE:
+                    self.program.prints(arguments, str(ord(one)))
+                else:
+                    self.program.finds_no_link(arguments)
 
+    def test_texts(self):
+        for condition, key in [("x is", "x"), ("rft.au holds", "rft.au")]:
+            for one, other in UNEQUAL + [(other, one) for one, other in UNEQUAL]:
+                write_rule(self.program, f"when {condition} {quoted(one)}", "link e")
+                self.program.finds_no_link(["link", "rules", f"{key}={encoded(other)}"])
+            for text in EQUAL:
+                write_rule(self.program, f"when {condition} {quoted(text)}", "link e")
+                self.program.prints(["link", "rules", f"{key}={encoded(text)}"], "e")
 
-def test_exact_numbers(program):
-    for value, number in NUMBERS:
-        for bound in (0, 1, 5, 7, 12, 999999999):
-            write_rule(program, f"when x from {bound} to {bound}", "link e")
-            gives_link(program, number == bound, f"x={value}")
+    def test_code(self):
+        """The code has the empty link where its two texts differ, and none where they are equal."""
+        lines = "CONST r0 l0, CONST r1 l1, DIFFER r0 r1 4, FAIL, HALT"
+        for one, other in UNEQUAL + [(other, one) for one, other in UNEQUAL]:
+            self.program.write("code", code([], [("compare", one), ("compare", other)], lines))
+            self.program.prints(["run", "code", ""], "")
+        for text in EQUAL:
+            self.program.write("code", code([], [("compare", text), ("compare", text)], lines))
+            self.program.finds_no_link(["run", "code", ""])
 
+    def test_numbers(self):
+        """The condition without bounds holds where there is a number."""
+        write_rule(self.program, "when x from * to *", "link e")
+        cases = [(value, number is not None) for value, number in NUMBERS]
+        cases += [(encoded(one) + "5", one.isdigit()) for one in ASCII] + [("5" + encoded(one), True) for one in ASCII]
+        for value, is_number in cases:
+            gives_link(self.program, is_number, f"x={value}")
 
-def test_bounds(program):
-    """A bound whose text has no number sets no condition."""
-    for bounds, holds in [("n to *", lambda number: number <= 5), ("* to n", lambda number: number >= 5)]:
-        write_rule(program, f"when x from {bounds}", "link e")
+    def test_exact_numbers(self):
         for value, number in NUMBERS:
-            gives_link(program, number is None or holds(number), f"x=5&n={value}")
+            for bound in (0, 1, 5, 7, 12, 999999999):
+                write_rule(self.program, f"when x from {bound} to {bound}", "link e")
+                gives_link(self.program, number == bound, f"x={value}")
+
+    def test_bounds(self):
+        """A bound whose text has no number sets no condition."""
+        for bounds, holds in [("n to *", lambda number: number <= 5), ("* to n", lambda number: number >= 5)]:
+            write_rule(self.program, f"when x from {bounds}", "link e")
+            for value, number in NUMBERS:
+                gives_link(self.program, number is None or holds(number), f"x=5&n={value}")

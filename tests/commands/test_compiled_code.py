@@ -1,5 +1,6 @@
 """The code that `compile` makes: its version, its bytes, and the order of its names and literals."""
 from fixtures.assembler import code
+from fixtures.program import ProgramCase
 from fixtures.targets import DATE_RULES
 
 # A condition of each form; with `counts` the code has version 2.
@@ -53,35 +54,39 @@ def compiled(program, rules):
     return program.read("code") if status == 0 else b""
 
 
-def test_versions(program):
-    for condition in CONDITIONS + COUNTS:
-        expected = b"OLK2" if condition in COUNTS else b"OLK1"
-        rule = f"rule\nwhen {condition}\nlink b\n"
-        for rules in (rule, "rule\nlink a\n" + rule, rule + "rule\nwhen has y\nlink {rft.au}\n"):
-            program.expect(rules, compiled(program, rules)[:4], expected)
-    conditions = "".join(f"when {condition}\n" for condition in CONDITIONS)
-    program.expect("all together", compiled(program, f"rule\n{conditions}link {{rft.au*}}\n")[:4], b"OLK1")
-    program.expect("and counts", compiled(program, f"rule\n{conditions}when {COUNTS[0]}\nlink b\n")[:4], b"OLK2")
-    for name in ("counts", "count", "rft.counts"):
-        rules = f'rule\nwhen has {name}\nwhen {name} is "x counts 1 to 2"\nlink b\n'
-        program.expect(rules, compiled(program, rules)[:4], b"OLK1")
+class CompiledCode(ProgramCase):
+    def test_versions(self):
+        for condition in CONDITIONS + COUNTS:
+            expected = b"OLK2" if condition in COUNTS else b"OLK1"
+            rule = f"rule\nwhen {condition}\nlink b\n"
+            for rules in (rule, "rule\nlink a\n" + rule, rule + "rule\nwhen has y\nlink {rft.au}\n"):
+                self.program.expect(rules, compiled(self.program, rules)[:4], expected)
+        conditions = "".join(f"when {condition}\n" for condition in CONDITIONS)
+        self.program.expect(
+            "all together", compiled(self.program, f"rule\n{conditions}link {{rft.au*}}\n")[:4], b"OLK1"
+        )
+        self.program.expect(
+            "and counts", compiled(self.program, f"rule\n{conditions}when {COUNTS[0]}\nlink b\n")[:4], b"OLK2"
+        )
+        for name in ("counts", "count", "rft.counts"):
+            rules = f'rule\nwhen has {name}\nwhen {name} is "x counts 1 to 2"\nlink b\n'
+            self.program.expect(rules, compiled(self.program, rules)[:4], b"OLK1")
 
+    def test_bytes(self):
+        for rules, expected in CODES:
+            self.program.expect(rules, compiled(self.program, rules), expected)
 
-def test_bytes(program):
-    for rules, expected in CODES:
-        program.expect(rules, compiled(program, rules), expected)
+    def test_order_of_names(self):
+        for rules, names in NAMES:
+            compiled(self.program, rules)
+            listing = self.program.run(["show", "code"])[1].decode().split("\n")
+            self.program.expect(rules, [line.split(" ", 2)[2] for line in listing if line.startswith("name ")], names)
 
-
-def test_order_of_names(program):
-    for rules, names in NAMES:
-        compiled(program, rules)
-        listing = program.run(["show", "code"])[1].decode().split("\n")
-        program.expect(rules, [line.split(" ", 2)[2] for line in listing if line.startswith("name ")], names)
-
-
-def test_order_of_literals(program):
-    compiled(program, 'rule\nwhen d is "d"\nwhen rft.au holds "c"\nwhen b from 7 to *\nlink a{x}b{+y}c\n')
-    listing = program.run(["show", "code"])[1].decode().split("\n")
-    compared = [f'compare "{text}"' for text in ("d", "c", "", "1", "7")]
-    expected = compared + [f'link "{text}"' for text in ("a", ",", "b", "c")]
-    program.expect("literals", [line.split(" ", 2)[2] for line in listing if line.startswith("literal ")], expected)
+    def test_order_of_literals(self):
+        compiled(self.program, 'rule\nwhen d is "d"\nwhen rft.au holds "c"\nwhen b from 7 to *\nlink a{x}b{+y}c\n')
+        listing = self.program.run(["show", "code"])[1].decode().split("\n")
+        compared = [f'compare "{text}"' for text in ("d", "c", "", "1", "7")]
+        expected = compared + [f'link "{text}"' for text in ("a", ",", "b", "c")]
+        self.program.expect(
+            "literals", [line.split(" ", 2)[2] for line in listing if line.startswith("literal ")], expected
+        )

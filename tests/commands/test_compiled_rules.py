@@ -1,5 +1,6 @@
 """Rules that are compiled: the listing and the size of their code, its limits, and the links that it gives."""
 from commands.test_code_files import ISSN_LISTING
+from fixtures.program import ProgramCase
 
 COUNTS = "rule\nwhen rft.au counts 2 to *\nlink http://e.org/{rft.au}\n"
 
@@ -41,15 +42,6 @@ LISTINGS = [
 ]
 
 
-def test_listings(program):
-    for rules, size, listing, bounds in LISTINGS:
-        program.write("some.rules", rules)
-        program.prints(["compile", "some.rules", "some.olk"], f"{size} bytes")
-        program.expect("bytes", len(program.read("some.olk")), size)
-        program.prints(["show", "some.olk"], listing)
-        program.prints(["verify", "some.olk"], f"ok\n{bounds}")
-
-
 def names_to(last):
     """One rule whose template is one expression of names from `1000` on."""
     return "rule\nlink {" + ",".join(map(str, range(1_000, last + 1))) + "}\n"
@@ -79,13 +71,6 @@ REFUSALS = [
 ]
 
 
-def test_refusals(program):
-    for rules, fault in REFUSALS:
-        program.write("some.rules", rules)
-        program.fails(["compile", "some.rules", "some.olk"], 3, f"compile: {fault}")
-        program.expect("a code file", program.has("some.olk"), False)
-
-
 def counts(program, rules):
     """Of the code: the numbers of the header, and the bytes of its file."""
     program.write("some.rules", rules)
@@ -94,16 +79,6 @@ def counts(program, rules):
     file = program.read("some.olk")
     names, literals, instructions = (int.from_bytes(file[at : at + 2], "big") for at in (4, 6, 8))
     return names, literals, instructions, len(file)
-
-
-def test_limits(program):
-    names, _, instructions, _ = counts(program, names_to(1_255))
-    program.expect("256 names", (names, instructions), (256, 1_539))
-    _, _, instructions, size = counts(program, link_of("{a}", 584))
-    program.expect("4,090 instructions", (instructions, size), (4_090, 32_744))
-    # The rules whose file is too long, with shorter links.
-    _, _, instructions, size = counts(program, long_links(7_480))
-    program.expect("3,512 instructions", (instructions, size), (3_512, 65_535))
 
 
 COVERAGE = (
@@ -131,13 +106,37 @@ LINKS = [
 ]
 
 
-def test_links(program):
-    for rules, query, link in LINKS:
-        program.write("some.rules", rules)
-        status, _, fault = program.run(["compile", "some.rules", "some.olk"])
-        program.expect("compile", (status, fault), (0, b""))
-        for arguments in (["run", "some.olk", query], ["link", "some.rules", query]):
-            if link is NO_LINK:
-                program.finds_no_link(arguments)
-            else:
-                program.prints(arguments, link)
+class CompiledRules(ProgramCase):
+    def test_listings(self):
+        for rules, size, listing, bounds in LISTINGS:
+            self.program.write("some.rules", rules)
+            self.program.prints(["compile", "some.rules", "some.olk"], f"{size} bytes")
+            self.program.expect("bytes", len(self.program.read("some.olk")), size)
+            self.program.prints(["show", "some.olk"], listing)
+            self.program.prints(["verify", "some.olk"], f"ok\n{bounds}")
+
+    def test_refusals(self):
+        for rules, fault in REFUSALS:
+            self.program.write("some.rules", rules)
+            self.program.fails(["compile", "some.rules", "some.olk"], 3, f"compile: {fault}")
+            self.program.expect("a code file", self.program.has("some.olk"), False)
+
+    def test_limits(self):
+        names, _, instructions, _ = counts(self.program, names_to(1_255))
+        self.program.expect("256 names", (names, instructions), (256, 1_539))
+        _, _, instructions, size = counts(self.program, link_of("{a}", 584))
+        self.program.expect("4,090 instructions", (instructions, size), (4_090, 32_744))
+        # The rules whose file is too long, with shorter links.
+        _, _, instructions, size = counts(self.program, long_links(7_480))
+        self.program.expect("3,512 instructions", (instructions, size), (3_512, 65_535))
+
+    def test_links(self):
+        for rules, query, link in LINKS:
+            self.program.write("some.rules", rules)
+            status, _, fault = self.program.run(["compile", "some.rules", "some.olk"])
+            self.program.expect("compile", (status, fault), (0, b""))
+            for arguments in (["run", "some.olk", query], ["link", "some.rules", query]):
+                if link is NO_LINK:
+                    self.program.finds_no_link(arguments)
+                else:
+                    self.program.prints(arguments, link)

@@ -1,6 +1,8 @@
 """The limits of what rules are compiled to: names, literals, instructions, bytes; the first one passed is named."""
 import itertools
 
+from fixtures.program import ProgramCase
+
 LIMITS = [256, 1024, 4096, 65536]
 FAULTS = ["TooManyNames", "TooManyLiterals", "TooManyInstructions", "FileTooLong"]
 
@@ -19,19 +21,6 @@ def rules_of(names, literals, instructions, size):
     for at in range(literals):
         rules += ["rule", "link " + f"{at:04}".ljust(length + (at < longer), "x")]
     return "\n".join(rules) + "\n"
-
-
-def test_first_limit_passed(program):
-    """Each limit kept and passed by one, with each other."""
-    for passed in itertools.product((0, 1), repeat=4):
-        sizes = [limit + over for limit, over in zip(LIMITS, passed)]
-        program.write("rules", rules_of(*sizes))
-        if any(passed):
-            program.fails(["compile", "rules", "code"], 3, f"compile: {FAULTS[passed.index(1)]}")
-        else:
-            program.prints(["compile", "rules", "code"], "65536 bytes")
-            listing = program.run(["show", "code"])[1]
-            program.expect("the head", listing.split(b"\n")[0], b"OLK1 names 256 literals 1024 instructions 4096")
 
 
 def guards(first, last):
@@ -89,31 +78,44 @@ COUNTS = [
 ]
 
 
-def test_rules(program):
-    for rules, outcome in RULES:
-        program.write("rules", rules)
-        if isinstance(outcome, int):
-            program.prints(["compile", "rules", "code"], f"{outcome} bytes")
-            program.expect("bytes of the file", len(program.read("code") or b""), outcome)
-            program.expect("verify", program.run(["verify", "code"])[0], 0)
-        else:
-            program.fails(["compile", "rules", "none"], 3, f"compile: {outcome}")
-            program.expect("a code of refused rules", program.has("none"), False)
+class CompilerLimits(ProgramCase):
+    def test_first_limit_passed(self):
+        """Each limit kept and passed by one, with each other."""
+        for passed in itertools.product((0, 1), repeat=4):
+            sizes = [limit + over for limit, over in zip(LIMITS, passed)]
+            self.program.write("rules", rules_of(*sizes))
+            if any(passed):
+                self.program.fails(["compile", "rules", "code"], 3, f"compile: {FAULTS[passed.index(1)]}")
+            else:
+                self.program.prints(["compile", "rules", "code"], "65536 bytes")
+                listing = self.program.run(["show", "code"])[1]
+                self.program.expect(
+                    "the head", listing.split(b"\n")[0], b"OLK1 names 256 literals 1024 instructions 4096"
+                )
 
+    def test_rules(self):
+        for rules, outcome in RULES:
+            self.program.write("rules", rules)
+            if isinstance(outcome, int):
+                self.program.prints(["compile", "rules", "code"], f"{outcome} bytes")
+                self.program.expect("bytes of the file", len(self.program.read("code") or b""), outcome)
+                self.program.expect("verify", self.program.run(["verify", "code"])[0], 0)
+            else:
+                self.program.fails(["compile", "rules", "none"], 3, f"compile: {outcome}")
+                self.program.expect("a code of refused rules", self.program.has("none"), False)
 
-def test_counts(program):
-    for rules, names, literals, instructions, size in COUNTS:
-        program.write("rules", rules)
-        program.prints(["compile", "rules", "code"], f"{size} bytes")
-        head = f"OLK1 names {names} literals {literals} instructions {instructions}"
-        program.expect("the head", program.run(["show", "code"])[1].split(b"\n")[0], head.encode())
+    def test_counts(self):
+        for rules, names, literals, instructions, size in COUNTS:
+            self.program.write("rules", rules)
+            self.program.prints(["compile", "rules", "code"], f"{size} bytes")
+            head = f"OLK1 names {names} literals {literals} instructions {instructions}"
+            self.program.expect("the head", self.program.run(["show", "code"])[1].split(b"\n")[0], head.encode())
 
-
-def test_links_at_the_limits(program):
-    """Code at a limit runs."""
-    program.write("rules", RULES[0][0])
-    program.run(["compile", "rules", "code"])
-    program.finds_no_link(["run", "code", "a=1000"])
-    program.write("rules", link(6, 578))
-    program.run(["compile", "rules", "code"])
-    program.prints(["run", "code", "a=x"], "bx" * 6 + "x" * 578)
+    def test_links_at_the_limits(self):
+        """Code at a limit runs."""
+        self.program.write("rules", RULES[0][0])
+        self.program.run(["compile", "rules", "code"])
+        self.program.finds_no_link(["run", "code", "a=1000"])
+        self.program.write("rules", link(6, 578))
+        self.program.run(["compile", "rules", "code"])
+        self.program.prints(["run", "code", "a=x"], "bx" * 6 + "x" * 578)

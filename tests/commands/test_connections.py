@@ -1,9 +1,13 @@
 """Connections of a service whose peers send much at once, read late or never, send nothing, or go away."""
-import socket, struct, time
+import socket
+import struct
+import time
+
+from fixtures.patience import best_of_three, patience
+from fixtures.program import ProgramCase
 from fixtures.service import PATIENCE, Service, reply_of, request_of
 from fixtures.system_calls import SEND, Watch
 from fixtures.targets import DATE_RULES, write_alpha, write_registry
-from fixtures.patience import best_of_three, patience
 
 REQUEST = request_of("/x")
 NOT_FOUND = reply_of(404, "not found\n")
@@ -46,17 +50,6 @@ def expect_served(program, service):
 # The lengths of heads that the system can give in one read.
 LENGTHS = (28, 4_096, 4_097, 5_000, 16_383, 16_384)
 
-
-def test_heads_that_come_at_once(program):
-    write_alpha(program)
-    with Service(program, len(LENGTHS)) as service:
-        for length in LENGTHS:
-            field = f"X: {'x' * (length - 33)}\r\n" if length > 33 else ""
-            request = f"GET /x HTTP/1.1\r\nHost: a\r\n{field}\r\n".encode()
-            program.expect("the length of the head", len(request), length)
-            program.expect(f"the reply to a head of {length} bytes", service.reply(request), NOT_FOUND)
-
-
 # A row whose link has 65,513 bytes.
 LONG_ROW = "print_identifier\ttitle_url\n1234-567X\thttp://e.org/" + "b" * 65_500 + "\n"
 LINK = '<li><a href="http://e.org/' + "b" * 65_500 + '">{}</a></li>\n'
@@ -78,76 +71,80 @@ MANY = 100
 MOST_WRITES = 12
 
 
-def test_a_peer_that_reads_late(program):
-    page = write_long(program, MANY)
+class Connections(ProgramCase):
+    def test_heads_that_come_at_once(self):
+        write_alpha(self.program)
+        with Service(self.program, len(LENGTHS)) as service:
+            for length in LENGTHS:
+                field = f"X: {'x' * (length - 33)}\r\n" if length > 33 else ""
+                request = f"GET /x HTTP/1.1\r\nHost: a\r\n{field}\r\n".encode()
+                self.program.expect("the length of the head", len(request), length)
+                self.program.expect(f"the reply to a head of {length} bytes", service.reply(request), NOT_FOUND)
 
-    def fault_of():
-        with Service(program, 1) as service, connect(service, 4096) as peer:
-            peer.sendall(LONG_REQUEST)
-            peer.recv(1, socket.MSG_PEEK)
-            # The first write has begun. By the end of this pause it has taken as many bytes as the system keeps, and
-            # then no more within its time-out, and the time-out of the second write is not over.
-            time.sleep(WAIT * 1.4)
-            received = rest(peer)
-        return None if received == page else f"{len(received)} bytes of {len(page)}, or others"
+    def test_a_peer_that_reads_late(self):
+        page = write_long(self.program, MANY)
 
-    program.runs += 1
-    program.expect("the whole page", best_of_three(fault_of), None)
-
-
-def test_a_peer_that_does_not_read(program):
-    write_long(program, MANY)
-
-    def fault_of():
-        with Watch(SEND) as watch, Service(program, 2, **watch.how) as service, connect(service, 4096) as peer:
-            peer.sendall(LONG_REQUEST)
-            peer.recv(1, socket.MSG_PEEK)
-            expect_served(program, service)
-        # A write that has taken some bytes ends with its time-out too, and the next one begins. One that has taken none
-        # is the last.
-        program.expect(f"{len(watch.times)} writes, which are few", len(watch.times) <= MOST_WRITES)
-        return fault_of_wait(max(end - start for start, end in zip(watch.times, watch.times[1:])))
-
-    program.expect("the time-out of a write", best_of_three(fault_of), None)
-
-
-def test_a_peer_that_sends_nothing(program):
-    write_alpha(program)
-    for sent in b"", REQUEST[:20]:
         def fault_of():
-            with Service(program, 2) as service, connect(service) as peer:
+            with Service(self.program, 1) as service, connect(service, 4096) as peer:
+                peer.sendall(LONG_REQUEST)
+                peer.recv(1, socket.MSG_PEEK)
+                # The first write has begun. By the end of this pause it has taken as many bytes as the system keeps,
+                # and then no more within its time-out, and the time-out of the second write is not over.
+                time.sleep(WAIT * 1.4)
+                received = rest(peer)
+            return None if received == page else f"{len(received)} bytes of {len(page)}, or others"
+
+        self.program.expect("the whole page", best_of_three(fault_of), None)
+
+    def test_a_peer_that_does_not_read(self):
+        write_long(self.program, MANY)
+
+        def fault_of():
+            with Watch(SEND) as watch, Service(self.program, 2, **watch.how) as service, connect(service, 4096) as peer:
+                peer.sendall(LONG_REQUEST)
+                peer.recv(1, socket.MSG_PEEK)
+                expect_served(self.program, service)
+            # A write that has taken some bytes ends with its time-out too, and the next one begins. One that has taken
+            # none is the last.
+            self.program.expect(f"{len(watch.times)} writes, which are few", len(watch.times) <= MOST_WRITES)
+            return fault_of_wait(max(end - start for start, end in zip(watch.times, watch.times[1:])))
+
+        self.program.expect("the time-out of a write", best_of_three(fault_of), None)
+
+    def test_a_peer_that_sends_nothing(self):
+        write_alpha(self.program)
+        for sent in b"", REQUEST[:20]:
+            def fault_of():
+                with Service(self.program, 2) as service, connect(service) as peer:
+                    start = time.monotonic()
+                    peer.sendall(sent)
+                    self.program.expect("what a peer gets whose head does not end", rest(peer), b"")
+                    fault = fault_of_wait(time.monotonic() - start)
+                    expect_served(self.program, service)
+                    return fault
+
+            self.program.expect("the time-out of a read", best_of_three(fault_of), None)
+
+    def test_peers_that_go_away(self):
+        write_long(self.program, MANY)
+        with Service(self.program, 4) as service:
+            for sent in b"", REQUEST[:20], LONG_REQUEST:
+                with connect(service) as peer:
+                    peer.sendall(sent)
+                    # With this option the connection is reset, and what has come is lost.
+                    peer.setsockopt(socket.SOL_SOCKET, socket.SO_LINGER, struct.pack("ii", 1, 0))
+            expect_served(self.program, service)
+
+    def test_one_exchange_a_connection(self):
+        """The service closes the connection after its reply, and does not wait for another request."""
+        write_alpha(self.program)
+
+        def fault_of():
+            with Service(self.program, 1) as service, connect(service) as peer:
+                peer.sendall(REQUEST)
                 start = time.monotonic()
-                peer.sendall(sent)
-                program.expect("what a peer gets whose head does not end", rest(peer), b"")
-                fault = fault_of_wait(time.monotonic() - start)
-                expect_served(program, service)
-                return fault
+                self.program.expect("the one reply", rest(peer), NOT_FOUND)
+                waited = time.monotonic() - start
+            return None if waited < WAIT * 0.9 else f"it ends after {waited:.2f} s"
 
-        program.expect("the time-out of a read", best_of_three(fault_of), None)
-
-
-def test_peers_that_go_away(program):
-    write_long(program, MANY)
-    with Service(program, 4) as service:
-        for sent in b"", REQUEST[:20], LONG_REQUEST:
-            with connect(service) as peer:
-                peer.sendall(sent)
-                # With this option the connection is reset, and what has come is lost.
-                peer.setsockopt(socket.SOL_SOCKET, socket.SO_LINGER, struct.pack("ii", 1, 0))
-        expect_served(program, service)
-
-
-def test_one_exchange_a_connection(program):
-    """The service closes the connection after its reply. It does not wait for another request until its time-out."""
-    write_alpha(program)
-
-    def fault_of():
-        with Service(program, 1) as service, connect(service) as peer:
-            peer.sendall(REQUEST)
-            start = time.monotonic()
-            program.expect("the one reply", rest(peer), NOT_FOUND)
-            waited = time.monotonic() - start
-        return None if waited < WAIT * 0.9 else f"it ends after {waited:.2f} s"
-
-    program.runs += 1
-    program.expect("the end of the connection at once", best_of_three(fault_of), None)
+        self.program.expect("the end of the connection at once", best_of_three(fault_of), None)

@@ -1,4 +1,5 @@
 """Templates given to `expand`: what they expand to, and why they are refused."""
+from fixtures.program import ProgramCase
 
 NAMED = "v=6&empty=&who=fred"
 PATHS = "hello=Hello+World%21&path=/foo/bar&empty="
@@ -74,33 +75,28 @@ def expands(program, rows, *options):
         program.prints(["expand", *options, template, query], expansion)
 
 
-def test_plain_names(program):
-    expands(program, PLAIN)
+class ExpandCommand(ProgramCase):
+    def test_plain_names(self):
+        expands(self.program, PLAIN)
 
+    def test_operators(self):
+        expands(self.program, OPERATORS)
 
-def test_operators(program):
-    expands(program, OPERATORS)
+    def test_prefixes_cut_at_items(self):
+        expands(self.program, PREFIXES)
 
+    def test_lists(self):
+        expands(self.program, LISTS)
+        expands(self.program, DECLARED, "--list", "list")
+        expands(self.program, [("{a}{b*}", "b=2&a=1&a=1", "1,12")], "--list", "a", "--list", "b")
 
-def test_prefixes_cut_at_items(program):
-    expands(program, PREFIXES)
+    def test_a_long_value(self):
+        expands(self.program, [("{x}", "x=" + "+" * 40_000, "%20" * 40_000)])
 
+    def test_refusals(self):
+        for template, query, fault in REFUSED:
+            self.program.fails(["expand", template, query], 3, fault)
 
-def test_lists(program):
-    expands(program, LISTS)
-    expands(program, DECLARED, "--list", "list")
-    expands(program, [("{a}{b*}", "b=2&a=1&a=1", "1,12")], "--list", "a", "--list", "b")
-
-
-def test_a_long_value(program):
-    expands(program, [("{x}", "x=" + "+" * 40_000, "%20" * 40_000)])
-
-
-def test_refusals(program):
-    for template, query, fault in REFUSED:
-        program.fails(["expand", template, query], 3, fault)
-
-
-def test_other_arguments(program):
-    for arguments in OTHER_ARGUMENTS:
-        program.fails(["expand", *arguments], 2, "usage")
+    def test_other_arguments(self):
+        for arguments in OTHER_ARGUMENTS:
+            self.program.fails(["expand", *arguments], 2, "usage")

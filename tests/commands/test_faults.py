@@ -1,8 +1,9 @@
 """Each error that the program prints, once, and all words that docs/ERRORS.md lists."""
 import re
-from fixtures.assembler import LIST_FILE, TWENTY_TEXTS, code, instruction
+
 from commands.test_compilers_limits import guards, pages
-from fixtures.program import as_bytes
+from fixtures.assembler import LIST_FILE, TWENTY_TEXTS, code, instruction
+from fixtures.program import ProgramCase, as_bytes
 
 # A template, and its error.
 TEMPLATES = [
@@ -121,28 +122,27 @@ def cases():
         yield {}, arguments, status, error
 
 
-def test_each_error(program):
-    program.write("good.rules", "rule\nlink a\n")
-    program.write("good.olk", LIST_FILE)
-    program.write("good.tsv", "x\n1\n")
-    program.write("twenty.olk", TWENTY_TEXTS)
-    for files, arguments, status, error in cases():
-        for name, content in files.items():
-            program.write(name, as_bytes(content))
-        program.fails(arguments, status, error)
-
-
 def words_in(texts, pattern):
     """The matches of the pattern that are written in both cases, as the kinds of errors are."""
     found = {word for text in texts for word in re.findall(pattern, text)}
     return {word for word in found if not word.isupper() and not word.islower()}
 
 
-def test_the_words_of_the_document(program):
-    """The lists of docs/ERRORS.md have each kind of error that is printed, and no other."""
-    with open("docs/ERRORS.md") as document:
-        rows = [line for line in document if line.startswith("- `")]
-    listed = words_in(rows, r"`([A-Z]\w+)`") | words_in(rows, r"^- `target NAME: ([A-Z]\w+)`")
-    printed = words_in((error for *_, error in cases()), r"\b[A-Z]\w+\b") - {"Template"}
-    program.runs += 1
-    program.expect("kinds that are listed or printed alone", sorted(listed ^ printed), [])
+class Faults(ProgramCase):
+    def test_each_error(self):
+        self.program.write("good.rules", "rule\nlink a\n")
+        self.program.write("good.olk", LIST_FILE)
+        self.program.write("good.tsv", "x\n1\n")
+        self.program.write("twenty.olk", TWENTY_TEXTS)
+        for files, arguments, status, error in cases():
+            for name, content in files.items():
+                self.program.write(name, as_bytes(content))
+            self.program.fails(arguments, status, error)
+
+    def test_the_words_of_the_document(self):
+        """The lists of docs/ERRORS.md have each kind of error that is printed, and no other."""
+        with open("docs/ERRORS.md") as document:
+            rows = [line for line in document if line.startswith("- `")]
+        listed = words_in(rows, r"`([A-Z]\w+)`") | words_in(rows, r"^- `target NAME: ([A-Z]\w+)`")
+        printed = words_in((error for *_, error in cases()), r"\b[A-Z]\w+\b") - {"Template"}
+        self.program.expect("kinds that are listed or printed alone", sorted(listed ^ printed), [])

@@ -1,4 +1,6 @@
 """Which of several errors of a template or a rule file is named: the first from the left, that of the first line."""
+from fixtures.program import ProgramCase
+
 # Templates, and their first error from the left.
 TEMPLATES = [
     ("{a{b}", "BadName at 1"), ("{a b,c:0}", "BadName at 1"), ("{a:0,b c}", "BadModifier at 2"),
@@ -45,13 +47,13 @@ FILES = [
 ]
 
 
-def test_templates(program):
-    for template, fault in TEMPLATES:
-        program.fails(["expand", template, ""], 3, f"template: {fault}")
+class FaultsInOrder(ProgramCase):
+    def test_templates(self):
+        for template, fault in TEMPLATES:
+            self.program.fails(["expand", template, ""], 3, f"template: {fault}")
 
-
-def test_rules(program):
-    for content, fault in [("\n".join(lines) + "\n", fault) for lines, fault in RULES] + FILES:
-        program.write("rules", content)
-        program.fails(["link", "rules", ""], 3, f"rules: {fault}")
-        program.fails(["compile", "rules", "code"], 3, f"rules: {fault}")
+    def test_rules(self):
+        for content, fault in [("\n".join(lines) + "\n", fault) for lines, fault in RULES] + FILES:
+            self.program.write("rules", content)
+            self.program.fails(["link", "rules", ""], 3, f"rules: {fault}")
+            self.program.fails(["compile", "rules", "code"], 3, f"rules: {fault}")

@@ -1,6 +1,10 @@
 """What docs/ERRORS.md says to do about an error, done: its commands run in the folder of the test, and the error is
 gone or its place is found."""
-import os, re, subprocess
+import os
+import re
+import subprocess
+
+from fixtures.program import ProgramCase
 
 PAGE = os.path.abspath("docs/ERRORS.md")
 # Bytes that are not UTF-8, after two characters of one and of three bytes: a lone byte, a character over U+10FFFF, a
@@ -20,41 +24,39 @@ def shell(program, command):
     return subprocess.run(["bash", "-c", command], cwd=program.folder, capture_output=True, text=True)
 
 
-def test_wrong_byte_is_found(program):
-    for holding, front in ("RULES", "# \u20ac"), ("TABLE", "a \u20ac"):
-        find = commands_of("NotUtf8", holding)[0]
-        for wrong in WRONG:
-            program.write(holding, front.encode() + wrong + b"\n")
-            arguments, fault = {"RULES": (["link", "RULES", ""], "rules: line 0: NotUtf8"),
-                                "TABLE": (["inspect", "TABLE"], "table: NotUtf8")}[holding]
-            program.fails(arguments, 3, fault)
-            place = re.search(r"position (\d+)", shell(program, find).stderr)
-            program.expect(f"{find} on {wrong}", place and int(place[1]), len(front.encode()))
+class FaultsPage(ProgramCase):
+    def test_wrong_byte_is_found(self):
+        for holding, front in ("RULES", "# \u20ac"), ("TABLE", "a \u20ac"):
+            find = commands_of("NotUtf8", holding)[0]
+            for wrong in WRONG:
+                self.program.write(holding, front.encode() + wrong + b"\n")
+                arguments, fault = {"RULES": (["link", "RULES", ""], "rules: line 0: NotUtf8"),
+                                    "TABLE": (["inspect", "TABLE"], "table: NotUtf8")}[holding]
+                self.program.fails(arguments, 3, fault)
+                place = re.search(r"position (\d+)", shell(self.program, find).stderr)
+                self.program.expect(f"{find} on {wrong}", place and int(place[1]), len(front.encode()))
 
+    def test_ends_of_lines(self):
+        """Lines of rules that end with CR alone are one line."""
+        self.program.write("RULES", RULE.replace("\n", "\r"))
+        self.program.fails(["link", "RULES", ""], 3, "rules: line 1: BadLine")
+        with open(PAGE, encoding="utf-8") as page:
+            mend = re.search(r"end with CR alone.*\): `([^`]+)`", page.read())[1]
+        shell(self.program, mend)
+        self.program.prints(["link", "NEW", ""], "http://e.org/")
 
-def test_ends_of_lines(program):
-    """Lines of rules that end with CR alone are one line."""
-    program.write("RULES", RULE.replace("\n", "\r"))
-    program.fails(["link", "RULES", ""], 3, "rules: line 1: BadLine")
-    with open(PAGE, encoding="utf-8") as page:
-        mend = re.search(r"end with CR alone.*\): `([^`]+)`", page.read())[1]
-    shell(program, mend)
-    program.prints(["link", "NEW", ""], "http://e.org/")
+    def test_dash_is_a_file(self):
+        self.program.fails(["inspect", "-"], 4, "device: -")
+        self.program.write("-", "print_identifier\n")
+        self.program.gives(["inspect", "-"], 1, self.program.run(["inspect", "./-"])[1], "")
 
-
-def test_dash_is_a_file(program):
-    program.fails(["inspect", "-"], 4, "device: -")
-    program.write("-", "print_identifier\n")
-    program.gives(["inspect", "-"], 1, program.run(["inspect", "./-"])[1], "")
-
-
-def test_long_names(program):
-    """A file system has names of at most 255 bytes, and `.new` is added. The file has a header of ten bytes, a literal
-    of thirteen with three before it, and three instructions of eight."""
-    program.write("RULES", RULE)
-    for length in 251, 252, 255:
-        name = "n" * length
-        if length == 251:
-            program.prints(["compile", "RULES", name], "50 bytes")
-        else:
-            program.fails(["compile", "RULES", name], 4, f"device: {name}")
+    def test_long_names(self):
+        """A file system has names of at most 255 bytes, and `.new` is added. The file has a header of ten bytes, a
+        literal of thirteen with three before it, and three instructions of eight."""
+        self.program.write("RULES", RULE)
+        for length in 251, 252, 255:
+            name = "n" * length
+            if length == 251:
+                self.program.prints(["compile", "RULES", name], "50 bytes")
+            else:
+                self.program.fails(["compile", "RULES", name], 4, f"device: {name}")

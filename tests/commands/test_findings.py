@@ -1,36 +1,11 @@
 """What `lint` finds in the rules of a target, and `inspect` in its table."""
+from fixtures.program import ProgramCase
 
 
 def finds(program, rules, table, printed, status):
     program.write("some.rules", rules)
     program.write("some.tsv", table)
     program.gives(["lint", "some.rules", "some.tsv"], status, printed, "")
-
-
-def test_requests_that_choose_the_host(program):
-    rules = "rule\nwhen given rft.isssn\nlink https://e.org{x}\nrule\nlink {+title_url}\nrule\nlink none:\n"
-    table = "print_identifier\ttitle_url\n1234-5679\thttp://e.org/a\n2049-3630\t\n"
-    printed = """rules 3
-rule 1, guard 1: unknown name rft.isssn, did you mean rft.issn
-rule 1, link: unknown name x
-rule 1, link: a request can set the host by x
-rule 2, link: a request can set the host by title_url
-rule 3 is never reached
-"""
-    finds(program, rules, table, printed, 1)
-
-
-def test_no_link_before_the_last_rule(program):
-    rules = "rule\nwhen given rft.isssn\nlink https://e.org{x}\nrule\nlink none:\nrule\nlink {+title_url}\n"
-    table = "print_identifier\ttitle_url\n1234-5679\thttp://e.org/a\n2049-3630\thttp://e.org/b\n"
-    printed = """rules 3
-rule 1, guard 1: unknown name rft.isssn, did you mean rft.issn
-rule 1, link: unknown name x
-rule 1, link: a request can set the host by x
-rule 2, link: never a web link
-rule 3 is never reached
-"""
-    finds(program, rules, table, printed, 1)
 
 
 TABLE = (
@@ -63,13 +38,6 @@ LINKS = [
     ("http:/e.org/{rft.date}", "never a web link", 0),
 ]
 
-
-def test_links(program):
-    for link, found, status in LINKS:
-        line = f"rule 1, link: {found}\n" if found else ""
-        finds(program, f"rule\nlink {link}", TABLE, f"rules 1\n{line}", status)
-
-
 # The cells of two rows, and whether each has a host that no request sets in `https://{+host}/{rft.issue}`.
 HOSTS = [
     (("e.org", "f.org"), True),
@@ -83,65 +51,6 @@ HOSTS = [
     (("@e.org", "f.org"), False),
     (("e.org", ""), False),
 ]
-
-
-def test_cells_with_hosts(program):
-    for cells, has_host in HOSTS:
-        table = "print_identifier\thost\n" + "".join(f"1234-5679\t{cell}\n" for cell in cells)
-        names = ["host"] * ("" in cells) + ["rft.issue"] if not has_host else []
-        lines = "".join(f"rule 1, link: a request can set the host by {name}\n" for name in names)
-        rules = "rule\nlink https://{+host}/{rft.issue}\n"
-        finds(program, rules, table, f"rules 1\n{lines}", 0 if has_host else 1)
-        # No name follows the host.
-        found = "a request can set the host by host" if "" in cells else "a row may give no host, or one with @"
-        lines = "" if has_host else f"rule 1, link: {found}\n"
-        finds(program, "rule\nlink https://{+host}/a/\n", table, f"rules 1\n{lines}", 0 if has_host else 1)
-
-
-def test_no_rules(program):
-    finds(program, "", TABLE, "rules 0\n", 1)
-
-
-def test_names_and_bounds(program):
-    rules = "rule\nwhen has title_name\nlink http://e.org/{num_first_vol_online}"
-    printed = """rules 1
-rule 1, guard 1: unknown name title_name, did you mean Title_Name
-rule 1, link: no column num_first_vol_online
-"""
-    finds(program, rules, TABLE, printed, 1)
-    rules = "rule\nwhen rft.volume from 5 to 5\nwhen rft.volume from 5 to 4\nlink http://e.org/{issn}"
-    printed = """rules 1
-rule 1, guard 2: never holds
-rule 1, link: unknown name issn, did you mean rft.issn
-"""
-    finds(program, rules, TABLE, printed, 1)
-
-
-def test_a_table(program):
-    program.write("some.tsv", "Print Identifier\tonline_identifier\tdate_first_issue_online\tx\n"
-                              "1234-5679\t2049-3630\t1995\t\n1234-5679\t\t3/1/1995\ta\tb\n")
-    printed = """rows 2
-identifiers 1
-no column print_identifier
-unknown column "Print Identifier", did you mean print_identifier
-unknown column "x"
-rows without an identifier 1, first 1
-rows of one identifier 1, "20493630"
-date_first_issue_online not a date 1, first 1 "3/1/1995"
-rows longer than the header 1, first 1
-"""
-    program.gives(["inspect", "some.tsv"], 1, printed, "")
-
-
-def test_columns_of_coverage(program):
-    program.write("some.tsv", "print_identifier\tonline_identifier\tcoverage_from\tcoverage_to\n1234-5679\t\t\t\n")
-    printed = "rows 1\nidentifiers 1\nrows of one identifier 1, \"12345679\"\n"
-    program.gives(["inspect", "some.tsv"], 0, printed, "")
-    program.write("some.tsv", "print_identifier\tonline_identifier\tCoverage from\n1234-5679\t\t\n")
-    printed = ("rows 1\nidentifiers 1\nunknown column \"Coverage from\", did you mean coverage_from\n"
-               "rows of one identifier 1, \"12345679\"\n")
-    program.gives(["inspect", "some.tsv"], 1, printed, "")
-
 
 # Tables without identifiers, how many rows they have, and the lines of their columns and of cells past the header.
 ROWS = [
@@ -157,12 +66,102 @@ ROWS = [
 ]
 
 
-def test_rows_of_tables(program):
-    for table, rows, columns, longer in ROWS:
-        program.write("some.tsv", table)
-        printed = (f"rows {rows}\nidentifiers 0\nno column print_identifier\nno column online_identifier\n{columns}"
-                   f"rows without an identifier {rows}, first 0\n{longer}")
-        program.gives(["inspect", "some.tsv"], 1, printed, "")
-    # Only a header.
-    program.write("some.tsv", "print_identifier\n")
-    program.gives(["inspect", "some.tsv"], 1, "rows 0\nidentifiers 0\nno column online_identifier\n", "")
+class Findings(ProgramCase):
+    def test_requests_that_choose_the_host(self):
+        rules = "rule\nwhen given rft.isssn\nlink https://e.org{x}\nrule\nlink {+title_url}\nrule\nlink none:\n"
+        table = "print_identifier\ttitle_url\n1234-5679\thttp://e.org/a\n2049-3630\t\n"
+        printed = (
+            "rules 3\n"
+            "rule 1, guard 1: unknown name rft.isssn, did you mean rft.issn\n"
+            "rule 1, link: unknown name x\n"
+            "rule 1, link: a request can set the host by x\n"
+            "rule 2, link: a request can set the host by title_url\n"
+            "rule 3 is never reached\n"
+        )
+        finds(self.program, rules, table, printed, 1)
+
+    def test_no_link_before_the_last_rule(self):
+        rules = "rule\nwhen given rft.isssn\nlink https://e.org{x}\nrule\nlink none:\nrule\nlink {+title_url}\n"
+        table = "print_identifier\ttitle_url\n1234-5679\thttp://e.org/a\n2049-3630\thttp://e.org/b\n"
+        printed = (
+            "rules 3\n"
+            "rule 1, guard 1: unknown name rft.isssn, did you mean rft.issn\n"
+            "rule 1, link: unknown name x\n"
+            "rule 1, link: a request can set the host by x\n"
+            "rule 2, link: never a web link\n"
+            "rule 3 is never reached\n"
+        )
+        finds(self.program, rules, table, printed, 1)
+
+    def test_links(self):
+        for link, found, status in LINKS:
+            line = f"rule 1, link: {found}\n" if found else ""
+            finds(self.program, f"rule\nlink {link}", TABLE, f"rules 1\n{line}", status)
+
+    def test_cells_with_hosts(self):
+        for cells, has_host in HOSTS:
+            table = "print_identifier\thost\n" + "".join(f"1234-5679\t{cell}\n" for cell in cells)
+            names = ["host"] * ("" in cells) + ["rft.issue"] if not has_host else []
+            lines = "".join(f"rule 1, link: a request can set the host by {name}\n" for name in names)
+            rules = "rule\nlink https://{+host}/{rft.issue}\n"
+            finds(self.program, rules, table, f"rules 1\n{lines}", 0 if has_host else 1)
+            # No name follows the host.
+            found = "a request can set the host by host" if "" in cells else "a row may give no host, or one with @"
+            lines = "" if has_host else f"rule 1, link: {found}\n"
+            finds(self.program, "rule\nlink https://{+host}/a/\n", table, f"rules 1\n{lines}", 0 if has_host else 1)
+
+    def test_no_rules(self):
+        finds(self.program, "", TABLE, "rules 0\n", 1)
+
+    def test_names_and_bounds(self):
+        rules = "rule\nwhen has title_name\nlink http://e.org/{num_first_vol_online}"
+        printed = (
+            "rules 1\n"
+            "rule 1, guard 1: unknown name title_name, did you mean Title_Name\n"
+            "rule 1, link: no column num_first_vol_online\n"
+        )
+        finds(self.program, rules, TABLE, printed, 1)
+        rules = "rule\nwhen rft.volume from 5 to 5\nwhen rft.volume from 5 to 4\nlink http://e.org/{issn}"
+        printed = (
+            "rules 1\n"
+            "rule 1, guard 2: never holds\n"
+            "rule 1, link: unknown name issn, did you mean rft.issn\n"
+        )
+        finds(self.program, rules, TABLE, printed, 1)
+
+    def test_a_table(self):
+        self.program.write("some.tsv", "Print Identifier\tonline_identifier\tdate_first_issue_online\tx\n"
+                                  "1234-5679\t2049-3630\t1995\t\n1234-5679\t\t3/1/1995\ta\tb\n")
+        printed = (
+            "rows 2\n"
+            "identifiers 1\n"
+            "no column print_identifier\n"
+            "unknown column \"Print Identifier\", did you mean print_identifier\n"
+            "unknown column \"x\"\n"
+            "rows without an identifier 1, first 1\n"
+            "rows of one identifier 1, \"20493630\"\n"
+            "date_first_issue_online not a date 1, first 1 \"3/1/1995\"\n"
+            "rows longer than the header 1, first 1\n"
+        )
+        self.program.gives(["inspect", "some.tsv"], 1, printed, "")
+
+    def test_columns_of_coverage(self):
+        self.program.write(
+            "some.tsv", "print_identifier\tonline_identifier\tcoverage_from\tcoverage_to\n1234-5679\t\t\t\n"
+        )
+        printed = "rows 1\nidentifiers 1\nrows of one identifier 1, \"12345679\"\n"
+        self.program.gives(["inspect", "some.tsv"], 0, printed, "")
+        self.program.write("some.tsv", "print_identifier\tonline_identifier\tCoverage from\n1234-5679\t\t\n")
+        printed = ("rows 1\nidentifiers 1\nunknown column \"Coverage from\", did you mean coverage_from\n"
+                   "rows of one identifier 1, \"12345679\"\n")
+        self.program.gives(["inspect", "some.tsv"], 1, printed, "")
+
+    def test_rows_of_tables(self):
+        for table, rows, columns, longer in ROWS:
+            self.program.write("some.tsv", table)
+            printed = (f"rows {rows}\nidentifiers 0\nno column print_identifier\nno column online_identifier\n{columns}"
+                       f"rows without an identifier {rows}, first 0\n{longer}")
+            self.program.gives(["inspect", "some.tsv"], 1, printed, "")
+        # Only a header.
+        self.program.write("some.tsv", "print_identifier\n")
+        self.program.gives(["inspect", "some.tsv"], 1, "rows 0\nidentifiers 0\nno column online_identifier\n", "")

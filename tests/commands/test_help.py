@@ -1,4 +1,5 @@
 """What the program says of itself, and arguments that are no command."""
+from fixtures.program import ProgramCase
 
 COMMANDS = ["expand", "link", "compile", "verify", "show", "upgrade", "run", "inspect", "lint", "explain",
             "resolve", "serve"]
@@ -26,21 +27,20 @@ def printed(program, argument):
     return output.decode()
 
 
-def test_help_names_each_command(program):
-    text = printed(program, "--help")
-    for name in COMMANDS:
-        program.expect(f"the help names {name}", f"\n  openlink {name} " in text)
-    for argument in "-h", "help":
-        program.expect(f"openlink {argument}", printed(program, argument), text)
+class HelpText(ProgramCase):
+    def test_help_names_each_command(self):
+        text = printed(self.program, "--help")
+        for name in COMMANDS:
+            self.program.expect(f"the help names {name}", f"\n  openlink {name} " in text)
+        for argument in "-h", "help":
+            self.program.expect(f"openlink {argument}", printed(self.program, argument), text)
 
+    def test_version(self):
+        line = printed(self.program, "--version")
+        self.program.expect("the line begins and ends", (line[:9], line[-1:]), ("openlink ", "\n"))
+        for part in line[9:-1].split("."):
+            self.program.expect(f"{part!r} is a number", part.isascii() and part.isdigit())
 
-def test_version(program):
-    line = printed(program, "--version")
-    program.expect("the line begins and ends", (line[:9], line[-1:]), ("openlink ", "\n"))
-    for part in line[9:-1].split("."):
-        program.expect(f"{part!r} is a number", part.isascii() and part.isdigit())
-
-
-def test_no_commands(program):
-    for arguments in NO_COMMANDS:
-        program.fails(arguments, 2, "usage")
+    def test_no_commands(self):
+        for arguments in NO_COMMANDS:
+            self.program.fails(arguments, 2, "usage")

@@ -1,6 +1,7 @@
 """Cells of tables with spaces at their ends, what they count, the limit of a table's bytes, and rows that are much
 shorter than the header."""
 from fixtures.assembler import code
+from fixtures.program import ProgramCase
 from fixtures.service import expect_replies, reply_of, request_of
 from fixtures.targets import ANY_LINK, write_registry
 
@@ -41,33 +42,31 @@ def table(first, second):
     return f"print_identifier\ta\tb\n1\t{first}\t{second}\n"
 
 
-def test_cells_keep_their_spaces(program):
-    program.write("rules", LINK)
-    program.prints(["compile", "rules", "code"], "191 bytes")
-    compiled = program.read("code")
-    write_registry(program, [(f"t{at}", compiled, table(*cells)) for at, (*cells, _, _) in enumerate(CELLS)])
-    menu = [f"t{at}\thttp://e.org/{link}" for at, (_, _, link, _) in enumerate(CELLS)]
-    program.prints(["resolve", "registry", "rft.issn=1"], "\n".join(menu))
+class Holdings(ProgramCase):
+    def test_cells_keep_their_spaces(self):
+        self.program.write("rules", LINK)
+        self.program.prints(["compile", "rules", "code"], "191 bytes")
+        compiled = self.program.read("code")
+        write_registry(self.program, [(f"t{at}", compiled, table(*cells)) for at, (*cells, _, _) in enumerate(CELLS)])
+        menu = [f"t{at}\thttp://e.org/{link}" for at, (_, _, link, _) in enumerate(CELLS)]
+        self.program.prints(["resolve", "registry", "rft.issn=1"], "\n".join(menu))
 
+    def test_cells_count_with_their_spaces(self):
+        write_registry(self.program, [(f"t{at}", SCALE, table(*cells)) for at, (*cells, _, _) in enumerate(CELLS)])
+        # The identifiers of the row and of the request are a byte each.
+        counts = [f"t{at}\tover budget {1048576 + 3 * (2 + count)}\n" for at, (_, _, _, count) in enumerate(CELLS)]
+        expect_replies(self.program, [(request_of("/report?rft.issn=1"), reply_of(200, "".join(counts)))])
 
-def test_cells_count_with_their_spaces(program):
-    write_registry(program, [(f"t{at}", SCALE, table(*cells)) for at, (*cells, _, _) in enumerate(CELLS)])
-    # The identifiers of the row and of the request are a byte each.
-    counts = [f"t{at}\tover budget {1048576 + 3 * (2 + count)}\n" for at, (_, _, _, count) in enumerate(CELLS)]
-    expect_replies(program, [(request_of("/report?rft.issn=1"), reply_of(200, "".join(counts)))])
+    def test_limit_of_bytes(self):
+        for content, fault in LIMITS:
+            write_registry(self.program, [("alpha", ANY_LINK, content)])
+            self.program.fails(["resolve", "registry", "rft.issn=1"], 3, f"target alpha: table: {fault}")
+        write_registry(self.program, [("alpha", ANY_LINK, MARK + b"print_identifier\n1\n" + b"\n" * (MOST - 22))])
+        self.program.prints(["resolve", "registry", "rft.issn=1"], "alpha\thttp://e.org/")
 
-
-def test_limit_of_bytes(program):
-    for content, fault in LIMITS:
-        write_registry(program, [("alpha", ANY_LINK, content)])
-        program.fails(["resolve", "registry", "rft.issn=1"], 3, f"target alpha: table: {fault}")
-    write_registry(program, [("alpha", ANY_LINK, MARK + b"print_identifier\n1\n" + b"\n" * (MOST - 22))])
-    program.prints(["resolve", "registry", "rft.issn=1"], "alpha\thttp://e.org/")
-
-
-def test_short_rows_of_a_wide_table(program):
-    """With a step for each column of each row, this would take longer than a run may take."""
-    columns = "\t".join(["print_identifier"] + ["c"] * 32_000 + ["online_identifier", "last"])
-    table = columns + "\n" + "1\n" * 199_999 + "1" + "\t" * 32_002 + "x\n"
-    write_registry(program, [("wide", "rule\nwhen given last\nlink http://e.org/{last}\n", table)])
-    program.prints(["resolve", "registry", "rft.issn=1"], "wide\thttp://e.org/x")
+    def test_short_rows_of_a_wide_table(self):
+        """With a step for each column of each row, this would take longer than a run may take."""
+        columns = "\t".join(["print_identifier"] + ["c"] * 32_000 + ["online_identifier", "last"])
+        table = columns + "\n" + "1\n" * 199_999 + "1" + "\t" * 32_002 + "x\n"
+        write_registry(self.program, [("wide", "rule\nwhen given last\nlink http://e.org/{last}\n", table)])
+        self.program.prints(["resolve", "registry", "rft.issn=1"], "wide\thttp://e.org/x")

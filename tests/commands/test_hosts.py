@@ -1,4 +1,5 @@
 """Which counts of Host fields a request may have: at most one, and one in HTTP/1.1 (RFC 9112, 3.2)."""
+from fixtures.program import ProgramCase
 from fixtures.service import NO_LINKS, expect_replies, reply_of, request_of
 from fixtures.targets import write_alpha
 
@@ -25,31 +26,32 @@ FIELDS = [
 ]
 
 
-def test_counts_of_host(program):
-    write_alpha(program)
-    cases = []
-    for target in ("/openurl", "http://a/openurl", "HTTPS://b/openurl"):
+class Hosts(ProgramCase):
+    def test_counts_of_host(self):
+        write_alpha(self.program)
+        cases = []
+        for target in ("/openurl", "http://a/openurl", "HTTPS://b/openurl"):
+            for minor, accepted in ACCEPTED.items():
+                for count in range(4):
+                    request = request_of(target, ["Host: a"] * count, version=f"HTTP/1.{minor}")
+                    cases.append((request, PAGE if accepted[count] else BAD))
+        expect_replies(self.program, cases)
+
+    def test_which_fields_are_host(self):
+        write_alpha(self.program)
+        cases = []
+        for fields, count in FIELDS:
+            for minor, accepted in ACCEPTED.items():
+                cases.append(
+                    (request_of("/openurl", fields, version=f"HTTP/1.{minor}"), PAGE if accepted[count] else BAD)
+                )
+        expect_replies(self.program, cases)
+
+    def test_hosts_are_counted_before_the_method_is_read(self):
+        write_alpha(self.program)
+        cases = []
         for minor, accepted in ACCEPTED.items():
             for count in range(4):
-                request = request_of(target, ["Host: a"] * count, version=f"HTTP/1.{minor}")
-                cases.append((request, PAGE if accepted[count] else BAD))
-    expect_replies(program, cases)
-
-
-def test_which_fields_are_host(program):
-    write_alpha(program)
-    cases = []
-    for fields, count in FIELDS:
-        for minor, accepted in ACCEPTED.items():
-            cases.append((request_of("/openurl", fields, version=f"HTTP/1.{minor}"), PAGE if accepted[count] else BAD))
-    expect_replies(program, cases)
-
-
-def test_hosts_are_counted_before_the_method_is_read(program):
-    write_alpha(program)
-    cases = []
-    for minor, accepted in ACCEPTED.items():
-        for count in range(4):
-            request = request_of("/openurl", ["Host: a"] * count, "POST", f"HTTP/1.{minor}")
-            cases.append((request, REFUSED if accepted[count] else BAD))
-    expect_replies(program, cases)
+                request = request_of("/openurl", ["Host: a"] * count, "POST", f"HTTP/1.{minor}")
+                cases.append((request, REFUSED if accepted[count] else BAD))
+        expect_replies(self.program, cases)

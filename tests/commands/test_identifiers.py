@@ -1,4 +1,5 @@
 """How identifiers are compared: without `-` and spaces, small ASCII letters as capitals, all else as it is."""
+from fixtures.program import ProgramCase
 from fixtures.service import expect_replies, reply_of, request_of
 from fixtures.targets import ANY_LINK, write_registry
 
@@ -41,34 +42,32 @@ def reported(line):
     return reply_of(200, f"alpha\t{line}\n")
 
 
-def test_all_characters(program):
-    cells = [f"1{character}2" for character in IN_CELLS]
-    for column, key in COLUMNS:
-        write_registry(program, [("alpha", ANY_LINK, "\n".join([column, *cells, ""]))])
-        cases = []
-        for character in ASCII:
-            rows = [row for row, cell in enumerate(cells) if normal(cell) == normal(f"1{character}2")]
-            request = request_of(f"/report?{key}=1%{ord(character):02X}2")
-            cases.append((request, reported(f"link {rows[0]}" if rows else "no row")))
-        expect_replies(program, cases)
+class Identifiers(ProgramCase):
+    def test_all_characters(self):
+        cells = [f"1{character}2" for character in IN_CELLS]
+        for column, key in COLUMNS:
+            write_registry(self.program, [("alpha", ANY_LINK, "\n".join([column, *cells, ""]))])
+            cases = []
+            for character in ASCII:
+                rows = [row for row, cell in enumerate(cells) if normal(cell) == normal(f"1{character}2")]
+                request = request_of(f"/report?{key}=1%{ord(character):02X}2")
+                cases.append((request, reported(f"link {rows[0]}" if rows else "no row")))
+            expect_replies(self.program, cases)
 
+    def test_dropped_characters(self):
+        """Those that a cell may have between its letters, and be found without; they are two."""
+        targets = [(f"byte-{ord(one)}", ANY_LINK, f"print_identifier\nA{one}B\n") for one in IN_CELLS]
+        write_registry(self.program, targets)
+        self.program.prints(["resolve", "registry", "rft.issn=AB"], "byte-32\thttp://e.org/\nbyte-45\thttp://e.org/")
 
-def test_dropped_characters(program):
-    """Those that a cell may have between its letters, and be found without; they are two."""
-    targets = [(f"byte-{ord(one)}", ANY_LINK, f"print_identifier\nA{one}B\n") for one in IN_CELLS]
-    write_registry(program, targets)
-    program.prints(["resolve", "registry", "rft.issn=AB"], "byte-32\thttp://e.org/\nbyte-45\thttp://e.org/")
+    def test_one_cell(self):
+        for column, key in COLUMNS:
+            write_registry(self.program, [("alpha", ANY_LINK, f"{column}\n0028-083X\n")])
+            cases = [(request_of(f"/report?{key}={value}"), reported("link 0")) for value in EQUAL]
+            cases += [(request_of(f"/report?{key}={value}"), reported("no row")) for value in OTHER]
+            expect_replies(self.program, cases)
 
-
-def test_one_cell(program):
-    for column, key in COLUMNS:
-        write_registry(program, [("alpha", ANY_LINK, f"{column}\n0028-083X\n")])
-        cases = [(request_of(f"/report?{key}={value}"), reported("link 0")) for value in EQUAL]
-        cases += [(request_of(f"/report?{key}={value}"), reported("no row")) for value in OTHER]
-        expect_replies(program, cases)
-
-
-def test_other_cells(program):
-    for cell, value in CELLS:
-        write_registry(program, [("alpha", ANY_LINK, f"notes\tprint_identifier\nx\t{cell}\n")])
-        program.finds_no_link(["resolve", "registry", f"rft.issn={value}"])
+    def test_other_cells(self):
+        for cell, value in CELLS:
+            write_registry(self.program, [("alpha", ANY_LINK, f"notes\tprint_identifier\nx\t{cell}\n")])
+            self.program.finds_no_link(["resolve", "registry", f"rft.issn={value}"])

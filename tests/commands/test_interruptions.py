@@ -1,8 +1,11 @@
 """A service that is stopped and continued, as by a shell or in a frozen container. If it has a time-out, the call that
 it waits in ends then (signal(7)), and is made again, up to 16 times, each time with the whole time-out."""
-import signal, socket
+import signal
+import socket
+
 from commands.test_connections import MANY, LONG_REQUEST, NOT_FOUND, REQUEST, connect, rest, write_long
 from fixtures.patience import best_of_three, wait_until
+from fixtures.program import ProgramCase
 from fixtures.service import Service
 from fixtures.targets import write_alpha
 
@@ -46,31 +49,29 @@ def reply_after(program, interruptions):
         return rest(peer)
 
 
-def test_interrupted_reads(program):
-    write_alpha(program)
-    for count, expected in (1, NOT_FOUND), (MOST, NOT_FOUND), (MOST + 1, b""):
-        program.runs += 1
+class Interruptions(ProgramCase):
+    def test_interrupted_reads(self):
+        write_alpha(self.program)
+        for count, expected in (1, NOT_FOUND), (MOST, NOT_FOUND), (MOST + 1, b""):
+
+            def fault_of():
+                reply = reply_after(self.program, count)
+                return None if reply == expected else reply
+
+            self.program.expect(f"the reply after {count} interruptions", best_of_three(fault_of), None)
+
+    def test_interrupted_writes(self):
+        """The first interruption ends a write that has taken some bytes, the others one that has taken none."""
+        page = write_long(self.program, MANY)
 
         def fault_of():
-            reply = reply_after(program, count)
-            return None if reply == expected else reply
+            with Service(self.program, 1) as service, connect(service, 4096) as peer:
+                peer.sendall(LONG_REQUEST)
+                peer.recv(1, socket.MSG_PEEK)
+                wait_until(lambda: state_of(service.process) == "S")
+                for _ in range(3):
+                    interrupt(service.process)
+                received = rest(peer)
+            return None if received == page else f"{len(received)} bytes of {len(page)}, or others"
 
-        program.expect(f"the reply after {count} interruptions", best_of_three(fault_of), None)
-
-
-def test_interrupted_writes(program):
-    """The first interruption ends a write that has taken some bytes, the others one that has taken none."""
-    page = write_long(program, MANY)
-    program.runs += 1
-
-    def fault_of():
-        with Service(program, 1) as service, connect(service, 4096) as peer:
-            peer.sendall(LONG_REQUEST)
-            peer.recv(1, socket.MSG_PEEK)
-            wait_until(lambda: state_of(service.process) == "S")
-            for _ in range(3):
-                interrupt(service.process)
-            received = rest(peer)
-        return None if received == page else f"{len(received)} bytes of {len(page)}, or others"
-
-    program.expect("the whole page", best_of_three(fault_of), None)
+        self.program.expect("the whole page", best_of_three(fault_of), None)

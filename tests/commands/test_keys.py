@@ -1,4 +1,5 @@
 """Which keys of a request and which columns of a table identify a title: three keys, two columns, each with each."""
+from fixtures.program import ProgramCase
 from fixtures.service import expect_replies, reply_of, request_of
 from fixtures.targets import ANY_LINK, write_registry
 
@@ -27,19 +28,6 @@ rfe.issn rfr.issn req.issn svc.issn res.issn x.issn x.isbn print_identifier onli
 rft.issn+ rft.issn%00
 """.split()
 
-
-def test_keys_and_columns(program):
-    """Each key on a table for each column alone."""
-    columns = COLUMNS + OTHER_COLUMNS
-    write_registry(program, [
-        (f"c{number}", ANY_LINK, f"x\t{column}\ty\nu\t1234-5678\tv\n") for number, column in enumerate(columns)])
-    none = "".join(f"c{number}\tno row\n" for number in range(len(columns)))
-    some = "".join(f"c{at}\t{'link 0' if column in COLUMNS else 'no row'}\n" for at, column in enumerate(columns))
-    cases = [(request_of(f"/report?{key}=12345678"), reply_of(200, some)) for key in KEYS]
-    cases += [(request_of(f"/report?{key}=12345678"), reply_of(200, none)) for key in OTHER_KEYS]
-    expect_replies(program, cases)
-
-
 TABLE = "print_identifier\tonline_identifier\n1\t2\n3\t\n\t4\n5\t5\n4\t1\n"
 
 # A query, and the row of the table that gives the link; none where no row has an identifier of the query.
@@ -59,18 +47,29 @@ def found(row):
     return reply_of(200, f"alpha\t{'no row' if row is None else f'link {row}'}\n")
 
 
-def test_rows(program):
-    write_registry(program, [("alpha", ANY_LINK, TABLE)])
-    expect_replies(program, [(request_of(f"/report?{query}"), found(row)) for query, row in ROWS])
+class Keys(ProgramCase):
+    def test_keys_and_columns(self):
+        """Each key on a table for each column alone."""
+        columns = COLUMNS + OTHER_COLUMNS
+        write_registry(self.program, [
+            (f"c{number}", ANY_LINK, f"x\t{column}\ty\nu\t1234-5678\tv\n") for number, column in enumerate(columns)])
+        none = "".join(f"c{number}\tno row\n" for number in range(len(columns)))
+        some = "".join(f"c{at}\t{'link 0' if column in COLUMNS else 'no row'}\n" for at, column in enumerate(columns))
+        cases = [(request_of(f"/report?{key}=12345678"), reply_of(200, some)) for key in KEYS]
+        cases += [(request_of(f"/report?{key}=12345678"), reply_of(200, none)) for key in OTHER_KEYS]
+        expect_replies(self.program, cases)
 
+    def test_rows(self):
+        write_registry(self.program, [("alpha", ANY_LINK, TABLE)])
+        expect_replies(self.program, [(request_of(f"/report?{query}"), found(row)) for query, row in ROWS])
 
-def test_first_values(program):
-    """Of a key that comes twice the first value counts, also an empty one."""
-    write_registry(program, [("alpha", ANY_LINK, TABLE)])
-    cases = []
-    for key in KEYS:
-        for first, second, row in TWICE:
-            cases.append((request_of(f"/report?{key}={first}&{key}={second}"), found(row)))
-        cases.append((request_of(f"/report?{key}&{key}=3"), found(None)))
-        cases.append((request_of(f"/report?{key}=&x=1&{key}=3&{key}=5"), found(None)))
-    expect_replies(program, cases)
+    def test_first_values(self):
+        """Of a key that comes twice the first value counts, also an empty one."""
+        write_registry(self.program, [("alpha", ANY_LINK, TABLE)])
+        cases = []
+        for key in KEYS:
+            for first, second, row in TWICE:
+                cases.append((request_of(f"/report?{key}={first}&{key}={second}"), found(row)))
+            cases.append((request_of(f"/report?{key}&{key}=3"), found(None)))
+            cases.append((request_of(f"/report?{key}=&x=1&{key}=3&{key}=5"), found(None)))
+        expect_replies(self.program, cases)

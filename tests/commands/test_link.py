@@ -1,4 +1,5 @@
 """Rule files given to `link`: which links they give, and why they are refused."""
+from fixtures.program import ProgramCase
 
 COVERAGE = "rule\nwhen rft.date from date_first_issue_online to date_last_issue_online\nlink http://e.org/{rft.date}\n"
 VOLUME = "rule\nwhen rft.volume from 1 to 999999999\nlink http://e.org/v\n"
@@ -47,26 +48,24 @@ def links(program, rules, query, link):
         program.prints(["link", "some.rules", query], link)
 
 
-def test_links(program):
-    for rules, query, link in LINKS:
-        links(program, rules, query, link)
+class LinkCommand(ProgramCase):
+    def test_links(self):
+        for rules, query, link in LINKS:
+            links(self.program, rules, query, link)
 
+    def test_guards(self):
+        for guard, query, holds in GUARDS:
+            links(self.program, f"rule\nwhen {guard}\nlink http://e.org/\n", query, "http://e.org/" if holds else None)
 
-def test_guards(program):
-    for guard, query, holds in GUARDS:
-        links(program, f"rule\nwhen {guard}\nlink http://e.org/\n", query, "http://e.org/" if holds else None)
+    def test_refusals(self):
+        for rules, fault in REFUSED:
+            self.program.write("bad.rules", rules)
+            self.program.fails(["link", "bad.rules", ""], 3, f"rules: {fault}")
 
-
-def test_refusals(program):
-    for rules, fault in REFUSED:
-        program.write("bad.rules", rules)
-        program.fails(["link", "bad.rules", ""], 3, f"rules: {fault}")
-
-
-def test_other_arguments(program):
-    program.write("none.rules", "")
-    program.finds_no_link(["link", "none.rules", "x=1"])
-    program.fails(["link", "none.rules"], 2, "usage")
-    program.fails(["link", "none.rules", "x=1", "y"], 2, "usage")
-    program.fails(["link", "no/such.rules", ""], 4, "device: no/such.rules")
-    program.fails(["link", "none.rules", "url_ver=1"], 3, "query: WrongVersion")
+    def test_other_arguments(self):
+        self.program.write("none.rules", "")
+        self.program.finds_no_link(["link", "none.rules", "x=1"])
+        self.program.fails(["link", "none.rules"], 2, "usage")
+        self.program.fails(["link", "none.rules", "x=1", "y"], 2, "usage")
+        self.program.fails(["link", "no/such.rules", ""], 4, "device: no/such.rules")
+        self.program.fails(["link", "none.rules", "url_ver=1"], 3, "query: WrongVersion")

@@ -1,7 +1,10 @@
 """What is printed, and what the service replies, where memory is refused: 503, and no body for HEAD; and that a request
 can reserve many more addresses than it uses."""
 import resource
+
+from fixtures import needs
 from fixtures.assembler import code
+from fixtures.program import ProgramCase
 from fixtures.service import Service, reply_of, request_of, to_head
 from fixtures.targets import ANY_LINK, write_registry
 
@@ -37,64 +40,64 @@ def limit_memory(process):
     resource.prlimit(process, resource.RLIMIT_AS, (limit, limit))
 
 
-def test_replies_without_memory(program):
-    targets = [("small", ANY_LINK, "print_identifier\n1\n"), ("large", LONGEST_LINK, "print_identifier\n2\n")]
-    write_registry(program, targets)
-    small = reply_of(200, "small\thttp://e.org/\n")
-    with Service(program, 2 + len(METHODS)) as service:
-        request = request_of("/openurl.txt?rft.issn=1")
-        program.expect("with memory", service.reply(request), small)
-        limit_memory(service.process.pid)
-        for method, has_body in METHODS:
-            answer = service.reply(request_of("/openurl.txt?rft.issn=2", method=method))
-            program.expect(f"{method} without memory", answer, REFUSED if has_body else to_head(REFUSED))
-        program.expect("a request that needs no more", service.reply(request), small)
-
-
 def kilobytes(process, name):
     with open(f"/proc/{process}/status") as lines:
         return next(int(line.split()[1]) for line in lines if line.startswith(f"{name}:"))
 
 
-def test_reserved_addresses(program):
-    """A limit of addresses refuses a request that uses little memory."""
-    program.write("rules", FORTY_NAMES)
-    program.run(["compile", "rules", "code"])
-    program.write("table", "print_identifier\n1\n")
-    program.write("registry", "".join(f"t{n}\tcode\ttable\n" for n in range(TARGETS)))
-    page = reply_of(200, "".join(f"t{n}\thttp://e.org/\n" for n in range(TARGETS)))
-    with Service(program, 2) as service:
-        process = service.process.pid
-        before = kilobytes(process, "VmPeak")
-        program.expect("a request that reserves much", service.reply(request_of(RESERVING)), page)
-        reserved = (kilobytes(process, "VmPeak") - before) * 1024
-        program.expect(f"{reserved} bytes are reserved", reserved > RESERVED, True)
-        used = kilobytes(process, "VmHWM") * 1024
-        program.expect(f"{used} bytes are used", used < USED, True)
-        limit = kilobytes(process, "VmSize") * 1024 + USED
-        resource.prlimit(process, resource.RLIMIT_AS, (limit, limit))
-        program.expect("the same under a limit of addresses", service.reply(request_of(RESERVING)), REFUSED)
+@needs.limits_of_addresses()
+class Memory(ProgramCase):
+    def test_replies_without_memory(self):
+        targets = [("small", ANY_LINK, "print_identifier\n1\n"), ("large", LONGEST_LINK, "print_identifier\n2\n")]
+        write_registry(self.program, targets)
+        small = reply_of(200, "small\thttp://e.org/\n")
+        with Service(self.program, 2 + len(METHODS)) as service:
+            request = request_of("/openurl.txt?rft.issn=1")
+            self.program.expect("with memory", service.reply(request), small)
+            limit_memory(service.process.pid)
+            for method, has_body in METHODS:
+                answer = service.reply(request_of("/openurl.txt?rft.issn=2", method=method))
+                self.program.expect(f"{method} without memory", answer, REFUSED if has_body else to_head(REFUSED))
+            self.program.expect("a request that needs no more", service.reply(request), small)
 
+    def test_reserved_addresses(self):
+        """A limit of addresses refuses a request that uses little memory."""
+        self.program.write("rules", FORTY_NAMES)
+        self.program.run(["compile", "rules", "code"])
+        self.program.write("table", "print_identifier\n1\n")
+        self.program.write("registry", "".join(f"t{n}\tcode\ttable\n" for n in range(TARGETS)))
+        page = reply_of(200, "".join(f"t{n}\thttp://e.org/\n" for n in range(TARGETS)))
+        with Service(self.program, 2) as service:
+            process = service.process.pid
+            before = kilobytes(process, "VmPeak")
+            self.program.expect("a request that reserves much", service.reply(request_of(RESERVING)), page)
+            reserved = (kilobytes(process, "VmPeak") - before) * 1024
+            self.program.expect(f"{reserved} bytes are reserved", reserved > RESERVED, True)
+            used = kilobytes(process, "VmHWM") * 1024
+            self.program.expect(f"{used} bytes are used", used < USED, True)
+            limit = kilobytes(process, "VmSize") * 1024 + USED
+            resource.prlimit(process, resource.RLIMIT_AS, (limit, limit))
+            self.program.expect("the same under a limit of addresses", service.reply(request_of(RESERVING)), REFUSED)
 
-def test_a_command_without_memory(program):
-    """A table of almost 16 MiB is read, and the program may have no more than 32 MiB."""
-    write_registry(program, [("alpha", ANY_LINK, "x\n" + ("a" * 65_535 + "\n") * 255)])
+    def test_a_command_without_memory(self):
+        """A table of almost 16 MiB is read, and the program may have no more than 32 MiB."""
+        write_registry(self.program, [("alpha", ANY_LINK, "x\n" + ("a" * 65_535 + "\n") * 255)])
 
-    def limit():
-        resource.setrlimit(resource.RLIMIT_AS, (2**25, 2**25))
+        def limit():
+            resource.setrlimit(resource.RLIMIT_AS, (2**25, 2**25))
 
-    given = program.run(["resolve", "registry", "x=1"], preexec_fn=limit)
-    program.expect("a command without memory", given, (4, b"", b"openlink: out of memory\n"))
-    program.finds_no_link(["resolve", "registry", "x=1"])
+        given = self.program.run(["resolve", "registry", "x=1"], preexec_fn=limit)
+        self.program.expect("a command without memory", given, (4, b"", b"openlink: out of memory\n"))
+        self.program.finds_no_link(["resolve", "registry", "x=1"])
 
-def test_a_page_too_large_for_memory(program):
-    small = [("small", ANY_LINK, "print_identifier\n1\n")]
-    write_registry(program, small + [(f"t{n}", APOSTROPHES, "print_identifier\n2\n") for n in range(255)])
-    with Service(program, 3) as service:
-        resource.prlimit(service.process.pid, resource.RLIMIT_AS, (PAGE_LIMIT, PAGE_LIMIT))
-        page = service.reply(request_of("/openurl?rft.issn=2"))
-        program.expect("a page that does not fit", page, REFUSED)
-        page = service.reply(request_of("/openurl?rft.issn=2", method="HEAD"))
-        program.expect("its head", page, to_head(REFUSED))
-        answer = service.reply(request_of("/openurl.txt?rft.issn=1"))
-        program.expect("a request after it", answer, reply_of(200, "small\thttp://e.org/\n"))
+    def test_a_page_too_large_for_memory(self):
+        small = [("small", ANY_LINK, "print_identifier\n1\n")]
+        write_registry(self.program, small + [(f"t{n}", APOSTROPHES, "print_identifier\n2\n") for n in range(255)])
+        with Service(self.program, 3) as service:
+            resource.prlimit(service.process.pid, resource.RLIMIT_AS, (PAGE_LIMIT, PAGE_LIMIT))
+            page = service.reply(request_of("/openurl?rft.issn=2"))
+            self.program.expect("a page that does not fit", page, REFUSED)
+            page = service.reply(request_of("/openurl?rft.issn=2", method="HEAD"))
+            self.program.expect("its head", page, to_head(REFUSED))
+            answer = service.reply(request_of("/openurl.txt?rft.issn=1"))
+            self.program.expect("a request after it", answer, reply_of(200, "small\thttp://e.org/\n"))

@@ -1,5 +1,6 @@
 """Names in code files: 1 to 255 bytes from `!` to `~`; a name may come twice."""
 from fixtures.assembler import code
+from fixtures.program import ProgramCase
 
 # The bytes that a name may have.
 ALLOWED = range(0x21, 0x7F)
@@ -8,52 +9,51 @@ def named(*names):
     return code([("text", name) for name in names], [], "HALT")
 
 
-def test_bytes_of_names(program):
-    names = [bytes([byte]) for byte in ALLOWED]
-    program.write("code", named(*names))
-    lines = [b"name %d text %s" % entry for entry in enumerate(names)]
-    program.prints(["show", "code"], b"\n".join([b"OLK1 names 94 literals 0 instructions 1", *lines, b"0 HALT"]))
-    program.prints(["verify", "code"], "ok\nsteps 1 + 0*M\nbytes 0 + 0*M + 0*E + 0*M*E")
+class NamesInCode(ProgramCase):
+    def test_bytes_of_names(self):
+        names = [bytes([byte]) for byte in ALLOWED]
+        self.program.write("code", named(*names))
+        lines = [b"name %d text %s" % entry for entry in enumerate(names)]
+        self.program.prints(
+            ["show", "code"], b"\n".join([b"OLK1 names 94 literals 0 instructions 1", *lines, b"0 HALT"])
+        )
+        self.program.prints(["verify", "code"], "ok\nsteps 1 + 0*M\nbytes 0 + 0*M + 0*E + 0*M*E")
 
+    def test_all_other_bytes(self):
+        """The byte's place is named, for a name's first byte and for its last, in both kinds of names."""
+        for byte in range(256):
+            if byte in ALLOWED:
+                continue
+            # A name begins after the magic, the three counts, its kind and its length.
+            for kind, name, place in [("text", bytes([byte]), 12), ("list", b"ab" + bytes([byte]), 14)]:
+                self.program.write("code", code([(kind, name)], [], "HALT"))
+                self.program.fails(["show", "code"], 3, f"code: BadName at {place}")
 
-def test_all_other_bytes(program):
-    """The byte's place is named, for a name's first byte and for its last, in both kinds of names."""
-    for byte in range(256):
-        if byte in ALLOWED:
-            continue
-        # A name begins after the magic, the three counts, its kind and its length.
-        for kind, name, place in [("text", bytes([byte]), 12), ("list", b"ab" + bytes([byte]), 14)]:
-            program.write("code", code([(kind, name)], [], "HALT"))
-            program.fails(["show", "code"], 3, f"code: BadName at {place}")
+    def test_other_commands(self):
+        """The same error from each command that reads a code file."""
+        self.program.write("code", named("a", "b\x7f"))
+        self.program.fails(["verify", "code"], 3, "load: BadName at 16")
+        self.program.fails(["run", "code", ""], 3, "load: BadName at 16")
+        self.program.fails(["upgrade", "code", "new"], 3, "code: BadName at 16")
+        self.program.expect("a new code", self.program.has("new"), False)
 
+    def test_lengths(self):
+        self.program.write("code", named("!" * 255, "~" * 255))
+        listing = f"OLK1 names 2 literals 0 instructions 1\nname 0 text {'!' * 255}\nname 1 text {'~' * 255}\n0 HALT"
+        self.program.prints(["show", "code"], listing)
+        self.program.write("code", named("a", "", " "))
+        self.program.fails(["show", "code"], 3, "code: BadName at 14")
 
-def test_other_commands(program):
-    """The same error from each command that reads a code file."""
-    program.write("code", named("a", "b\x7f"))
-    program.fails(["verify", "code"], 3, "load: BadName at 16")
-    program.fails(["run", "code", ""], 3, "load: BadName at 16")
-    program.fails(["upgrade", "code", "new"], 3, "code: BadName at 16")
-    program.expect("a new code", program.has("new"), False)
-
-
-def test_lengths(program):
-    program.write("code", named("!" * 255, "~" * 255))
-    listing = f"OLK1 names 2 literals 0 instructions 1\nname 0 text {'!' * 255}\nname 1 text {'~' * 255}\n0 HALT"
-    program.prints(["show", "code"], listing)
-    program.write("code", named("a", "", " "))
-    program.fails(["show", "code"], 3, "code: BadName at 14")
-
-
-def test_names_that_come_twice(program):
-    """Each of the two is the list that the query has; a text of that name is none."""
-    names = [("list", "x"), ("list", "x"), ("text", "x"), ("text", "x")]
-    for entry in (0, 1):
-        loop = f"LIST r0 n{entry}, EACH r1 r0 5, SEP l0, PUT r1 u, NEXT, HALT"
-        program.write("code", code(names, [("link", ",")], loop))
-        program.prints(["run", "code", "x=a&x=b"], "a,b")
-    for entry in (2, 3):
-        program.write("code", code(names, [], f"TEXT r0 n{entry}, UNDEF r0 3, PUT r0 u, HALT"))
-        program.prints(["run", "code", "x=a&x=b"], "")
-    program.write("code", code(names, [], "HALT"))
-    lines = [f"name {at} {kind} {name}" for at, (kind, name) in enumerate(names)]
-    program.prints(["show", "code"], "\n".join(["OLK1 names 4 literals 0 instructions 1", *lines, "0 HALT"]))
+    def test_names_that_come_twice(self):
+        """Each of the two is the list that the query has; a text of that name is none."""
+        names = [("list", "x"), ("list", "x"), ("text", "x"), ("text", "x")]
+        for entry in (0, 1):
+            loop = f"LIST r0 n{entry}, EACH r1 r0 5, SEP l0, PUT r1 u, NEXT, HALT"
+            self.program.write("code", code(names, [("link", ",")], loop))
+            self.program.prints(["run", "code", "x=a&x=b"], "a,b")
+        for entry in (2, 3):
+            self.program.write("code", code(names, [], f"TEXT r0 n{entry}, UNDEF r0 3, PUT r0 u, HALT"))
+            self.program.prints(["run", "code", "x=a&x=b"], "")
+        self.program.write("code", code(names, [], "HALT"))
+        lines = [f"name {at} {kind} {name}" for at, (kind, name) in enumerate(names)]
+        self.program.prints(["show", "code"], "\n".join(["OLK1 names 4 literals 0 instructions 1", *lines, "0 HALT"]))

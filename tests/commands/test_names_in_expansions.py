@@ -1,4 +1,6 @@
 """Triplets in names, which are not decoded and are written as they are (RFC 6570, 2.3 and 3.2.7 to 3.2.9)."""
+from fixtures.program import ProgramCase
+
 # Expressions with the name %41 where it is a text, `x`, and where it is empty.
 TEXTS = [
     ("{%41}", "x", ""), ("{+%41}", "x", ""), ("{#%41}", "#x", "#"), ("{.%41}", ".x", "."), ("{/%41}", "/x", "/"),
@@ -30,48 +32,46 @@ UNEQUAL = [
 ]
 
 
-def test_texts(program):
-    for template, expansion, empty in TEXTS:
-        program.prints(["expand", template, "%2541=x"], expansion)
-        program.prints(["expand", template, "%2541="], empty)
-        program.prints(["expand", template, "A=x"], "")
+class NamesInExpansions(ProgramCase):
+    def test_texts(self):
+        for template, expansion, empty in TEXTS:
+            self.program.prints(["expand", template, "%2541=x"], expansion)
+            self.program.prints(["expand", template, "%2541="], empty)
+            self.program.prints(["expand", template, "A=x"], "")
 
+    def test_lists(self):
+        for template, expansion, empty in LISTS:
+            self.program.prints(["expand", "--list", "%41", template, "%2541=a&%2541=b"], expansion)
+            self.program.prints(["expand", "--list", "%41", template, "%2541="], empty)
 
-def test_lists(program):
-    for template, expansion, empty in LISTS:
-        program.prints(["expand", "--list", "%41", template, "%2541=a&%2541=b"], expansion)
-        program.prints(["expand", "--list", "%41", template, "%2541="], empty)
+    def test_texts_and_lists(self):
+        for template, expansion in BOTH:
+            self.program.prints(["expand", "--list", "%42", template, "%2541=x&%2542=a&%2542=b"], expansion)
 
+    def test_all_triplets(self):
+        """One expression with all triplets as names, of each spelling of their digits."""
+        for spelling in ("{:02X}", "{:02x}"):
+            names = ["%" + spelling.format(byte) for byte in range(256)]
+            query = "&".join(f"{name.replace('%', '%25')}={at}" for at, name in enumerate(names))
+            pairs = [f"{name}={at}" for at, name in enumerate(names)]
+            for operator, separator in [("?", "&"), ("&", "&"), (";", ";")]:
+                self.program.prints(
+                    ["expand", "{" + operator + ",".join(names) + "}", query], operator + separator.join(pairs)
+                )
+            self.program.prints(["expand", "{" + ",".join(names) + "}", query], ",".join(map(str, range(256))))
+            # Names decoded, as the query has them, are other names.
+            self.program.prints(["expand", "{?" + ",".join(names) + "}", query.replace("%25", "%")], "")
 
-def test_texts_and_lists(program):
-    for template, expansion in BOTH:
-        program.prints(["expand", "--list", "%42", template, "%2541=x&%2542=a&%2542=b"], expansion)
+    def test_names_in_rules(self):
+        """Rules write names as templates do."""
+        for template, expansion, _ in TEXTS:
+            self.program.write("rules", f"rule\nwhen has %41\nlink {template}\n")
+            self.program.prints(["link", "rules", "%2541=x"], expansion)
+            self.program.finds_no_link(["link", "rules", "A=x"])
+            self.program.run(["compile", "rules", "code"])
+            self.program.prints(["run", "code", "%2541=x"], expansion)
+            self.program.finds_no_link(["run", "code", "A=x"])
 
-
-def test_all_triplets(program):
-    """One expression with all triplets as names, of each spelling of their digits."""
-    for spelling in ("{:02X}", "{:02x}"):
-        names = ["%" + spelling.format(byte) for byte in range(256)]
-        query = "&".join(f"{name.replace('%', '%25')}={at}" for at, name in enumerate(names))
-        pairs = [f"{name}={at}" for at, name in enumerate(names)]
-        for operator, separator in [("?", "&"), ("&", "&"), (";", ";")]:
-            program.prints(["expand", "{" + operator + ",".join(names) + "}", query], operator + separator.join(pairs))
-        program.prints(["expand", "{" + ",".join(names) + "}", query], ",".join(map(str, range(256))))
-        # Names decoded, as the query has them, are other names.
-        program.prints(["expand", "{?" + ",".join(names) + "}", query.replace("%25", "%")], "")
-
-
-def test_names_in_rules(program):
-    """Rules write names as templates do."""
-    for template, expansion, _ in TEXTS:
-        program.write("rules", f"rule\nwhen has %41\nlink {template}\n")
-        program.prints(["link", "rules", "%2541=x"], expansion)
-        program.finds_no_link(["link", "rules", "A=x"])
-        program.run(["compile", "rules", "code"])
-        program.prints(["run", "code", "%2541=x"], expansion)
-        program.finds_no_link(["run", "code", "A=x"])
-
-
-def test_unequal_names(program):
-    for template, query in UNEQUAL:
-        program.prints(["expand", template, query], "")
+    def test_unequal_names(self):
+        for template, query in UNEQUAL:
+            self.program.prints(["expand", template, query], "")

@@ -1,5 +1,9 @@
 """Standard output and standard error that fail, after some bytes or at once."""
-import os, resource, signal
+import os
+import resource
+import signal
+
+from fixtures.program import ProgramCase
 
 HELLO = ["expand", "{hello}", "hello=Hello+World%21"]
 LINE = b"Hello%20World%21\n"
@@ -26,19 +30,18 @@ def run_into(program, path, room, stream, arguments):
         return program.run(arguments, preexec_fn=replace)
 
 
-def test_output_fails_within_the_line(program):
-    for room, status, fault in ROOMS:
-        given = run_into(program, f"{program.folder}/narrow", room, 1, HELLO)
-        program.expect(f"an output of {room} bytes", given, (status, b"", fault))
-        program.expect(f"its first {room} bytes", program.read("narrow"), LINE[:room])
+class Output(ProgramCase):
+    def test_output_fails_within_the_line(self):
+        for room, status, fault in ROOMS:
+            given = run_into(self.program, f"{self.program.folder}/narrow", room, 1, HELLO)
+            self.program.expect(f"an output of {room} bytes", given, (status, b"", fault))
+            self.program.expect(f"its first {room} bytes", self.program.read("narrow"), LINE[:room])
 
+    def test_errors_fail_too(self):
+        given = run_into(self.program, f"{self.program.folder}/narrow", 3, 2, [])
+        self.program.expect("errors of 3 bytes", given, (2, b"", b""))
+        self.program.expect("the 3 bytes", self.program.read("narrow"), b"ope")
 
-def test_errors_fail_too(program):
-    given = run_into(program, f"{program.folder}/narrow", 3, 2, [])
-    program.expect("errors of 3 bytes", given, (2, b"", b""))
-    program.expect("the 3 bytes", program.read("narrow"), b"ope")
-
-
-def test_a_device_that_is_full(program):
-    program.expect("a full output", run_into(program, "/dev/full", 17, 1, HELLO), (4, b"", DEVICE))
-    program.expect("full errors", run_into(program, "/dev/full", 17, 2, []), (2, b"", b""))
+    def test_a_device_that_is_full(self):
+        self.program.expect("a full output", run_into(self.program, "/dev/full", 17, 1, HELLO), (4, b"", DEVICE))
+        self.program.expect("full errors", run_into(self.program, "/dev/full", 17, 2, []), (2, b"", b""))

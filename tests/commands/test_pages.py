@@ -1,5 +1,7 @@
 """Which targets of requests are pages, and what their query is: all after the first `?`, also a `#`."""
 import string
+
+from fixtures.program import ProgramCase
 from fixtures.service import NO_LINKS, expect_replies, reply_of, request_of
 from fixtures.targets import write_alpha
 
@@ -42,26 +44,25 @@ PATHS = [
 ]
 
 
-def test_queries(program):
-    write_alpha(program)
-    cases = []
-    for path, (without, with_link) in PAGES.items():
-        for query, is_found in QUERIES:
-            for target in (path + query, f"http://a{path}{query}"):
-                cases.append((request_of(target), with_link if is_found else without))
-    expect_replies(program, cases)
+class Pages(ProgramCase):
+    def test_queries(self):
+        write_alpha(self.program)
+        cases = []
+        for path, (without, with_link) in PAGES.items():
+            for query, is_found in QUERIES:
+                for target in (path + query, f"http://a{path}{query}"):
+                    cases.append((request_of(target), with_link if is_found else without))
+        expect_replies(self.program, cases)
 
+    def test_other_paths(self):
+        write_alpha(self.program)
+        cases = [(request_of(path + query), NOT_FOUND) for path in PATHS for query in ("", f"?{FOUND}")]
+        expect_replies(self.program, cases)
 
-def test_other_paths(program):
-    write_alpha(program)
-    cases = [(request_of(path + query), NOT_FOUND) for path in PATHS for query in ("", f"?{FOUND}")]
-    expect_replies(program, cases)
-
-
-def test_shorter_and_longer_paths(program):
-    write_alpha(program)
-    paths = [page[:length] for page in PAGES for length in range(1, len(page) + 1)]
-    printable = string.ascii_letters + string.digits + string.punctuation
-    paths += [page + character for page in PAGES for character in printable if character != "?"]
-    cases = [(request_of(path), PAGES[path][0] if path in PAGES else NOT_FOUND) for path in paths]
-    expect_replies(program, cases)
+    def test_shorter_and_longer_paths(self):
+        write_alpha(self.program)
+        paths = [page[:length] for page in PAGES for length in range(1, len(page) + 1)]
+        printable = string.ascii_letters + string.digits + string.punctuation
+        paths += [page + character for page in PAGES for character in printable if character != "?"]
+        cases = [(request_of(path), PAGES[path][0] if path in PAGES else NOT_FOUND) for path in paths]
+        expect_replies(self.program, cases)

@@ -1,4 +1,5 @@
 """Pages of a service with one target, as whole replies."""
+from fixtures.program import ProgramCase
 from fixtures.service import expect_replies, to_head
 from fixtures.targets import DATE_RULES, JOURNAL, write_registry
 
@@ -31,18 +32,19 @@ PAGES = [
     (b"HEAD /openurl?rft.issn=1234567x&rft.date=2003 HTTP/1.1\r\nHost: a\r\n\r\n", to_head(LINKS)),
 ]
 
-
-def test_pages_of_a_menu(program):
-    write_registry(program, [("alpha", DATE_RULES, JOURNAL)])
-    expect_replies(program, PAGES)
-
-
 # A row whose link has 65,513 bytes: a page can be longer than a query or a row.
 LONG_ROW = "print_identifier\ttitle_url\n1234-567X\thttp://e.org/" + "b" * 65_500 + "\n"
 LONG_PAGE = reply("html", 65591, "<!DOCTYPE html>\n<title>Links</title>\n<ul>\n"
                   '<li><a href="http://e.org/' + "b" * 65_500 + '">alpha</a></li>\n</ul>\n')
 
 
-def test_a_long_page(program):
-    write_registry(program, [("alpha", DATE_RULES, LONG_ROW)])
-    expect_replies(program, [(b"GET /openurl?rft.issn=1234567x&rft.date=2003 HTTP/1.1\r\nHost: a\r\n\r\n", LONG_PAGE)])
+class PagesOverHttp(ProgramCase):
+    def test_pages_of_a_menu(self):
+        write_registry(self.program, [("alpha", DATE_RULES, JOURNAL)])
+        expect_replies(self.program, PAGES)
+
+    def test_a_long_page(self):
+        write_registry(self.program, [("alpha", DATE_RULES, LONG_ROW)])
+        expect_replies(
+            self.program, [(b"GET /openurl?rft.issn=1234567x&rft.date=2003 HTTP/1.1\r\nHost: a\r\n\r\n", LONG_PAGE)]
+        )

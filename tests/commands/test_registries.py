@@ -1,5 +1,6 @@
 """Registry files: which are taken, which error is the first, and what a row and a request have together."""
 from fixtures.assembler import FAIL
+from fixtures.program import ProgramCase
 from fixtures.service import expect_replies, reply_of, request_of
 from fixtures.targets import JOURNAL, write_registry
 
@@ -60,27 +61,9 @@ REFUSED = [
 ]
 
 
-def test_the_first_fault(program):
-    write_files(program)
-    for registry in TAKEN + [b"\n" * 65_536]:
-        takes(program, registry)
-    for registry, status, fault in REFUSED:
-        refuses(program, registry, status, fault)
-
-
-def test_a_registry_that_cannot_be_read(program):
-    for path in "none.txt", "/":
-        program.fails(["resolve", path, QUERY], 4, f"device: {path}")
-
-
 def reports(program, report):
     """The report of registry for the query."""
     expect_replies(program, [(request_of(f"/report?{QUERY}"), reply_of(200, report))])
-
-
-def test_targets_stand_in_the_order_of_the_file(program):
-    write_registry(program, [("b", FAIL, JOURNAL), ("a", FAIL, TABLE)])
-    reports(program, "b\tno link\na\tno row\n")
 
 
 LONGEST = "abcdefghijklmnopqrstuvwxyzABCDEFGHIJKLMNOPQRSTUVWXYZ0123456789-_"
@@ -92,25 +75,6 @@ def lines(names):
     return "".join(f"{name}\tcode.olk\ttable.txt\n" for name in names)
 
 
-def test_names_of_targets(program):
-    write_files(program)
-    for name in NO_NAMES:
-        refuses(program, lines(NAMES + [name]), 3, f"target {name}: BadTargetName")
-    takes(program, lines(NAMES))
-    program.write("registry", lines(NAMES))
-    reports(program, f"alpha\tno row\nAlpha\tno row\n.\tno row\n{LONGEST}\tno row\n")
-
-
-def test_a_registry_of_256_targets_is_full(program):
-    write_files(program)
-    numbered = [f"t{number}" for number in range(256)]
-    program.write("registry", lines(numbered))
-    reports(program, "".join(f"{name}\tno row\n" for name in numbered))
-    # That there is no room is decided before the name is looked at.
-    for name in "one-more", "a b", "t0":
-        refuses(program, lines(numbered + [name]), 3, f"target {name}: Full")
-
-
 # Only the second row has a link. It has no cell for the last date, so the request's value counts.
 RULES = ("list list\nrule\nwhen date_first_issue_online is \"2000\"\n"
          "link {+title_url}{?print_identifier,date_first_issue_online,date_last_issue_online,rft.issn,x,list*}\n")
@@ -120,6 +84,39 @@ LINK = ("http://e.org/b?print_identifier=1234-567X&date_first_issue_online=2000&
         "&rft.issn=1234567x&x=1&list=a&list=b")
 
 
-def test_a_row_comes_before_its_request(program):
-    write_registry(program, [("alpha", RULES, JOURNAL)])
-    program.prints(["resolve", "registry", WITH_CELLS], f"alpha\t{LINK}")
+class Registries(ProgramCase):
+    def test_the_first_fault(self):
+        write_files(self.program)
+        for registry in TAKEN + [b"\n" * 65_536]:
+            takes(self.program, registry)
+        for registry, status, fault in REFUSED:
+            refuses(self.program, registry, status, fault)
+
+    def test_a_registry_that_cannot_be_read(self):
+        for path in "none.txt", "/":
+            self.program.fails(["resolve", path, QUERY], 4, f"device: {path}")
+
+    def test_targets_stand_in_the_order_of_the_file(self):
+        write_registry(self.program, [("b", FAIL, JOURNAL), ("a", FAIL, TABLE)])
+        reports(self.program, "b\tno link\na\tno row\n")
+
+    def test_names_of_targets(self):
+        write_files(self.program)
+        for name in NO_NAMES:
+            refuses(self.program, lines(NAMES + [name]), 3, f"target {name}: BadTargetName")
+        takes(self.program, lines(NAMES))
+        self.program.write("registry", lines(NAMES))
+        reports(self.program, f"alpha\tno row\nAlpha\tno row\n.\tno row\n{LONGEST}\tno row\n")
+
+    def test_a_registry_of_256_targets_is_full(self):
+        write_files(self.program)
+        numbered = [f"t{number}" for number in range(256)]
+        self.program.write("registry", lines(numbered))
+        reports(self.program, "".join(f"{name}\tno row\n" for name in numbered))
+        # That there is no room is decided before the name is looked at.
+        for name in "one-more", "a b", "t0":
+            refuses(self.program, lines(numbered + [name]), 3, f"target {name}: Full")
+
+    def test_a_row_comes_before_its_request(self):
+        write_registry(self.program, [("alpha", RULES, JOURNAL)])
+        self.program.prints(["resolve", "registry", WITH_CELLS], f"alpha\t{LINK}")

@@ -1,5 +1,6 @@
 """Registry files and the files of their targets: the first error, sizes up to their limits, and keys for the tables."""
 from fixtures.assembler import FAIL
+from fixtures.program import ProgramCase
 from fixtures.service import expect_replies, reply_of, request_of
 from fixtures.system_calls import RANDOM, without
 
@@ -40,27 +41,6 @@ FIRST_FAULTS = [
     (b"\xef\xbb\xbfalpha\ta code.olk\tbad.txt\r\n", 3, "target alpha: table: NotUtf8"),
 ]
 
-
-def test_the_first_fault(program):
-    for registry, status, fault in FIRST_FAULTS:
-        write_files(program, registry)
-        resolves(program, status, fault)
-
-
-def test_no_registry(program):
-    write_files(program)
-    program.fails(["resolve", "none.txt", ""], 4, "device: none.txt")
-
-
-def test_a_last_line_needs_no_end(program):
-    lines = LINE + b"beta\ta code.olk\ttable.txt\n"
-    for registry in (lines, lines[:-1]):
-        write_files(program, registry)
-        program.write("registry", registry)
-        resolves(program, 1, "")
-        expect_replies(program, [(request_of("/report"), reply_of(200, "alpha\tno row\nbeta\tno row\n"))])
-
-
 # A file, how many bytes of which kind it has, the status, and the error.
 SIZES = [
     (PATH, 65_536, b"\n", 1, ""),
@@ -70,28 +50,12 @@ SIZES = [
     ("table.txt", 16_777_217, b"a", 3, "target alpha: table: TooLong"),
 ]
 
-
-def test_sizes(program):
-    for name, count, byte, status, fault in SIZES:
-        write_files(program)
-        program.write(name, byte * count)
-        resolves(program, status, fault)
-
-
 # The code and the table of a 257th target, and its error: the number of targets is checked last.
 LAST_TARGETS = [
     ("table.txt", "bad.txt", "load: BadMagic at 0"),
     ("a code.olk", "bad.txt", "table: NotUtf8"),
     ("a code.olk", "table.txt", "Full"),
 ]
-
-
-def test_a_257th_target_is_read_before_it_is_refused(program):
-    lines = "".join(f"t{number}\ta code.olk\ttable.txt\n" for number in range(256))
-    for code, table, fault in LAST_TARGETS:
-        write_files(program, f"{lines}t256\t{code}\t{table}")
-        resolves(program, 3, f"target t256: {fault}")
-
 
 # A registry file, the status, and the error where the system gives no random numbers.
 WITHOUT_KEYS = [
@@ -104,8 +68,40 @@ WITHOUT_KEYS = [
 ]
 
 
-def test_the_system_gives_no_keys(program):
-    for registry, status, fault in WITHOUT_KEYS:
-        write_files(program, registry)
-        given = program.run(["resolve", PATH, ""], **without(RANDOM))
-        program.expect(f"{str(registry)[:40]} without keys", given, (status, b"", f"openlink: {fault}\n".encode()))
+class RegistryFiles(ProgramCase):
+    def test_the_first_fault(self):
+        for registry, status, fault in FIRST_FAULTS:
+            write_files(self.program, registry)
+            resolves(self.program, status, fault)
+
+    def test_no_registry(self):
+        write_files(self.program)
+        self.program.fails(["resolve", "none.txt", ""], 4, "device: none.txt")
+
+    def test_a_last_line_needs_no_end(self):
+        lines = LINE + b"beta\ta code.olk\ttable.txt\n"
+        for registry in (lines, lines[:-1]):
+            write_files(self.program, registry)
+            self.program.write("registry", registry)
+            resolves(self.program, 1, "")
+            expect_replies(self.program, [(request_of("/report"), reply_of(200, "alpha\tno row\nbeta\tno row\n"))])
+
+    def test_sizes(self):
+        for name, count, byte, status, fault in SIZES:
+            write_files(self.program)
+            self.program.write(name, byte * count)
+            resolves(self.program, status, fault)
+
+    def test_a_257th_target_is_read_before_it_is_refused(self):
+        lines = "".join(f"t{number}\ta code.olk\ttable.txt\n" for number in range(256))
+        for code, table, fault in LAST_TARGETS:
+            write_files(self.program, f"{lines}t256\t{code}\t{table}")
+            resolves(self.program, 3, f"target t256: {fault}")
+
+    def test_the_system_gives_no_keys(self):
+        for registry, status, fault in WITHOUT_KEYS:
+            write_files(self.program, registry)
+            given = self.program.run(["resolve", PATH, ""], **without(RANDOM))
+            self.program.expect(
+                f"{str(registry)[:40]} without keys", given, (status, b"", f"openlink: {fault}\n".encode())
+            )

@@ -1,6 +1,8 @@
 """Queries: their pairs, versions and limits, and which keys are lists, as `expand` and `link` show them."""
 from urllib.parse import quote
 
+from fixtures.program import ProgramCase
+
 
 def list_lines(declared):
     return "".join(f"list {name}\n" for name in declared)
@@ -32,17 +34,6 @@ FIRST_VALUES = [
     ("rft.title", "rft.title", ""),
 ]
 
-
-def test_first_values(program):
-    for query, key, value in FIRST_VALUES:
-        has_text(program, [], query, key, value)
-
-
-def test_absent_key(program):
-    program.write("absent.rules", "rule\nwhen has z\nlink http://e.org/\n")
-    program.finds_no_link(["link", "absent.rules", "x=1&y=2&x=3"])
-
-
 # A query that is read, and the kind of the error of one that is not.
 VERSIONS = [
     ("", None),
@@ -65,15 +56,6 @@ LIMITS = [
     ("a" * 65537, "TooLong"),
 ]
 
-
-def test_refused_queries(program):
-    for query, kind in VERSIONS + LIMITS:
-        if kind:
-            program.fails(["expand", "read", query], 3, f"query: {kind}")
-        else:
-            program.prints(["expand", "read", query], "read")
-
-
 TITLE = (
     "rft.au=Melville&rft_id=info:doi/10.1000/1&rft.au=Hawthorne"
     "&rft.title=Moby-Dick&rft.title=Typee&svc=full&svc=abstract&rft.isbn"
@@ -95,16 +77,6 @@ LISTS = [
     (LETTERS, DECLARED, "z", []),
 ]
 
-
-def test_lists(program):
-    for declared, query, name, members in LISTS:
-        count = f"{name} counts {len(members)} to {len(members)}"
-        rules = f"{list_lines(declared)}rule\nwhen {count}\nlink http://e.org/{{?{name}*}}\n"
-        program.write("list.rules", rules)
-        expected = "&".join(f"{name}={quote(member, safe='')}" for member in members)
-        program.prints(["link", "list.rules", query], "http://e.org/" + ("?" + expected if expected else ""))
-
-
 # Names of `list` lines, a query, the name of a text beside the lists, and its first value.
 TEXTS = [
     (SERVICES, TITLE, "rft.title", "Moby-Dick"),
@@ -112,12 +84,6 @@ TEXTS = [
     (LETTERS, DECLARED, "b", "3"),
     (LETTERS, DECLARED, "bb", "5"),
 ]
-
-
-def test_texts_beside_lists(program):
-    for declared, query, name, text in TEXTS:
-        has_text(program, declared, query, name, text)
-
 
 # Names of `list` lines, a query, and the values of all of its pairs, which are those of these lists.
 PAIRS = [
@@ -131,8 +97,36 @@ PAIRS = [
 ]
 
 
-def test_all_pairs(program):
-    for declared, query, pairs in PAIRS:
-        options = [argument for name in declared for argument in ("--list", name)]
-        names = ",".join(f"{name}*" for name in declared) or "none"
-        program.prints(["expand", *options, f"{{?{names}}}", query], "?" + "&".join(pairs) if pairs else "")
+class Requests(ProgramCase):
+    def test_first_values(self):
+        for query, key, value in FIRST_VALUES:
+            has_text(self.program, [], query, key, value)
+
+    def test_absent_key(self):
+        self.program.write("absent.rules", "rule\nwhen has z\nlink http://e.org/\n")
+        self.program.finds_no_link(["link", "absent.rules", "x=1&y=2&x=3"])
+
+    def test_refused_queries(self):
+        for query, kind in VERSIONS + LIMITS:
+            if kind:
+                self.program.fails(["expand", "read", query], 3, f"query: {kind}")
+            else:
+                self.program.prints(["expand", "read", query], "read")
+
+    def test_lists(self):
+        for declared, query, name, members in LISTS:
+            count = f"{name} counts {len(members)} to {len(members)}"
+            rules = f"{list_lines(declared)}rule\nwhen {count}\nlink http://e.org/{{?{name}*}}\n"
+            self.program.write("list.rules", rules)
+            expected = "&".join(f"{name}={quote(member, safe='')}" for member in members)
+            self.program.prints(["link", "list.rules", query], "http://e.org/" + ("?" + expected if expected else ""))
+
+    def test_texts_beside_lists(self):
+        for declared, query, name, text in TEXTS:
+            has_text(self.program, declared, query, name, text)
+
+    def test_all_pairs(self):
+        for declared, query, pairs in PAIRS:
+            options = [argument for name in declared for argument in ("--list", name)]
+            names = ",".join(f"{name}*" for name in declared) or "none"
+            self.program.prints(["expand", *options, f"{{?{names}}}", query], "?" + "&".join(pairs) if pairs else "")

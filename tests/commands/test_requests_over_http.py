@@ -1,4 +1,5 @@
 """Requests to a service with one target or with none: which page they request, or why they are rejected."""
+from fixtures.program import ProgramCase
 from fixtures.service import NO_LINKS, expect_replies, reply_of, to_head
 from fixtures.targets import DATE_RULES, JOURNAL, write_registry
 
@@ -42,11 +43,6 @@ TARGETS = [
     ("GET /report?url_ver=1", WRONG_VERSION),
 ]
 
-
-def test_methods_and_targets(program):
-    gives(program, [(f"{line} HTTP/1.1\r\nHost: a\r\n\r\n", expected) for line, expected in TARGETS])
-
-
 # A request, and the reply. With no byte there is no reply.
 REQUESTS = [
     (b"GET /openurl?a=b%20c?d HTTP/1.1\r\nHost: a\r\n\r\nmore", HTML),
@@ -81,11 +77,6 @@ REQUESTS = [
     (b"", b""),
 ]
 
-
-def test_whole_requests(program):
-    gives(program, REQUESTS)
-
-
 # A request whose head has the method HEAD has no body in its reply; where there is no head, the method is not known.
 TO_HEAD = [
     (b"HEAD /x HTTP/1.1\r\nHost: a\r\n\r\n", to_head(NOT_FOUND)),
@@ -104,11 +95,6 @@ TO_HEAD = [
     (b"head /openurl HTTP/1.0\r\n\r\n", METHOD),
 ]
 
-
-def test_replies_without_a_body(program):
-    gives(program, TO_HEAD)
-
-
 # Requests to a service without targets, and the replies.
 WITHOUT_TARGETS = [
     (b"GET /openurl HTTP/1.0\r\n\r\n", HTML),
@@ -116,19 +102,6 @@ WITHOUT_TARGETS = [
     (b"GET /report HTTP/1.0\r\n\r\n", reply_of(200, "")),
     (b"HEAD /openurl HTTP/1.0\r\n\r\n", to_head(HTML)),
 ]
-
-
-def test_a_registry_without_targets(program):
-    write_registry(program, [])
-    expect_replies(program, WITHOUT_TARGETS)
-
-
-def test_the_query_is_decoded_once(program):
-    """It is all after the first `?`."""
-    write_registry(program, [("alpha", "rule\nlink http://e.org/{a}\n", JOURNAL)])
-    request = b"GET /openurl.txt?rft.issn=1234567x&a=b%20c?d HTTP/1.1\r\nHost: a\r\n\r\nmore"
-    expect_replies(program, [(request, reply_of(200, "alpha\thttp://e.org/b%20c%3Fd\n"))])
-
 
 # The start of a request, what follows it, how often, the end, and the reply. The first, of 16,384 bytes, is open; the
 # second has a byte fewer; the third has 16,384 bytes, and its head has ended and is none of the grammar.
@@ -156,14 +129,34 @@ PAIRS = [
     ("GET /openurl?a", "&a", 4096, " HTTP/1.0\r\n\r\n", TOO_MANY_PAIRS),
 ]
 
-
-def test_limits(program):
-    for cases in LONG, FIELDS, PAIRS:
-        gives(program, [(start + piece * count + end, expected) for start, piece, count, end, expected in cases])
-
-
 REQUEST = b"GET /x HTTP/1.1\r\nHost: a\r\n\r\n"
 
 
-def test_a_request_that_ends_too_soon(program):
-    gives(program, [(REQUEST[:end], BAD) for end in range(1, 28)] + [(REQUEST, NOT_FOUND)])
+class RequestsOverHttp(ProgramCase):
+    def test_methods_and_targets(self):
+        gives(self.program, [(f"{line} HTTP/1.1\r\nHost: a\r\n\r\n", expected) for line, expected in TARGETS])
+
+    def test_whole_requests(self):
+        gives(self.program, REQUESTS)
+
+    def test_replies_without_a_body(self):
+        gives(self.program, TO_HEAD)
+
+    def test_a_registry_without_targets(self):
+        write_registry(self.program, [])
+        expect_replies(self.program, WITHOUT_TARGETS)
+
+    def test_the_query_is_decoded_once(self):
+        """It is all after the first `?`."""
+        write_registry(self.program, [("alpha", "rule\nlink http://e.org/{a}\n", JOURNAL)])
+        request = b"GET /openurl.txt?rft.issn=1234567x&a=b%20c?d HTTP/1.1\r\nHost: a\r\n\r\nmore"
+        expect_replies(self.program, [(request, reply_of(200, "alpha\thttp://e.org/b%20c%3Fd\n"))])
+
+    def test_limits(self):
+        for cases in LONG, FIELDS, PAIRS:
+            gives(
+                self.program, [(start + piece * count + end, expected) for start, piece, count, end, expected in cases]
+            )
+
+    def test_a_request_that_ends_too_soon(self):
+        gives(self.program, [(REQUEST[:end], BAD) for end in range(1, 28)] + [(REQUEST, NOT_FOUND)])

@@ -1,4 +1,5 @@
 """Registries given to `resolve`: their menus, and why they are refused."""
+from fixtures.program import ProgramCase
 
 ALPHA = "rule\nwhen rft.date from date_first_issue_online to date_last_issue_online\nlink {+title_url}\n"
 BETA = "rule\nlink javascript:x\n"
@@ -27,28 +28,27 @@ def make_targets(program):
     program.write("table.txt", TABLE)
 
 
-def test_menus(program):
-    make_targets(program)
-    program.write("menu.txt", MENU)
-    found = "rft.issn=1234567x&rft.date=2003"
-    program.prints(["resolve", "menu.txt", found], "alpha\thttp://e.org/b")
-    # A link that is not one of the web is left out, and what the request says does not replace the row's.
-    hostile = found + "&title_url=http%3A%2F%2Fevil.example"
-    program.prints(["resolve", "menu.txt", hostile], "alpha\thttp://e.org/b")
-    program.finds_no_link(["resolve", "menu.txt", "rft.issn=0000-0000"])
-    program.finds_no_link(["resolve", "menu.txt", "rft.issn=1234567x"])
-    program.fails(["resolve", "menu.txt", "ctx_ver=Z39.88-2005"], 3, "query: WrongVersion")
+class ResolveCommand(ProgramCase):
+    def test_menus(self):
+        make_targets(self.program)
+        self.program.write("menu.txt", MENU)
+        found = "rft.issn=1234567x&rft.date=2003"
+        self.program.prints(["resolve", "menu.txt", found], "alpha\thttp://e.org/b")
+        # A link that is not one of the web is left out, and what the request says does not replace the row's.
+        hostile = found + "&title_url=http%3A%2F%2Fevil.example"
+        self.program.prints(["resolve", "menu.txt", hostile], "alpha\thttp://e.org/b")
+        self.program.finds_no_link(["resolve", "menu.txt", "rft.issn=0000-0000"])
+        self.program.finds_no_link(["resolve", "menu.txt", "rft.issn=1234567x"])
+        self.program.fails(["resolve", "menu.txt", "ctx_ver=Z39.88-2005"], 3, "query: WrongVersion")
 
+    def test_refusals(self):
+        make_targets(self.program)
+        for registry, status, fault in REFUSED:
+            self.program.write("faulty.txt", registry)
+            # The registry's error comes before the query's.
+            self.program.fails(["resolve", "faulty.txt", "ctx_ver=Z39.88-2005"], status, fault)
 
-def test_refusals(program):
-    make_targets(program)
-    for registry, status, fault in REFUSED:
-        program.write("faulty.txt", registry)
-        # The registry's error comes before the query's.
-        program.fails(["resolve", "faulty.txt", "ctx_ver=Z39.88-2005"], status, fault)
-
-
-def test_other_arguments(program):
-    program.fails(["resolve", "no/menu.txt", ""], 4, "device: no/menu.txt")
-    program.fails(["resolve", "menu.txt"], 2, "usage")
-    program.fails(["resolve", "menu.txt", "", ""], 2, "usage")
+    def test_other_arguments(self):
+        self.program.fails(["resolve", "no/menu.txt", ""], 4, "device: no/menu.txt")
+        self.program.fails(["resolve", "menu.txt"], 2, "usage")
+        self.program.fails(["resolve", "menu.txt", "", ""], 2, "usage")

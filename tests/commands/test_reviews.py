@@ -1,6 +1,9 @@
 """The commands that look into the files of one target: `inspect`, `lint` and `explain`."""
 import resource
+
+from fixtures import needs
 from commands.test_output import DEVICE, run_into
+from fixtures.program import ProgramCase
 
 HEADER = "print_identifier\tonline_identifier\ttitle_id\ttitle_url\n"
 CLEAN_TABLE = HEADER + "2901-0012\t2908-0142\tats\thttps://e.org/ats\n2915-0272\t\thel\thttps://e.org/hel\n"
@@ -85,108 +88,104 @@ def write_files(program):
         program.write(name, content)
 
 
-def test_arguments(program):
-    write_files(program)
-    for arguments in NO_COMMANDS:
-        program.fails(arguments, 2, "usage")
+class Reviews(ProgramCase):
+    def test_arguments(self):
+        write_files(self.program)
+        for arguments in NO_COMMANDS:
+            self.program.fails(arguments, 2, "usage")
 
+    def test_errors_in_order(self):
+        write_files(self.program)
+        for arguments, status, error in ERRORS:
+            self.program.fails(arguments, status, error)
 
-def test_errors_in_order(program):
-    write_files(program)
-    for arguments, status, error in ERRORS:
-        program.fails(arguments, status, error)
+    def test_large_files(self):
+        write_files(self.program)
+        for table, error in LARGE_TABLES:
+            self.program.write("large.tsv", table)
+            for arguments in ["inspect", "large.tsv"], ["lint", "good.rules", "large.tsv"]:
+                self.program.fails(arguments, 3, f"table: {error}")
+        self.program.write("large.rules", "#" * 65_537)
+        self.program.fails(["lint", "large.rules", "good.tsv"], 3, "rules: line 0: TooLong")
+        self.program.write("full.tsv", "x\n" + "a\n" * 200_000)
+        findings = ("rows 200000\nidentifiers 0\nno column print_identifier\nno column online_identifier\n"
+                    "unknown column \"x\"\nrows without an identifier 200000, first 0\n")
+        self.program.gives(["inspect", "full.tsv"], 1, findings, "")
 
+    def test_statuses(self):
+        write_files(self.program)
+        self.program.gives(["inspect", "good.tsv"], 0, CLEAN_FINDINGS, "")
+        self.program.gives(["lint", "good.rules", "good.tsv"], 0, "rules 1\n", "")
+        self.program.write("header.tsv", HEADER)
+        self.program.gives(["inspect", "header.tsv"], 1, "rows 0\nidentifiers 0\n", "")
+        self.program.write("open.rules", "rule\nlink none:\n")
+        self.program.gives(["lint", "open.rules", "good.tsv"], 0, "rules 1\nrule 1, link: never a web link\n", "")
+        self.program.write("empty.rules", "")
+        self.program.gives(["lint", "empty.rules", "good.tsv"], 1, "rules 0\n", "")
+        # A column whose cell one row lacks: a request can give its value.
+        self.program.write("cell.rules", "rule\nlink https://{online_identifier}/\n")
+        warned = "rules 1\nrule 1, link: a request can set the host by online_identifier\n"
+        self.program.gives(["lint", "cell.rules", "good.tsv"], 1, warned, "")
 
-def test_large_files(program):
-    write_files(program)
-    for table, error in LARGE_TABLES:
-        program.write("large.tsv", table)
-        for arguments in ["inspect", "large.tsv"], ["lint", "good.rules", "large.tsv"]:
-            program.fails(arguments, 3, f"table: {error}")
-    program.write("large.rules", "#" * 65_537)
-    program.fails(["lint", "large.rules", "good.tsv"], 3, "rules: line 0: TooLong")
-    program.write("full.tsv", "x\n" + "a\n" * 200_000)
-    findings = ("rows 200000\nidentifiers 0\nno column print_identifier\nno column online_identifier\n"
-                "unknown column \"x\"\nrows without an identifier 200000, first 0\n")
-    program.gives(["inspect", "full.tsv"], 1, findings, "")
+    def test_explanations(self):
+        write_files(self.program)
+        for query, status, lines in EXPLANATIONS:
+            self.program.gives(["explain", "good.rules", "good.tsv", query], status, lines, "")
+        self.program.write("lists.rules", LISTS)
+        self.program.write("lists.tsv", LIST_TABLE)
+        for query, status, lines in LIST_EXPLANATIONS:
+            self.program.gives(["explain", "lists.rules", "lists.tsv", query], status, lines, "")
 
+    def test_bytes_outside_ascii(self):
+        self.program.write("accent.rules", "rule\nwhen x is \"\u00e9\t\\\"\"\nlink https://e.org/\n")
+        self.program.write("one.tsv", "print_identifier\n1\n")
+        lines = ("row 0\n  rule 1, guard 1 fails: x is \"\\xc3\\xa9\\x09\\\"\"\n    x \"\\xc3\\xa9\\x22\\x5c\"\n"
+                 "  no rule holds\n")
+        self.program.gives(["explain", "accent.rules", "one.tsv", "rft.issn=1&x=%C3%A9%22%5C"], 1, lines, "")
+        long = ("row 0\n  rule 1, guard 1 fails: x is \"\\xc3\\xa9\\x09\\\"\"\n    x \"" + "a" * 60
+                + "\"...\n  no rule holds\n")
+        self.program.gives(["explain", "accent.rules", "one.tsv", "rft.issn=1&x=" + "a" * 61], 1, long, "")
 
-def test_statuses(program):
-    write_files(program)
-    program.gives(["inspect", "good.tsv"], 0, CLEAN_FINDINGS, "")
-    program.gives(["lint", "good.rules", "good.tsv"], 0, "rules 1\n", "")
-    program.write("header.tsv", HEADER)
-    program.gives(["inspect", "header.tsv"], 1, "rows 0\nidentifiers 0\n", "")
-    program.write("open.rules", "rule\nlink none:\n")
-    program.gives(["lint", "open.rules", "good.tsv"], 0, "rules 1\nrule 1, link: never a web link\n", "")
-    program.write("empty.rules", "")
-    program.gives(["lint", "empty.rules", "good.tsv"], 1, "rules 0\n", "")
-    # A column whose cell one row lacks: a request can give its value.
-    program.write("cell.rules", "rule\nlink https://{online_identifier}/\n")
-    warned = "rules 1\nrule 1, link: a request can set the host by online_identifier\n"
-    program.gives(["lint", "cell.rules", "good.tsv"], 1, warned, "")
+    def test_a_row_without_a_web_link(self):
+        """The next row is tried where the link of a row is no web link."""
+        self.program.write(
+            "first.rules", "rule\nwhen given title_id\nlink none:{title_id}\n\nrule\nlink HTTPS://e.org/\n"
+        )
+        self.program.write("two.tsv", "print_identifier\ttitle_id\n1\ta\n1\t\n")
+        lines = ("row 0\n  rule 1 holds: none:a\n  not a web link\n"
+                 "row 1\n  rule 1, guard 1 fails: given title_id\n    title_id undefined\n"
+                 "  rule 2 holds: HTTPS://e.org/\n")
+        self.program.gives(["explain", "first.rules", "two.tsv", "rft.issn=1"], 0, lines, "")
 
+    def test_the_hundredth_row(self):
+        """Of 150 matching rows, the rules that fail are printed for the first hundred."""
+        self.program.write("last.rules", "rule\nwhen title_id is \"149\"\nlink https://e.org/{title_id}\n")
+        self.program.write("many.tsv", "print_identifier\ttitle_id\n" + "".join(f"1\t{row}\n" for row in range(150)))
+        lines = "".join(f"row {row}\n  rule 1, guard 1 fails: title_id is \"149\"\n"
+                        f"    title_id \"{row}\"\n  no rule holds\n"
+                        for row in range(100))
+        lines += "".join(f"row {row}\n  no rule holds\n" for row in range(100, 149))
+        lines += "row 149\n  rule 1 holds: https://e.org/149\n"
+        self.program.gives(["explain", "last.rules", "many.tsv", "rft.issn=1"], 0, lines, "")
 
-def test_explanations(program):
-    write_files(program)
-    for query, status, lines in EXPLANATIONS:
-        program.gives(["explain", "good.rules", "good.tsv", query], status, lines, "")
-    program.write("lists.rules", LISTS)
-    program.write("lists.tsv", LIST_TABLE)
-    for query, status, lines in LIST_EXPLANATIONS:
-        program.gives(["explain", "lists.rules", "lists.tsv", query], status, lines, "")
+    def test_output_fails(self):
+        write_files(self.program)
+        for arguments in (["inspect", "good.tsv"], ["lint", "good.rules", "good.tsv"],
+                          ["explain", "good.rules", "good.tsv", "rft.issn=29010012"]):
+            full = run_into(self.program, "/dev/full", 3, 1, arguments)
+            self.program.expect(f"{arguments[0]} into a full output", full, (4, b"", DEVICE))
+            narrow = run_into(self.program, f"{self.program.folder}/narrow", 3, 1, arguments)
+            self.program.expect(f"{arguments[0]} into 3 bytes", narrow, (4, b"", DEVICE))
+            beginning = b"rul" if arguments[0] == "lint" else b"row"
+            self.program.expect(f"the 3 bytes of {arguments[0]}", self.program.read("narrow"), beginning)
 
+    @needs.limits_of_addresses()
+    def test_a_table_without_memory(self):
+        """A table of almost 16 MiB, and the program may have no more than 32 MiB."""
+        self.program.write("large.tsv", "x\n" + ("a" * 65_535 + "\n") * 255)
 
-def test_bytes_outside_ascii(program):
-    program.write("accent.rules", "rule\nwhen x is \"\u00e9\t\\\"\"\nlink https://e.org/\n")
-    program.write("one.tsv", "print_identifier\n1\n")
-    lines = ("row 0\n  rule 1, guard 1 fails: x is \"\\xc3\\xa9\\x09\\\"\"\n    x \"\\xc3\\xa9\\x22\\x5c\"\n"
-             "  no rule holds\n")
-    program.gives(["explain", "accent.rules", "one.tsv", "rft.issn=1&x=%C3%A9%22%5C"], 1, lines, "")
-    long = ("row 0\n  rule 1, guard 1 fails: x is \"\\xc3\\xa9\\x09\\\"\"\n    x \"" + "a" * 60
-            + "\"...\n  no rule holds\n")
-    program.gives(["explain", "accent.rules", "one.tsv", "rft.issn=1&x=" + "a" * 61], 1, long, "")
+        def limit():
+            resource.setrlimit(resource.RLIMIT_AS, (2**25, 2**25))
 
-
-def test_a_row_without_a_web_link(program):
-    """The next row is tried where the link of a row is no web link."""
-    program.write("first.rules", "rule\nwhen given title_id\nlink none:{title_id}\n\nrule\nlink HTTPS://e.org/\n")
-    program.write("two.tsv", "print_identifier\ttitle_id\n1\ta\n1\t\n")
-    lines = ("row 0\n  rule 1 holds: none:a\n  not a web link\n"
-             "row 1\n  rule 1, guard 1 fails: given title_id\n    title_id undefined\n  rule 2 holds: HTTPS://e.org/\n")
-    program.gives(["explain", "first.rules", "two.tsv", "rft.issn=1"], 0, lines, "")
-
-
-def test_the_hundredth_row(program):
-    """Of 150 matching rows, the rules that fail are printed for the first hundred."""
-    program.write("last.rules", "rule\nwhen title_id is \"149\"\nlink https://e.org/{title_id}\n")
-    program.write("many.tsv", "print_identifier\ttitle_id\n" + "".join(f"1\t{row}\n" for row in range(150)))
-    lines = "".join(f"row {row}\n  rule 1, guard 1 fails: title_id is \"149\"\n"
-                    f"    title_id \"{row}\"\n  no rule holds\n"
-                    for row in range(100))
-    lines += "".join(f"row {row}\n  no rule holds\n" for row in range(100, 149))
-    lines += "row 149\n  rule 1 holds: https://e.org/149\n"
-    program.gives(["explain", "last.rules", "many.tsv", "rft.issn=1"], 0, lines, "")
-
-
-def test_output_fails(program):
-    write_files(program)
-    for arguments in (["inspect", "good.tsv"], ["lint", "good.rules", "good.tsv"],
-                      ["explain", "good.rules", "good.tsv", "rft.issn=29010012"]):
-        full = run_into(program, "/dev/full", 3, 1, arguments)
-        program.expect(f"{arguments[0]} into a full output", full, (4, b"", DEVICE))
-        narrow = run_into(program, f"{program.folder}/narrow", 3, 1, arguments)
-        program.expect(f"{arguments[0]} into 3 bytes", narrow, (4, b"", DEVICE))
-        beginning = b"rul" if arguments[0] == "lint" else b"row"
-        program.expect(f"the 3 bytes of {arguments[0]}", program.read("narrow"), beginning)
-
-
-def test_a_table_without_memory(program):
-    """A table of almost 16 MiB, and the program may have no more than 32 MiB."""
-    program.write("large.tsv", "x\n" + ("a" * 65_535 + "\n") * 255)
-
-    def limit():
-        resource.setrlimit(resource.RLIMIT_AS, (2**25, 2**25))
-
-    given = program.run(["inspect", "large.tsv"], preexec_fn=limit)
-    program.expect("a table without memory", given, (4, b"", b"openlink: out of memory\n"))
+        given = self.program.run(["inspect", "large.tsv"], preexec_fn=limit)
+        self.program.expect("a table without memory", given, (4, b"", b"openlink: out of memory\n"))

@@ -1,4 +1,5 @@
 """The examples of RFC 6570 but those with associative arrays."""
+from fixtures.program import ProgramCase
 
 # The variables of section 3.2; `semi` and `year` are of section 2.4. `undef` and `empty_keys` stand for nothing.
 QUERY = "&".join([
@@ -193,6 +194,7 @@ EXAMPLES = [
 ]
 
 
-def test_examples_of_the_standard(program):
-    for template, expansion in EXAMPLES:
-        program.prints(["expand", *LISTS, template, QUERY], expansion)
+class StandardExamples(ProgramCase):
+    def test_examples_of_the_standard(self):
+        for template, expansion in EXAMPLES:
+            self.program.prints(["expand", *LISTS, template, QUERY], expansion)

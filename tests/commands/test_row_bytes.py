@@ -1,6 +1,7 @@
 """How many bytes a row and its request have together: those of the row's cells, and of the request's values for which
 the row has no cell. Code that might print more than a link may have is not run, and the report names its bound."""
 from fixtures.assembler import TWENTY_TEXTS, code
+from fixtures.program import ProgramCase
 from fixtures.service import expect_replies, reply_of, request_of
 from fixtures.targets import JOURNAL, write_registry
 
@@ -29,17 +30,17 @@ def expect_bound(program, name, query, bound):
     program.finds_no_link(["resolve", "registry", query])
 
 
-def test_a_row_comes_before_its_request(program):
-    write_registry(program, [("alpha", MEASURE, JOURNAL)])
-    for query, members, bytes_ in MEASURED:
-        expect_bound(program, "alpha", query, 32 * 32_768 + members + 3 * bytes_)
+class RowBytes(ProgramCase):
+    def test_a_row_comes_before_its_request(self):
+        write_registry(self.program, [("alpha", MEASURE, JOURNAL)])
+        for query, members, bytes_ in MEASURED:
+            expect_bound(self.program, "alpha", query, 32 * 32_768 + members + 3 * bytes_)
 
-
-def test_the_bound_is_that_of_the_last_row(program):
-    """A request's text of 15,000 bytes, a cell of 5,000, the other cells and the ISSN: 60 times 20,035 bytes."""
-    letters = "a" * 5_000
-    write_registry(program, [
-        ("delta", TWENTY_TEXTS, "print_identifier\ttitle_url\tdate_first_issue_online\tdate_last_issue_online\ty\n"
-         f"1234-567X\thttp://e.org/a\t1990\t1995\tb\n1234-567X\thttp://e.org/b\t2000\t\t{letters}\n"),
-    ])
-    expect_bound(program, "delta", "rft.issn=1234567x&x=" + "a" * 15_000, 1_202_100)
+    def test_the_bound_is_that_of_the_last_row(self):
+        """A request's text of 15,000 bytes, a cell of 5,000, the other cells and the ISSN: 60 times 20,035 bytes."""
+        letters = "a" * 5_000
+        write_registry(self.program, [
+            ("delta", TWENTY_TEXTS, "print_identifier\ttitle_url\tdate_first_issue_online\tdate_last_issue_online\ty\n"
+             f"1234-567X\thttp://e.org/a\t1990\t1995\tb\n1234-567X\thttp://e.org/b\t2000\t\t{letters}\n"),
+        ])
+        expect_bound(self.program, "delta", "rft.issn=1234567x&x=" + "a" * 15_000, 1_202_100)

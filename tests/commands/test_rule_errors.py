@@ -1,4 +1,5 @@
 """The first error of a rule file that `link` refuses: its line and its kind."""
+from fixtures.program import ProgramCase
 
 # Lines that have none of the forms.
 BAD_LINES = [
@@ -188,28 +189,24 @@ def fail(program, rules):
         program.expect(f"{content!r:.200}", program.run(["link", "faulty.rules", ""]), expected)
 
 
-def test_lines(program):
-    fail(program, BAD_LINES + ORDER_OF_LINES + NO_LINK)
+class RuleErrors(ProgramCase):
+    def test_lines(self):
+        fail(self.program, BAD_LINES + ORDER_OF_LINES + NO_LINK)
 
+    def test_templates(self):
+        fail(self.program, TEMPLATES)
 
-def test_templates(program):
-    fail(program, TEMPLATES)
+    def test_several_errors(self):
+        fail(self.program, SEVERAL)
 
+    def test_whole_files(self):
+        fail(self.program, WHOLE_FILES)
+        self.program.write("long.rules", "#" * 65536)
+        self.program.finds_no_link(["link", "long.rules", ""])
 
-def test_several_errors(program):
-    fail(program, SEVERAL)
+    def test_guards(self):
+        fail(self.program, [(f"list y\nrule\nwhen {guard}\nlink a", "line 3: BadLine") for guard in NO_GUARDS])
 
-
-def test_whole_files(program):
-    fail(program, WHOLE_FILES)
-    program.write("long.rules", "#" * 65536)
-    program.finds_no_link(["link", "long.rules", ""])
-
-
-def test_guards(program):
-    fail(program, [(f"list y\nrule\nwhen {guard}\nlink a", "line 3: BadLine") for guard in NO_GUARDS])
-
-
-def test_misused_names(program):
-    for name, lines in [("y", MISUSES), ("counts", MISUSES_OF_COUNTS)]:
-        fail(program, [(f"list {name}\nrule\n{line}\nlink a", "line 3: KindMismatch") for line in lines])
+    def test_misused_names(self):
+        for name, lines in [("y", MISUSES), ("counts", MISUSES_OF_COUNTS)]:
+            fail(self.program, [(f"list {name}\nrule\n{line}\nlink a", "line 3: KindMismatch") for line in lines])

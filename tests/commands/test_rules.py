@@ -1,4 +1,5 @@
 """Rule files that `link` takes: their names, guards and links."""
+from fixtures.program import ProgramCase
 
 # A name of a `list` line, and whether it is one.
 NAMES = [
@@ -31,16 +32,6 @@ NAMES = [
     ("n" * 255, True),
     ("n" * 256, False),
 ]
-
-
-def test_names(program):
-    for name, is_name in NAMES:
-        program.write("list.rules", f"list {name}\n")
-        if is_name:
-            program.finds_no_link(["link", "list.rules", ""])
-        else:
-            program.fails(["link", "list.rules", ""], 3, "rules: line 1: BadLine")
-
 
 TEXTS = "x=&seven=7b&word=b7&quoted=a%22b&slash=%5C&has=x&12=&to=5&counts=1&two=2&nine=999999999&ten=1234567890"
 
@@ -83,17 +74,6 @@ GUARDS = [
     ("rft.au counts counts to counts", False),
 ]
 
-
-def test_guards(program):
-    for guard, holds in GUARDS:
-        program.write("guard.rules", f"list by\nrule\nwhen {guard}\nlink http://e.org/")
-        arguments = ["link", "guard.rules", f"{TEXTS}&{MEMBERS}"]
-        if holds:
-            program.prints(arguments, "http://e.org/")
-        else:
-            program.finds_no_link(arguments)
-
-
 # A guard where `y` is a declared list, a query, and whether the guard holds.
 OTHER_GUARDS = [
     ("has 12", "12=", True),
@@ -126,14 +106,6 @@ OTHER_GUARDS = [
     ("y counts 0 to x", "y=a&y=b&x=1", False),
 ]
 
-
-def test_other_guards(program):
-    for guard, query, holds in OTHER_GUARDS:
-        program.write("guard.rules", f"list y\nrule\nwhen {guard}\nlink a")
-        expected = (0, b"a\n", b"") if holds else (1, b"", b"")
-        program.expect(f"{guard}, {query}", program.run(["link", "guard.rules", query]), expected)
-
-
 # A rule file, and how many rules it has.
 NUMBERS_OF_RULES = [
     ("", 0),
@@ -145,14 +117,6 @@ NUMBERS_OF_RULES = [
     ("list 12\nrule\nlink {12*}\nrule\nwhen has x\nlink b\n", 2),
     ("#\ufeff\nrule\nlink {x:9999}{rft.au}", 1),
 ]
-
-
-def test_numbers_of_rules(program):
-    program.write("one.tsv", "print_identifier\n1\n")
-    for rules, number in NUMBERS_OF_RULES:
-        program.write("some.rules", rules)
-        program.expect(rules, program.run(["lint", "some.rules", "one.tsv"])[1].split(b"\n")[0], b"rules %d" % number)
-
 
 COVERAGE = (
     "rule\nwhen rft.date from date_first_issue_online to date_last_issue_online\nlink http://e.org/{rft.date}"
@@ -185,10 +149,42 @@ LINKS = [
 ]
 
 
-def test_links(program):
-    for rules, query, link in LINKS:
-        program.write("some.rules", rules)
-        if link is None:
-            program.finds_no_link(["link", "some.rules", query])
-        else:
-            program.prints(["link", "some.rules", query], link)
+class Rules(ProgramCase):
+    def test_names(self):
+        for name, is_name in NAMES:
+            self.program.write("list.rules", f"list {name}\n")
+            if is_name:
+                self.program.finds_no_link(["link", "list.rules", ""])
+            else:
+                self.program.fails(["link", "list.rules", ""], 3, "rules: line 1: BadLine")
+
+    def test_guards(self):
+        for guard, holds in GUARDS:
+            self.program.write("guard.rules", f"list by\nrule\nwhen {guard}\nlink http://e.org/")
+            arguments = ["link", "guard.rules", f"{TEXTS}&{MEMBERS}"]
+            if holds:
+                self.program.prints(arguments, "http://e.org/")
+            else:
+                self.program.finds_no_link(arguments)
+
+    def test_other_guards(self):
+        for guard, query, holds in OTHER_GUARDS:
+            self.program.write("guard.rules", f"list y\nrule\nwhen {guard}\nlink a")
+            expected = (0, b"a\n", b"") if holds else (1, b"", b"")
+            self.program.expect(f"{guard}, {query}", self.program.run(["link", "guard.rules", query]), expected)
+
+    def test_numbers_of_rules(self):
+        self.program.write("one.tsv", "print_identifier\n1\n")
+        for rules, number in NUMBERS_OF_RULES:
+            self.program.write("some.rules", rules)
+            self.program.expect(
+                rules, self.program.run(["lint", "some.rules", "one.tsv"])[1].split(b"\n")[0], b"rules %d" % number
+            )
+
+    def test_links(self):
+        for rules, query, link in LINKS:
+            self.program.write("some.rules", rules)
+            if link is None:
+                self.program.finds_no_link(["link", "some.rules", query])
+            else:
+                self.program.prints(["link", "some.rules", query], link)

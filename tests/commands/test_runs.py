@@ -1,5 +1,6 @@
 """Runs of accepted code: the link that it gives for a query, or that it gives none."""
 from fixtures.assembler import LIST_FILE, code
+from fixtures.program import ProgramCase
 
 # A name that the code declares as a list is a list of the query too, so `list` has no text.
 NAMES = [
@@ -62,13 +63,6 @@ ENDINGS = [
     ((1,), RULE, "rft.issn=1234-5678", "http://e.org/1234-5678"),
 ]
 
-
-def test_endings(program):
-    for versions, instructions, query, link in ENDINGS:
-        for version in versions:
-            comes_to(program, version, instructions, query, link)
-
-
 # What each instruction does where `x` is a text and `list` has three members: instructions, and the link.
 EFFECTS = [
     ("HALT", ""),
@@ -110,15 +104,6 @@ SECOND_EFFECTS = [
     ("CONST r63 l1, PUT r63 u, HALT", "12a"),
 ]
 
-
-def test_effects(program):
-    for instructions, link in EFFECTS:
-        for version in BOTH:
-            comes_to(program, version, instructions, VARIABLES, link)
-    for instructions, link in SECOND_EFFECTS:
-        comes_to(program, 2, instructions, VARIABLES, link)
-
-
 # Versions, instructions that branch both ways, and the link where `x` is a text and `list` has three members, and where
 # there is nothing.
 BRANCHES = [
@@ -148,28 +133,38 @@ BRANCHES = [
 ]
 
 
-def test_branches(program):
-    for versions, instructions, link, bare_link in BRANCHES:
-        for version in versions:
-            comes_to(program, version, instructions, VARIABLES, link)
-            comes_to(program, version, instructions, "", bare_link)
+class Runs(ProgramCase):
+    def test_endings(self):
+        for versions, instructions, query, link in ENDINGS:
+            for version in versions:
+                comes_to(self.program, version, instructions, query, link)
 
+    def test_effects(self):
+        for instructions, link in EFFECTS:
+            for version in BOTH:
+                comes_to(self.program, version, instructions, VARIABLES, link)
+        for instructions, link in SECOND_EFFECTS:
+            comes_to(self.program, 2, instructions, VARIABLES, link)
 
-def test_list_file(program):
-    program.write("list.olk", LIST_FILE)
-    program.prints(["run", "list.olk", VARIABLES], "red,green,blue")
-    program.write("short.olk", LIST_FILE[:67])
-    program.fails(["run", "short.olk", VARIABLES], 3, "load: Truncated at 67")
+    def test_branches(self):
+        for versions, instructions, link, bare_link in BRANCHES:
+            for version in versions:
+                comes_to(self.program, version, instructions, VARIABLES, link)
+                comes_to(self.program, version, instructions, "", bare_link)
 
+    def test_list_file(self):
+        self.program.write("list.olk", LIST_FILE)
+        self.program.prints(["run", "list.olk", VARIABLES], "red,green,blue")
+        self.program.write("short.olk", LIST_FILE[:67])
+        self.program.fails(["run", "short.olk", VARIABLES], 3, "load: Truncated at 67")
 
-def test_upgraded_list_file(program):
-    program.write("list.olk", LIST_FILE)
-    program.prints(["upgrade", "list.olk", "new.olk"], "68 bytes")
-    program.prints(["run", "new.olk", VARIABLES], "red,green,blue")
+    def test_upgraded_list_file(self):
+        self.program.write("list.olk", LIST_FILE)
+        self.program.prints(["upgrade", "list.olk", "new.olk"], "68 bytes")
+        self.program.prints(["run", "new.olk", VARIABLES], "red,green,blue")
 
-
-def test_long_links(program):
-    member = "a" * 1_000
-    comes_to(program, 1, LIST_CODE, "&".join([f"list={member}"] * 20), ",".join([member] * 20))
-    comes_to(program, 1, LIST_CODE, "&".join(["list=m"] * 4_096), ",".join(["m"] * 4_096))
-    comes_to(program, 1, OPTIONAL, "x=" + "+" * 40_000, "%20" * 40_000)
+    def test_long_links(self):
+        member = "a" * 1_000
+        comes_to(self.program, 1, LIST_CODE, "&".join([f"list={member}"] * 20), ",".join([member] * 20))
+        comes_to(self.program, 1, LIST_CODE, "&".join(["list=m"] * 4_096), ",".join(["m"] * 4_096))
+        comes_to(self.program, 1, OPTIONAL, "x=" + "+" * 40_000, "%20" * 40_000)

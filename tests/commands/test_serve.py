@@ -1,6 +1,8 @@
 """Arguments given to `serve` with which it does not listen."""
 import socket
 
+from fixtures.program import ProgramCase
+
 # A port and a count of connections, of which one is no such number.
 NO_NUMBERS = [
     ("65536", "1"),
@@ -16,22 +18,21 @@ NO_NUMBERS = [
 ]
 
 
-def test_other_arguments(program):
-    for port, count in NO_NUMBERS:
-        program.fails(["serve", "none.txt", port, count], 2, "usage")
-    program.fails(["serve"], 2, "usage")
-    program.fails(["serve", "none.txt", "8080"], 2, "usage")
-    program.fails(["serve", "none.txt", "8080", "1", "1"], 2, "usage")
+class ServeCommand(ProgramCase):
+    def test_other_arguments(self):
+        for port, count in NO_NUMBERS:
+            self.program.fails(["serve", "none.txt", port, count], 2, "usage")
+        self.program.fails(["serve"], 2, "usage")
+        self.program.fails(["serve", "none.txt", "8080"], 2, "usage")
+        self.program.fails(["serve", "none.txt", "8080", "1", "1"], 2, "usage")
 
+    def test_numbers_may_begin_with_zeros(self):
+        self.program.fails(["serve", "none.txt", "0008080", "01000000"], 4, "device: none.txt")
 
-def test_numbers_may_begin_with_zeros(program):
-    program.fails(["serve", "none.txt", "0008080", "01000000"], 4, "device: none.txt")
-
-
-def test_the_registry_and_the_port(program):
-    program.write("empty.txt", "")
-    program.write("bad.txt", "alpha\n")
-    with socket.create_server(("127.0.0.1", 0)) as other:
-        port = str(other.getsockname()[1])
-        program.fails(["serve", "bad.txt", port, "1"], 3, "registry: line 1")
-        program.fails(["serve", "empty.txt", port, "1"], 4, f"device: 127.0.0.1:{port}")
+    def test_the_registry_and_the_port(self):
+        self.program.write("empty.txt", "")
+        self.program.write("bad.txt", "alpha\n")
+        with socket.create_server(("127.0.0.1", 0)) as other:
+            port = str(other.getsockname()[1])
+            self.program.fails(["serve", "bad.txt", port, "1"], 3, "registry: line 1")
+            self.program.fails(["serve", "empty.txt", port, "1"], 4, f"device: 127.0.0.1:{port}")

@@ -1,6 +1,9 @@
 """Which of several errors of a command is named: that of its first step."""
-import itertools, socket
+import itertools
+import socket
+
 from fixtures.assembler import code
+from fixtures.program import ProgramCase
 from fixtures.targets import ANY_LINK
 
 # Steps of commands in their order: for each step an argument without an error, and arguments with one, and the error.
@@ -45,64 +48,62 @@ def first_fault(steps):
     return next((step for step in steps if isinstance(step, tuple)), None)
 
 
-def test_steps_of_commands(program):
-    write_files(program)
-    for command, alternatives in COMMANDS:
-        for steps in itertools.product(*alternatives):
-            arguments = command + [step[0] if isinstance(step, tuple) else step for step in steps]
-            fault = first_fault(steps)
-            if fault:
-                program.fails(arguments, *fault[1:])
-            else:
-                program.expect(arguments, program.run(arguments)[0], 0)
-
-
-def test_steps_of_targets(program):
-    """A target's code, its table, its name; then the next line; and the query after all."""
-    write_files(program)
-    names = ["alpha", ("a:b", 3, "BadTargetName")]
-    for code_step, table_step, name_step in itertools.product(*TARGETS, names):
-        steps = [code_step, table_step, name_step]
-        path, table, name = [step[0] if isinstance(step, tuple) else step for step in steps]
-        for last in ("", "two\tcells\n", "gamma\tnone.olk\tnone.tsv\n"):
-            program.write("registry", f"{name}\t{path}\t{table}\n{last}")
-            for query in QUERIES:
+class StepsOfCommands(ProgramCase):
+    def test_steps_of_commands(self):
+        write_files(self.program)
+        for command, alternatives in COMMANDS:
+            for steps in itertools.product(*alternatives):
+                arguments = command + [step[0] if isinstance(step, tuple) else step for step in steps]
                 fault = first_fault(steps)
                 if fault:
-                    expected = (fault[1], f"target {name}: {fault[2]}")
-                elif last:
-                    expected = (3, "registry: line 2") if "two" in last else (4, "target gamma: device: none.olk")
+                    self.program.fails(arguments, *fault[1:])
                 else:
-                    expected = query[1:] if isinstance(query, tuple) else None
-                text = query[0] if isinstance(query, tuple) else query
-                if expected:
-                    program.fails(["resolve", "registry", text], *expected)
-                else:
-                    program.finds_no_link(["resolve", "registry", text])
+                    self.program.expect(arguments, self.program.run(arguments)[0], 0)
 
+    def test_steps_of_targets(self):
+        """A target's code, its table, its name; then the next line; and the query after all."""
+        write_files(self.program)
+        names = ["alpha", ("a:b", 3, "BadTargetName")]
+        for code_step, table_step, name_step in itertools.product(*TARGETS, names):
+            steps = [code_step, table_step, name_step]
+            path, table, name = [step[0] if isinstance(step, tuple) else step for step in steps]
+            for last in ("", "two\tcells\n", "gamma\tnone.olk\tnone.tsv\n"):
+                self.program.write("registry", f"{name}\t{path}\t{table}\n{last}")
+                for query in QUERIES:
+                    fault = first_fault(steps)
+                    if fault:
+                        expected = (fault[1], f"target {name}: {fault[2]}")
+                    elif last:
+                        expected = (3, "registry: line 2") if "two" in last else (4, "target gamma: device: none.olk")
+                    else:
+                        expected = query[1:] if isinstance(query, tuple) else None
+                    text = query[0] if isinstance(query, tuple) else query
+                    if expected:
+                        self.program.fails(["resolve", "registry", text], *expected)
+                    else:
+                        self.program.finds_no_link(["resolve", "registry", text])
 
-def test_service(program):
-    """The arguments, the registry, the port."""
-    write_files(program)
-    program.write("registry", "alpha\tgood.olk\tgood.tsv\n")
-    program.write("bad", "alpha\n")
-    with socket.create_server(("127.0.0.1", 0)) as taken:
-        port = str(taken.getsockname()[1])
-        program.fails(["serve", "registry", port, "1"], 4, f"device: 127.0.0.1:{port}")
-        for free in (port, "0", "65535"):
-            program.fails(["serve", "none.txt", free, "1"], 4, "device: none.txt")
-            program.fails(["serve", "bad", free, "1"], 3, "registry: line 1")
-            for count in ("0", "1000001", "", "x", "+1", "-1"):
-                program.fails(["serve", "none.txt", free, count], 2, "usage")
-        for other in ("65536", "", "x", "-1", "+0", " 0"):
-            program.fails(["serve", "none.txt", other, "1"], 2, "usage")
+    def test_service(self):
+        """The arguments, the registry, the port."""
+        write_files(self.program)
+        self.program.write("registry", "alpha\tgood.olk\tgood.tsv\n")
+        self.program.write("bad", "alpha\n")
+        with socket.create_server(("127.0.0.1", 0)) as taken:
+            port = str(taken.getsockname()[1])
+            self.program.fails(["serve", "registry", port, "1"], 4, f"device: 127.0.0.1:{port}")
+            for free in (port, "0", "65535"):
+                self.program.fails(["serve", "none.txt", free, "1"], 4, "device: none.txt")
+                self.program.fails(["serve", "bad", free, "1"], 3, "registry: line 1")
+                for count in ("0", "1000001", "", "x", "+1", "-1"):
+                    self.program.fails(["serve", "none.txt", free, count], 2, "usage")
+            for other in ("65536", "", "x", "-1", "+0", " 0"):
+                self.program.fails(["serve", "none.txt", other, "1"], 2, "usage")
 
-
-def test_options(program):
-    """`--list` comes before the template."""
-    cases = [["{x}", "--list", "a", "x=1"], ["{x}", "x=1", "--list", "a"], ["--list", "a", "{x}", "x=1", "x"]]
-    for arguments in cases + [["--list", "a", "{x}"], ["--list", "a"], ["--list"], ["{x}"], []]:
-        program.fails(["expand", *arguments], 2, "usage")
-    # The errors of a template and a query do not show where the arguments are wrong.
-    program.fails(["expand", "{", "--list", "a", "url_ver=1"], 2, "usage")
-    program.prints(["expand", "--list", "--list", "{x}", "x=1"], "1")
+    def test_options(self):
+        """`--list` comes before the template."""
+        cases = [["{x}", "--list", "a", "x=1"], ["{x}", "x=1", "--list", "a"], ["--list", "a", "{x}", "x=1", "x"]]
+        for arguments in cases + [["--list", "a", "{x}"], ["--list", "a"], ["--list"], ["{x}"], []]:
+            self.program.fails(["expand", *arguments], 2, "usage")
+        # The errors of a template and a query do not show where the arguments are wrong.
+        self.program.fails(["expand", "{", "--list", "a", "url_ver=1"], 2, "usage")
+        self.program.prints(["expand", "--list", "--list", "{x}", "x=1"], "1")

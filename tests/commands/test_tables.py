@@ -1,4 +1,5 @@
 """Holdings tables of a target, as the menu and the report of one target show them: rows, cells, limits, errors."""
+from fixtures.program import ProgramCase
 from fixtures.service import Service, request_of
 
 
@@ -71,14 +72,6 @@ KBART = (
     "https://new.example.com/marine\t\tmarine\t\tfulltext\t\tNew Press\tserial\t\t\t\t\t\t\tjml\tF\r\n"
 )
 
-
-def test_number_column(program):
-    program.expect("a numbered table", numbered("a\tb\n1\t2\n3\t\n"), "a\tb\trow\n1\t2\t0\n3\t\t1\n")
-    with_rules(program, "row from 1 to *")
-    with_table(program, numbered(TITLES))
-    program.expect("the report", report(program, "rft.issn=1234567x"), b"t\tlink 1\n")
-
-
 # A table, a query, a row, and the first row at or after it that the query asks for, or None.
 FOUND_ROWS = [
     (TITLES, "rft.issn=1234567x", 0, 0),
@@ -114,14 +107,6 @@ FOUND_ROWS = [
     (KBART, "rft.isbn=9780000000027", 0, 1),
 ]
 
-
-def test_found_rows(program):
-    for table, query, first, row in FOUND_ROWS:
-        with_rules(program, f"row from {first} to *")
-        with_table(program, numbered(table, "\r\n" if "\r\n" in table else "\n"))
-        links(program, query, None if row is None else f"http://e.org/{row}")
-
-
 BOTH_TITLES = "rft.issn=1234567x"
 JOURNAL = "rft.issn=00991234"
 BOOK = "rft.isbn=9780000000027"
@@ -155,13 +140,6 @@ def guard_of(name, cell):
         return f"lacks {name}"
     quoted = cell.replace("\"", "\\\"")
     return f"{name} is \"{quoted}\""
-
-
-def test_cells(program):
-    for table, query, row, name, cell in CELLS:
-        with_rules(program, f"row from {row} to {row}", guard_of(name, cell))
-        with_table(program, numbered(table, "\r\n" if "\r\n" in table else "\n"))
-        links(program, query, f"http://e.org/{row}")
 
 
 # A table, one of its rows, which has the identifier 7, the name of a column, and its cell there, or None. One case for
@@ -199,14 +177,6 @@ LINES_AND_CELLS = [
     ("a\tprint_identifier\n" + "1" * 65534 + "\t7", 0, "b", None),
     ("print_identifier\n7" + "\t" * 65535 + "\r\n", 0, "b", None),
 ]
-
-
-def test_lines_and_cells(program):
-    for table, row, name, cell in LINES_AND_CELLS:
-        with_rules(program, guard_of(name, cell))
-        with_table(program, table)
-        program.expect(f"the report of {table[:60]!r}", report(program, "rft.issn=7"), f"t\tlink {row}\n".encode())
-
 
 LONGEST = b"a" * 65536
 LONGER = b"a" * 65537
@@ -247,11 +217,38 @@ TABLES = [
 ]
 
 
-def test_faults(program):
-    with_rules(program)
-    for table, kind in TABLES:
-        with_table(program, table)
-        if kind:
-            program.fails(["resolve", "registry", "rft.issn=7"], 3, f"target t: table: {kind}")
-        else:
-            links(program, "rft.issn=7", None)
+class Tables(ProgramCase):
+    def test_number_column(self):
+        self.program.expect("a numbered table", numbered("a\tb\n1\t2\n3\t\n"), "a\tb\trow\n1\t2\t0\n3\t\t1\n")
+        with_rules(self.program, "row from 1 to *")
+        with_table(self.program, numbered(TITLES))
+        self.program.expect("the report", report(self.program, "rft.issn=1234567x"), b"t\tlink 1\n")
+
+    def test_found_rows(self):
+        for table, query, first, row in FOUND_ROWS:
+            with_rules(self.program, f"row from {first} to *")
+            with_table(self.program, numbered(table, "\r\n" if "\r\n" in table else "\n"))
+            links(self.program, query, None if row is None else f"http://e.org/{row}")
+
+    def test_cells(self):
+        for table, query, row, name, cell in CELLS:
+            with_rules(self.program, f"row from {row} to {row}", guard_of(name, cell))
+            with_table(self.program, numbered(table, "\r\n" if "\r\n" in table else "\n"))
+            links(self.program, query, f"http://e.org/{row}")
+
+    def test_lines_and_cells(self):
+        for table, row, name, cell in LINES_AND_CELLS:
+            with_rules(self.program, guard_of(name, cell))
+            with_table(self.program, table)
+            self.program.expect(
+                f"the report of {table[:60]!r}", report(self.program, "rft.issn=7"), f"t\tlink {row}\n".encode()
+            )
+
+    def test_faults(self):
+        with_rules(self.program)
+        for table, kind in TABLES:
+            with_table(self.program, table)
+            if kind:
+                self.program.fails(["resolve", "registry", "rft.issn=7"], 3, f"target t: table: {kind}")
+            else:
+                links(self.program, "rft.issn=7", None)

@@ -1,6 +1,7 @@
 """Names of targets: 1 to 64 ASCII letters, digits, `-`, `_` and `.`, and each once."""
 import string
-from fixtures.program import as_bytes
+
+from fixtures.program import ProgramCase, as_bytes
 from fixtures.targets import ANY_LINK
 
 ALLOWED = string.ascii_letters + string.digits + "-_."
@@ -28,40 +29,40 @@ def write_named(program, names):
     program.write("registry", b"".join(as_bytes(name) + b"\tcode\ttable\n" for name in names))
 
 
-def test_names(program):
-    write_files(program)
-    names = list(ALLOWED) + [f"a{character}b" for character in ALLOWED] + NAMES
-    write_named(program, names)
-    program.prints(["resolve", "registry", "rft.issn=1"], "\n".join(f"{name}\thttp://e.org/" for name in names))
+class TargetNames(ProgramCase):
+    def test_names(self):
+        write_files(self.program)
+        names = list(ALLOWED) + [f"a{character}b" for character in ALLOWED] + NAMES
+        write_named(self.program, names)
+        self.program.prints(
+            ["resolve", "registry", "rft.issn=1"], "\n".join(f"{name}\thttp://e.org/" for name in names)
+        )
 
+    def test_all_other_bytes(self):
+        """As a name's first byte, within it and as its last. What is no cell of text is an error of the registry."""
+        write_files(self.program)
+        for byte in range(256):
+            if chr(byte) in ALLOWED:
+                continue
+            one = bytes([byte])
+            is_cell = byte < 128 and byte not in SEPARATORS
+            for name in (one + b"b", b"a" + one + b"b", b"a" + one) if byte < 128 else (b"a" + one + b"b",):
+                write_named(self.program, [name])
+                if name in (b"\nb", b"\rb"):
+                    # An empty line, which is skipped, and a name without the byte.
+                    self.program.prints(["resolve", "registry", "rft.issn=1"], "b\thttp://e.org/")
+                else:
+                    fault = b"target " + name + b": BadTargetName" if is_cell else b"registry: line 1"
+                    self.program.fails(["resolve", "registry", "rft.issn=1"], 3, fault)
 
-def test_all_other_bytes(program):
-    """As a name's first byte, within it and as its last. What is no cell of text is an error of the registry."""
-    write_files(program)
-    for byte in range(256):
-        if chr(byte) in ALLOWED:
-            continue
-        one = bytes([byte])
-        is_cell = byte < 128 and byte not in SEPARATORS
-        for name in (one + b"b", b"a" + one + b"b", b"a" + one) if byte < 128 else (b"a" + one + b"b",):
-            write_named(program, [name])
-            if name in (b"\nb", b"\rb"):
-                # An empty line, which is skipped, and a name without the byte.
-                program.prints(["resolve", "registry", "rft.issn=1"], "b\thttp://e.org/")
-            else:
-                fault = b"target " + name + b": BadTargetName" if is_cell else b"registry: line 1"
-                program.fails(["resolve", "registry", "rft.issn=1"], 3, fault)
+    def test_other_names(self):
+        write_files(self.program)
+        for name in OTHERS:
+            write_named(self.program, [name])
+            self.program.fails(["resolve", "registry", "rft.issn=1"], 3, f"target {name}: BadTargetName")
 
-
-def test_other_names(program):
-    write_files(program)
-    for name in OTHERS:
-        write_named(program, [name])
-        program.fails(["resolve", "registry", "rft.issn=1"], 3, f"target {name}: BadTargetName")
-
-
-def test_names_that_come_twice(program):
-    write_files(program)
-    for name in ("a", "A-b_c.9", "a" * 64):
-        write_named(program, ["first", name, "last", name, "é"])
-        program.fails(["resolve", "registry", "rft.issn=1"], 3, f"target {name}: BadTargetName")
+    def test_names_that_come_twice(self):
+        write_files(self.program)
+        for name in ("a", "A-b_c.9", "a" * 64):
+            write_named(self.program, ["first", name, "last", name, "é"])
+            self.program.fails(["resolve", "registry", "rft.issn=1"], 3, f"target {name}: BadTargetName")

@@ -1,4 +1,5 @@
 """The first error of a template: its kind and its place (RFC 6570, sections 2.1 to 2.4); templates at the limits."""
+from fixtures.program import ProgramCase
 
 LITERALS = [
     ("a}", "BadLiteral", 1),
@@ -139,27 +140,23 @@ def fail(program, templates):
         program.fails(["expand", template, ""], 3, f"template: {kind} at {place}")
 
 
-def test_literals(program):
-    fail(program, LITERALS)
+class TemplateErrors(ProgramCase):
+    def test_literals(self):
+        fail(self.program, LITERALS)
 
+    def test_braces_and_operators(self):
+        fail(self.program, BRACES + OPERATORS)
 
-def test_braces_and_operators(program):
-    fail(program, BRACES + OPERATORS)
+    def test_names(self):
+        fail(self.program, NAMES)
 
+    def test_modifiers(self):
+        fail(self.program, MODIFIERS)
 
-def test_names(program):
-    fail(program, NAMES)
+    def test_several_errors(self):
+        fail(self.program, SEVERAL)
 
-
-def test_modifiers(program):
-    fail(program, MODIFIERS)
-
-
-def test_several_errors(program):
-    fail(program, SEVERAL)
-
-
-def test_limits(program):
-    fail(program, TOO_LONG)
-    for template, expansion in LONGEST:
-        program.prints(["expand", template, ""], expansion)
+    def test_limits(self):
+        fail(self.program, TOO_LONG)
+        for template, expansion in LONGEST:
+            self.program.prints(["expand", template, ""], expansion)

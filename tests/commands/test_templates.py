@@ -2,6 +2,8 @@
 import re
 from urllib.parse import quote
 
+from fixtures.program import ProgramCase
+
 # A percent sign that begins no triplet.
 LONE_PERCENT = "%(?![0-9A-Fa-f]{2})"
 
@@ -46,12 +48,6 @@ OF_TEXTS = [
     ("{A}{%41:5}", "named"),
 ]
 
-
-def test_texts(program):
-    for template, expansion in OF_TEXTS:
-        program.prints(["expand", template, TEXTS], expansion)
-
-
 # A template, a query, and the expansion: literals, operators, names and prefixes.
 OTHER_TEXTS = [
     ("é/{x}", "x=1", "%C3%A9/1"),
@@ -71,15 +67,6 @@ OTHER_TEXTS = [
     ("a{x}b{?y,z*}{/x:3}", "", "ab"),
 ]
 
-
-def test_other_texts(program):
-    """The same by a rule."""
-    for template, query, expansion in OTHER_TEXTS:
-        program.prints(["expand", template, query], expansion)
-        program.write("rules", f"rule\nlink {template}\n")
-        program.prints(["link", "rules", query], expansion)
-
-
 # A value, a number of items, and the value cut to that number: of code points, and with each triplet as one item.
 CUT = [
     ("value", 3, "val", "val"),
@@ -92,14 +79,6 @@ CUT = [
     ("%%41x", 2, "%%", "%%41"),
     ("%C3%A9", 1, "%", "%C3"),
 ]
-
-
-def test_prefixes(program):
-    for value, items, of_points, of_triplets in CUT:
-        query = "x=" + quote(value, safe="")
-        program.prints(["expand", f"{{x:{items}}}", query], quote(of_points, safe=""))
-        program.prints(["expand", f"{{+x:{items}}}", query], quote(re.sub(LONE_PERCENT, "%25", of_triplets), safe="%"))
-
 
 MEMBERS = "&".join([
     "list=red&list=green&list=blue",
@@ -123,12 +102,6 @@ OF_LISTS = [
     ("{list:3}", ""),
     ("{?list:3,id}", "?id=b"),
 ]
-
-
-def test_lists(program):
-    for template, expansion in OF_LISTS:
-        program.prints(["expand", "--list", "list", "--list", "none", template, MEMBERS], expansion)
-
 
 # A text, what `{x}` writes of it, and what `{+x}` does.
 WRITTEN = [
@@ -154,8 +127,32 @@ WRITTEN = [
 ]
 
 
-def test_written_texts(program):
-    for text, simple, reserved in WRITTEN:
-        query = "x=" + quote(text, safe="")
-        program.prints(["expand", "{x}", query], simple)
-        program.prints(["expand", "{+x}", query], reserved)
+class Templates(ProgramCase):
+    def test_texts(self):
+        for template, expansion in OF_TEXTS:
+            self.program.prints(["expand", template, TEXTS], expansion)
+
+    def test_other_texts(self):
+        """The same by a rule."""
+        for template, query, expansion in OTHER_TEXTS:
+            self.program.prints(["expand", template, query], expansion)
+            self.program.write("rules", f"rule\nlink {template}\n")
+            self.program.prints(["link", "rules", query], expansion)
+
+    def test_prefixes(self):
+        for value, items, of_points, of_triplets in CUT:
+            query = "x=" + quote(value, safe="")
+            self.program.prints(["expand", f"{{x:{items}}}", query], quote(of_points, safe=""))
+            self.program.prints(
+                ["expand", f"{{+x:{items}}}", query], quote(re.sub(LONE_PERCENT, "%25", of_triplets), safe="%")
+            )
+
+    def test_lists(self):
+        for template, expansion in OF_LISTS:
+            self.program.prints(["expand", "--list", "list", "--list", "none", template, MEMBERS], expansion)
+
+    def test_written_texts(self):
+        for text, simple, reserved in WRITTEN:
+            query = "x=" + quote(text, safe="")
+            self.program.prints(["expand", "{x}", query], simple)
+            self.program.prints(["expand", "{+x}", query], reserved)

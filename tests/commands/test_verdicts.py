@@ -1,5 +1,6 @@
 """Code that is accepted, with the bounds of its steps and its output, and why other code is not."""
 from fixtures.assembler import LIST_FILE, code, instruction
+from fixtures.program import ProgramCase
 
 # A text, a list, and link and comparison texts by turns.
 NAMES = [("text", "x"), ("list", "list")]
@@ -38,14 +39,6 @@ FORMS = [
     (2, 0, "LIST r64 n0", "BadRegister at 0"),
 ]
 
-
-def test_form(program):
-    for version, place, text, verdict in FORMS:
-        start = 20 + 8 * place
-        file = b"OLK%d" % version + LIST_FILE[4:start] + instruction(text) + LIST_FILE[start + 8 :]
-        decides(program, file, verdict)
-
-
 # Instructions, and the verdict in both versions.
 KINDS = [
     ("TEXT r2 n0, PUT r2 u, HALT", "KindMismatch at 1, r2"),
@@ -66,13 +59,6 @@ KINDS = [
     ),
     ("TEXT r2 n0, JUMP 3, PUT r2 u, HALT", "ok"),
 ]
-
-
-def test_kinds(program):
-    for instructions, verdict in KINDS:
-        for version in (1, 2):
-            decides(program, code(NAMES, LITERALS, instructions, version), verdict)
-
 
 COMMA = [("link", ",")]
 ISSN = [("link", "http://e.org/"), ("compare", ""), ("link", ","), ("compare", "1")]
@@ -114,7 +100,19 @@ BUDGETS = [
 ]
 
 
-def test_budgets(program):
-    for version, names, literals, instructions, bounds in BUDGETS:
-        program.write("some.olk", code(names, literals, instructions, version))
-        program.prints(["verify", "some.olk"], f"ok\n{bounds}")
+class Verdicts(ProgramCase):
+    def test_form(self):
+        for version, place, text, verdict in FORMS:
+            start = 20 + 8 * place
+            file = b"OLK%d" % version + LIST_FILE[4:start] + instruction(text) + LIST_FILE[start + 8 :]
+            decides(self.program, file, verdict)
+
+    def test_kinds(self):
+        for instructions, verdict in KINDS:
+            for version in (1, 2):
+                decides(self.program, code(NAMES, LITERALS, instructions, version), verdict)
+
+    def test_budgets(self):
+        for version, names, literals, instructions, bounds in BUDGETS:
+            self.program.write("some.olk", code(names, literals, instructions, version))
+            self.program.prints(["verify", "some.olk"], f"ok\n{bounds}")

@@ -1,4 +1,6 @@
 """Versions of a request: a defined `ctx_ver` or `url_ver` is Z39.88-2004, to the letter; other keys are free."""
+from fixtures.program import ProgramCase
+
 VERSION = "Z39.88-2004"
 KEYS = ["ctx_ver", "url_ver"]
 
@@ -47,43 +49,41 @@ FAULTS = [
 ]
 
 
-def test_queries(program):
-    cases = list(QUERIES)
-    cases += [(f"{key}={VERSION}", True) for key in KEYS]
-    cases += [(f"{key}={value}", False) for key in KEYS for value in OTHERS]
-    cases += [(f"{key}=1", True) for key in FREE]
-    for query, is_right in cases:
-        if is_right:
-            program.prints(["expand", "e", query], "e")
-        else:
-            program.fails(["expand", "e", query], 3, "query: WrongVersion")
+class Versions(ProgramCase):
+    def test_queries(self):
+        cases = list(QUERIES)
+        cases += [(f"{key}={VERSION}", True) for key in KEYS]
+        cases += [(f"{key}={value}", False) for key in KEYS for value in OTHERS]
+        cases += [(f"{key}=1", True) for key in FREE]
+        for query, is_right in cases:
+            if is_right:
+                self.program.prints(["expand", "e", query], "e")
+            else:
+                self.program.fails(["expand", "e", query], 3, "query: WrongVersion")
 
+    def test_each_character_of_the_version(self):
+        for at in range(len(VERSION)):
+            for other in "xX0.- ":
+                value = VERSION[:at] + other + VERSION[at + 1:]
+                if value != VERSION:
+                    self.program.fails(["expand", "e", f"ctx_ver={value}"], 3, "query: WrongVersion")
 
-def test_each_character_of_the_version(program):
-    for at in range(len(VERSION)):
-        for other in "xX0.- ":
-            value = VERSION[:at] + other + VERSION[at + 1:]
-            if value != VERSION:
-                program.fails(["expand", "e", f"ctx_ver={value}"], 3, "query: WrongVersion")
+    def test_first_values(self):
+        """Of several values of a key the first counts. This holds for each of the two keys separately."""
+        values = [VERSION, "1", ""]
+        for key in KEYS:
+            for first in values:
+                for second in values:
+                    arguments = ["expand", "e", f"{key}={first}&{key}={second}"]
+                    if first == VERSION:
+                        self.program.prints(arguments, "e")
+                    else:
+                        self.program.fails(arguments, 3, "query: WrongVersion")
+        for first, second in [KEYS, KEYS[::-1]]:
+            self.program.fails(["expand", "e", f"{first}={VERSION}&{second}=1"], 3, "query: WrongVersion")
 
-
-def test_first_values(program):
-    """Of several values of a key the first counts. This holds for each of the two keys separately."""
-    values = [VERSION, "1", ""]
-    for key in KEYS:
-        for first in values:
-            for second in values:
-                arguments = ["expand", "e", f"{key}={first}&{key}={second}"]
-                if first == VERSION:
-                    program.prints(arguments, "e")
-                else:
-                    program.fails(arguments, 3, "query: WrongVersion")
-    for first, second in [KEYS, KEYS[::-1]]:
-        program.fails(["expand", "e", f"{first}={VERSION}&{second}=1"], 3, "query: WrongVersion")
-
-
-def test_first_faults(program):
-    for query, fault in FAULTS:
-        program.fails(["expand", "e", query], 3, f"query: {fault}")
-    program.prints(["expand", "e", "a" + "&a" * 4095], "e")
-    program.prints(["expand", "e", "&" * 65536], "e")
+    def test_first_faults(self):
+        for query, fault in FAULTS:
+            self.program.fails(["expand", "e", query], 3, f"query: {fault}")
+        self.program.prints(["expand", "e", "a" + "&a" * 4095], "e")
+        self.program.prints(["expand", "e", "&" * 65536], "e")

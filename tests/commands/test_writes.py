@@ -1,8 +1,10 @@
 """In how many calls the program writes: a text, a file and each part of a reply in one."""
-import os, subprocess
+import os
+import subprocess
+
 from commands.test_connections import LONG_REQUEST, write_long
 from commands.test_files import largest_code
-from fixtures.program import PATH
+from fixtures.program import PATH, ProgramCase
 from fixtures.service import Service
 from fixtures.system_calls import SEND, Watch
 
@@ -12,7 +14,6 @@ FEW = 4
 
 def writes_of(program, arguments):
     """What the program prints, and how many writes it has made."""
-    program.runs += 1
     how = {"cwd": program.folder, "stdin": subprocess.DEVNULL, "stdout": subprocess.PIPE}
     with subprocess.Popen([PATH, *arguments], **how) as process:
         printed = process.stdout.read()
@@ -23,26 +24,25 @@ def writes_of(program, arguments):
     return printed, int(counts["syscw"])
 
 
-def test_a_text(program):
-    text = "x" * 60_000
-    printed, count = writes_of(program, ["expand", "{x}", f"x={text}"])
-    program.expect("what it prints", printed.decode() == text + "\n")
-    program.expect(f"{count} writes of a text, which are few", count <= FEW)
+class Writes(ProgramCase):
+    def test_a_text(self):
+        text = "x" * 60_000
+        printed, count = writes_of(self.program, ["expand", "{x}", f"x={text}"])
+        self.program.expect("what it prints", printed.decode() == text + "\n")
+        self.program.expect(f"{count} writes of a text, which are few", count <= FEW)
 
+    def test_a_file(self):
+        """The file and the line that is printed are two writes."""
+        self.program.write("largest.olk", largest_code())
+        printed, count = writes_of(self.program, ["upgrade", "largest.olk", "new.olk"])
+        self.program.expect("what it prints", printed, b"65536 bytes\n")
+        self.program.expect("the length of the file", len(self.program.read("new.olk")), 65_536)
+        self.program.expect(f"{count} writes of a file, which are few", count <= 2 * FEW)
 
-def test_a_file(program):
-    """The file and the line that is printed are two writes."""
-    program.write("largest.olk", largest_code())
-    printed, count = writes_of(program, ["upgrade", "largest.olk", "new.olk"])
-    program.expect("what it prints", printed, b"65536 bytes\n")
-    program.expect("the length of the file", len(program.read("new.olk")), 65_536)
-    program.expect(f"{count} writes of a file, which are few", count <= 2 * FEW)
-
-
-def test_a_reply(program):
-    """The line of the service, and the head and the body of the reply."""
-    page = write_long(program, 1)
-    with Watch(SEND) as watch, Service(program, 1, **watch.how) as service:
-        program.expect("the page", service.reply(LONG_REQUEST) == page)
-    count = len(watch.times)
-    program.expect(f"{count} writes of a service, which are few", 3 <= count <= 3 * FEW)
+    def test_a_reply(self):
+        """The line of the service, and the head and the body of the reply."""
+        page = write_long(self.program, 1)
+        with Watch(SEND) as watch, Service(self.program, 1, **watch.how) as service:
+            self.program.expect("the page", service.reply(LONG_REQUEST) == page)
+        count = len(watch.times)
+        self.program.expect(f"{count} writes of a service, which are few", 3 <= count <= 3 * FEW)

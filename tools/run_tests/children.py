@@ -1,0 +1,133 @@
+"""The processes of the tests: several at once, and a line for each that has ended."""
+from __future__ import annotations
+
+import collections
+import json
+import os
+import re
+import signal
+import sys
+import tempfile
+import time
+from typing import Any
+
+import machine
+from catalogue import Test
+
+# The limit of a process in seconds, and how many of its last lines are shown if it fails.
+MOST_SECONDS = 1200
+MOST_LINES = 40
+PACKAGES = re.compile(r"apt-get install ([\w.+ -]+)$")
+
+
+def counted(number: int, noun: str) -> str:
+    return f"{number:,} {noun}{'' if number == 1 else 's'}"
+
+
+class Totals:
+    """The outcomes of all tests so far, and what lacks for those that were skipped."""
+
+    def __init__(self) -> None:
+        self.counts: collections.Counter[str] = collections.Counter()
+        self.packages: dict[str, None] = {}
+
+    def add(self, result: dict[str, Any]) -> None:
+        for end in ("passed", "failed", "skipped"):
+            self.counts[end] += result[end]
+        for reason in result["reasons"]:
+            self.packages.update(dict.fromkeys(packages_in(reason)))
+
+    def line(self) -> str:
+        told = [f"{self.counts['passed']} passed", f"{self.counts['failed']} failed"]
+        return ", ".join(told + [f"{self.counts['skipped']} skipped"] * (self.counts["skipped"] > 0))
+
+
+def packages_in(reason: str) -> list[str]:
+    found = PACKAGES.search(reason)
+    return found[1].split() if found else []
+
+
+class Run:
+    """A test that has been started, with a file for its output."""
+
+    def __init__(self, test: Test, folder: str) -> None:
+        self.test, self.log, self.started = test, f"{folder}/{test.kind}.{test.name}", time.monotonic()
+        self.told = f"{self.log}.json"
+        more = [self.told, test.name, *test.chosen] if test.kind == "module" else []
+        self.process = machine.start([*test.command, *more], test.folder, self.log)
+        self.is_late = False
+
+    def seconds(self) -> float:
+        return time.monotonic() - self.started
+
+    def has_ended(self) -> bool:
+        if self.process.poll() is None and self.seconds() > MOST_SECONDS:
+            stop([self.process])
+            self.is_late = True
+        return self.process.poll() is not None
+
+    def result(self, lines: list[str]) -> dict[str, Any]:
+        """How many tests passed, failed and were skipped, why, and what else the test says in a line."""
+        status = self.process.returncode
+        found: dict[str, Any] = {"passed": 0, "failed": 0, "skipped": 0, "reasons": [], "said": ""}
+        if self.test.kind == "module" and os.path.exists(self.told):
+            with open(self.told, encoding="utf-8") as file:
+                found.update(json.load(file))
+            found["said"] = f", {counted(found['compared'], 'comparison')}"
+        elif self.test.kind == "crate":
+            for passed, failed in re.findall(r"^test result: .*?(\d+) passed; (\d+) failed", "\n".join(lines), re.M):
+                found.update(passed=int(passed), failed=int(failed))
+        elif self.test.kind == "script" and not status:
+            said = lines[-1].removeprefix(f"tests/{self.test.name}: ") if lines else ""
+            is_skipped = said.startswith("skipped: ")
+            found.update({"skipped" if is_skipped else "passed": 1})
+            found.update(reasons=[said.removeprefix("skipped: ")]) if is_skipped else found.update(said=f": {said}")
+        # Whatever it says of its tests: a status of failure, or not a single test, is a failure.
+        if not found["failed"] and (status or not found["passed"] + found["skipped"]):
+            found["failed"] = 1
+        return found
+
+    def report(self) -> dict[str, Any]:
+        """Prints how the test ended, and returns its outcomes."""
+        with open(self.log, encoding="utf-8", errors="replace") as file:
+            lines = file.read().splitlines()
+        result = self.result(lines)
+        end = "failed" if result["failed"] else "passed" if result["passed"] else "skipped"
+        numbers = [counted(result["passed"], "test") + " passed"] * (end == "failed" and result["passed"] > 0)
+        numbers += [counted(result[end], "test")] if end != "failed" else [f"{result['failed']} failed"]
+        line = f"{self.test.name}: {end} in {self.seconds():.0f} s: {', '.join(reversed(numbers))}{result['said']}"
+        if end == "passed" and result["skipped"]:
+            line += f"; {result['skipped']} skipped"
+        line += "".join(f"; {it}" for it in result["reasons"])
+        if end == "failed":
+            why = f"stopped at the limit of {MOST_SECONDS} s" if self.is_late else f"status {self.process.returncode}"
+            line = "\n  ".join([f"{line}; {why}", *lines[-MOST_LINES:]])
+        print(line, flush=True)
+        return result
+
+
+def stop(processes: list[Any]) -> None:
+    """Ends these processes and all that they started. They get some seconds to remove their temporary folders."""
+    for it in processes:
+        if it.poll() is None:
+            os.killpg(it.pid, signal.SIGTERM)
+    until = time.monotonic() + 5
+    while any(it.poll() is None for it in processes) and time.monotonic() < until:
+        time.sleep(0.05)
+    machine.end(processes)
+
+
+def run_all(tests: list[Test], jobs: int, totals: Totals) -> None:
+    """Runs these tests, at most so many at once, in this order."""
+    waiting, running = [*tests], []
+    with tempfile.TemporaryDirectory() as folder:
+        try:
+            while waiting or running:
+                while waiting and len(running) < jobs:
+                    running.append(Run(waiting.pop(0), folder))
+                time.sleep(0.05)
+                for run in [it for it in running if it.has_ended()]:
+                    running.remove(run)
+                    totals.add(run.report())
+        finally:
+            stop([it.process for it in running])
