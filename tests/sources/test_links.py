@@ -65,7 +65,7 @@ def faults(page, crates):
 
 
 def main():
-    os.chdir(os.path.join(os.path.dirname(os.path.abspath(__file__)), ".."))
+    os.chdir(os.path.join(os.path.dirname(os.path.abspath(__file__)), "../.."))
     pages = [page for pattern in PAGES for page in sorted(glob.glob(pattern))]
     found = [fault for page in pages for fault in faults(page, crates())]
     for fault in found:

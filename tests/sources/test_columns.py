@@ -44,7 +44,7 @@ def files():
 
 
 def main():
-    os.chdir(os.path.join(os.path.dirname(os.path.abspath(__file__)), ".."))
+    os.chdir(os.path.join(os.path.dirname(os.path.abspath(__file__)), "../.."))
     known = re.findall(r'"(\w+)"', part(CRATE, r"&\[(.*?)\]\s*\}"))
     added = re.findall(r'"(\w+)"', part(UPDATE, r"\bCOLUMNS = \((.*?)\)"))
     listed = part(FRONT_DOOR, r"\bconst COLUMNS = ' ' \+ \((.*?)\) \+ ' ';")

@@ -113,7 +113,7 @@ def faults(test, program):
 
 
 def main():
-    os.chdir(os.path.join(os.path.dirname(os.path.abspath(__file__)), ".."))
+    os.chdir(os.path.join(os.path.dirname(os.path.abspath(__file__)), "../.."))
     found = []
     with tempfile.TemporaryDirectory() as room:
         program = Failing(room, build(room))

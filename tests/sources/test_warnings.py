@@ -8,7 +8,7 @@ import re
 import sys
 
 sys.dont_write_bytecode = True
-os.chdir(os.path.join(os.path.dirname(os.path.abspath(__file__)), ".."))
+os.chdir(os.path.join(os.path.dirname(os.path.abspath(__file__)), "../.."))
 sys.path.insert(0, "update")
 from openlink_update.versions.program import NO_COLUMN, PLACE, PLAIN, warnings_in
 

@@ -1,6 +1,6 @@
 #!/usr/bin/env python3
 """Compiles the Rattle that the build does not: the blocks of code in the heads of crates, and the programs of benches/.
-Proves nothing. tests/snippets.d/blocks.rt.txt has the names that the blocks use; each block is a test there, and runs.
+Proves nothing. tests/crates/blocks.rt.txt has the names that the blocks use; each block is a test there, and runs.
 Needs no program."""
 import glob
 import os
@@ -11,7 +11,7 @@ import subprocess
 import sys
 import tempfile
 
-BLOCKS = "tests/snippets.d/blocks.rt.txt"
+BLOCKS = "tests/crates/blocks.rt.txt"
 PLACE = re.compile(r" *// The block of (\w+)\.")
 USES = re.compile(r"^ *use (\w+)", re.M)
 BUILT_IN = {"crate", "std"}
@@ -84,7 +84,7 @@ def placed(text, places):
 
 
 def main():
-    os.chdir(os.path.join(os.path.dirname(os.path.abspath(__file__)), ".."))
+    os.chdir(os.path.join(os.path.dirname(os.path.abspath(__file__)), "../.."))
     waiting, programs = blocks(), sorted(glob.glob("benches/*.rt.txt"))
     count = sum(map(len, waiting.values()))
     crate = filled(waiting)

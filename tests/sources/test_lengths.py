@@ -31,7 +31,7 @@ def faults(path, lines):
 
 
 def main():
-    os.chdir(os.path.join(os.path.dirname(os.path.abspath(__file__)), ".."))
+    os.chdir(os.path.join(os.path.dirname(os.path.abspath(__file__)), "../.."))
     count, found = 0, []
     for path in files():
         with open(path, encoding="utf-8") as file:

@@ -1,0 +1,1 @@
+"""The built program compared with stored output and with the documents."""
