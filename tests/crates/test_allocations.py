@@ -1,18 +1,23 @@
-#!/usr/bin/env python3
-"""Runs each test of the crate memory_tests with its first allocation failing, then with its second, and so on up to its
-last. Each run must end in one of the ways that ENDS lists, and each of these ways must occur.
+"""Each test of the crate memory_tests with its first allocation failing, then with its second, and so on up to its last.
+Each run must end in one of the ways that ENDS lists, and each of these ways must occur.
 
-`rt try --fail-alloc N` would build the tests again for each number. So this script lets it build them once, for a
-number that no run reaches, keeps that program, and writes another number into it for each run."""
+`rt try --fail-alloc N` would build the tests again for each number. So this lets it build them once, for a number that no
+run reaches, keeps that program, and writes another number into it for each run."""
+from __future__ import annotations
+
 import collections
 import glob
 import os
 import re
 import struct
 import subprocess
-import sys
 import tempfile
 import time
+from collections.abc import Callable
+
+from fixtures import needs
+from fixtures.cases import Case
+from fixtures.patience import patience
 
 CRATE = "memory_tests"
 FAR = 2_000_000_001
@@ -35,7 +40,7 @@ ENDS = {
 }
 
 
-def keep(room):
+def keep(room: str) -> None:
     """Gives the program that `rt try` builds a second name, before `rt try` removes it."""
     for path in glob.glob(f"{room}/rt-try-*/rattle-native-*/program"):
         try:
@@ -47,30 +52,30 @@ def keep(room):
             continue
 
 
-def build(room):
+def build(room: str) -> bytes:
     """Runs the tests once, with all allocations, and returns the program."""
     for _ in range(BUILDS):
         arguments = ["rt", "try", "--test", "--seconds", "600", "--fail-alloc", str(FAR)]
         with open(f"{room}/log", "w+b") as log:
-            how = {"cwd": f"crates/{CRATE}", "env": {**os.environ, "TMPDIR": room}, "stdout": log, "stderr": log}
-            process = subprocess.Popen(arguments, **how)
+            where = {**os.environ, "TMPDIR": room}
+            process = subprocess.Popen(arguments, cwd=f"crates/{CRATE}", env=where, stdout=log, stderr=log)
             while process.poll() is None:
                 keep(room)
                 time.sleep(0.005)
             log.seek(0)
             printed = log.read().decode(errors="replace")
         if process.returncode != 0:
-            sys.exit(f"tests/allocations: the tests of {CRATE} fail:\n{printed}")
+            raise AssertionError(f"the tests of {CRATE} fail:\n{printed}")
         if os.path.exists(f"{room}/kept"):
             with open(f"{room}/kept", "rb") as file:
                 return file.read()
-    sys.exit(f"tests/allocations: no program of {CRATE} was found")
+    raise AssertionError(f"no program of {CRATE} was found")
 
 
 class Failing:
     """The program, in a copy in which one allocation fails."""
 
-    def __init__(self, room, program):
+    def __init__(self, room: str, program: bytes) -> None:
         self.path = f"{room}/failing"
         with open(self.path, "wb") as file:
             file.write(program)
@@ -79,54 +84,70 @@ class Failing:
         comparison = re.escape(b"\x48\x3d" + struct.pack("<I", FAR))
         self.places = [found.end() - 4 for found in re.finditer(comparison, program)]
         if not self.places:
-            sys.exit("tests/allocations: the program does not have the number of the allocation that fails")
+            raise AssertionError("the program does not have the number of the allocation that fails")
 
-    def end(self, test, number):
+    def tests(self) -> list[str]:
+        listed = subprocess.run([self.path, "--list"], env={}, capture_output=True, check=True).stdout.decode()
+        return re.findall(r"^(\S+): test$", listed, re.M)
+
+    def end(self, test: str, number: int) -> str:
         """How the test ends if the allocation of this number fails."""
         with open(self.path, "r+b") as file:
             for place in self.places:
                 file.seek(place)
                 file.write(struct.pack("<I", number))
-        done = subprocess.run([self.path, test], env={}, stdin=subprocess.DEVNULL, capture_output=True, timeout=60)
+        how = {"env": {}, "stdin": subprocess.DEVNULL, "capture_output": True, "timeout": patience(60)}
+        done = subprocess.run([self.path, test], **how)
         if done.returncode == 0:
             return PASSED
         return done.stderr.decode(errors="replace").partition("\n")[0] or f"status {done.returncode}"
 
 
-def faults(test, program):
-    """Yields each run of a test that ends otherwise than it may, and each end that is missing."""
-    seen = collections.Counter()
+def faults(expected: set[str], end: Callable[[int], str]) -> list[str]:
+    """What is wrong with a test that ends like this if an allocation fails: each run that ends otherwise than it may, and
+    each end that is missing."""
+    found: list[str] = []
+    seen: collections.Counter[str] = collections.Counter()
     for number in range(1, MOST):
-        end = program.end(test, number)
-        if end == LAST:
+        got = end(number)
+        if got == LAST:
             break
-        seen[end] += 1
-        if end not in ENDS[test] | {PASSED} and not OTHERS.match(end):
-            yield f"allocation {number}: {end}"
+        seen[got] += 1
+        if got not in expected | {PASSED} and not OTHERS.match(got):
+            found.append(f"allocation {number}: {got}")
     else:
-        yield f"more than {MOST} allocations"
-    for end in ENDS[test] - set(seen):
-        yield f"no allocation ends it with: {end}"
-    if program.end(test, number + 1) != PASSED:
-        yield "an allocation after the last one fails"
-    print(f"tests/allocations: {test}: {', '.join(f'{count} times {end}' for end, count in sorted(seen.items()))}")
+        found.append(f"more than {MOST} allocations")
+    found += [f"no allocation ends it with: {it}" for it in sorted(expected - {*seen})]
+    if end(number + 1) != PASSED:
+        found.append("an allocation after the last one fails")
+    return found
 
 
-def main():
-    os.chdir(os.path.join(os.path.dirname(os.path.abspath(__file__)), "../.."))
-    found = []
-    with tempfile.TemporaryDirectory() as room:
-        program = Failing(room, build(room))
-        listed = subprocess.run([program.path, "--list"], env={}, capture_output=True, check=True).stdout.decode()
-        tests = re.findall(r"^(\S+): test$", listed, re.M)
-        if set(tests) != set(ENDS):
-            found.append(f"the tests are {tests}")
-        for test in sorted(set(tests) & set(ENDS)):
-            found += [f"{test}: {fault}" for fault in faults(test, program)]
-    for fault in found:
-        print(f"tests/allocations: {fault}", file=sys.stderr)
-    return 1 if found else 0
+@needs.toolchain()
+class Allocations(Case):
+    def test_each_allocation_fails(self) -> None:
+        with tempfile.TemporaryDirectory() as room:
+            program = Failing(room, build(room))
+            self.expect("the tests", sorted(program.tests()), sorted(ENDS))
+            for test, ends in sorted(ENDS.items()):
+                self.expect(test, faults(ends, lambda number, test=test: program.end(test, number)), [])
 
 
-if __name__ == "__main__":
-    sys.exit(main())
+# How a test with an end "a" ends for each number of an allocation, and the number of faults.
+GOOD = ["a", "error: NoMemory", PASSED, "a", LAST]
+RUNS = [
+    (GOOD, PASSED, 0),
+    (["error: NoMemory", LAST], PASSED, 1),
+    (["a", "status 1", LAST], PASSED, 1),
+    (GOOD, LAST, 1),
+    (["a"] * MOST, PASSED, 1),
+]
+
+
+class FailingRuns(Case):
+    """The check fails for a test that ends otherwise."""
+
+    def test_examples(self) -> None:
+        for ends, after, count in RUNS:
+            found = faults({"a"}, lambda number: ends[number - 1] if number <= len(ends) else after)
+            self.expect(f"{ends[:5]}, then {after}: {found}", len(found), count)

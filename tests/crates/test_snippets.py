@@ -1,67 +1,75 @@
-#!/usr/bin/env python3
-"""Compiles the Rattle that the build does not: the blocks of code in the heads of crates, and the programs of benches/.
-Proves nothing. tests/crates/blocks.rt.txt has the names that the blocks use; each block is a test there, and runs.
-Needs no program."""
+"""The Rattle that the build does not compile: the blocks of code in the heads of crates, and the programs of benches/.
+Proves nothing. tests/crates/blocks.rt.txt has the names that the blocks use; each block is a test there, and runs. Needs
+no program."""
+from __future__ import annotations
+
 import glob
 import os
 import re
 import shutil
-import signal
 import subprocess
-import sys
 import tempfile
+
+from fixtures import needs
+from fixtures.cases import Case
 
 BLOCKS = "tests/crates/blocks.rt.txt"
 PLACE = re.compile(r" *// The block of (\w+)\.")
 USES = re.compile(r"^ *use (\w+)", re.M)
 BUILT_IN = {"crate", "std"}
+# There are at least this many blocks and programs.
+LEAST_BLOCKS, LEAST_PROGRAMS = 15, 3
+
+Blocks = dict[str, list[tuple[int, list[str]]]]
 
 
 class Crate:
     """The root of a crate that is put together from several files: its lines, each with where it is from."""
 
-    def __init__(self):
-        self.lines, self.places = [], []
+    def __init__(self) -> None:
+        self.lines: list[str] = []
+        self.places: list[str] = []
 
-    def add(self, path, first, lines):
+    def add(self, path: str, first: int, lines: list[str]) -> None:
         for number, line in enumerate(lines, first):
             self.lines.append(line)
             self.places.append(f"{path}:{number}")
 
 
-def read(path):
+def read(path: str) -> str:
     with open(path, encoding="utf-8") as file:
         return file.read()
 
 
-def blocks():
-    """Returns the blocks of Rattle in the head of each crate that has one: the number of their first line, and their
-    lines."""
-    found = {}
-    for path in sorted(glob.glob("crates/*/src/lib.rt")):
-        head = [line[3:] for line in read(path).split("\n") if line.startswith("//!")]
-        fences = [number for number, line in enumerate(head) if line.startswith(" ```")]
-        for start, end in zip(fences[::2], fences[1::2]):
-            if head[start] != " ```text":
-                found.setdefault(path.split("/")[1], []).append((start + 2, head[start + 1 : end]))
-    return found
+def blocks_in(text: str) -> list[tuple[int, list[str]]]:
+    """The blocks of Rattle in the head of a file: the number of their first line, and their lines."""
+    head = [line[3:] for line in text.split("\n") if line.startswith("//!")]
+    fences = [number for number, line in enumerate(head) if line.startswith(" ```")]
+    return [(start + 2, head[start + 1 : end]) for start, end in zip(fences[::2], fences[1::2])
+            if head[start] != " ```text"]
 
 
-def filled(waiting):
-    """Returns the crate of the blocks, and removes from these blocks each that has a place there."""
-    crate = Crate()
-    for number, line in enumerate(read(BLOCKS).splitlines(), 1):
+def blocks() -> Blocks:
+    """The blocks of each crate that has one in its head."""
+    found = {path.split("/")[1]: blocks_in(read(path)) for path in sorted(glob.glob("crates/*/src/lib.rt"))}
+    return {crate: those for crate, those in found.items() if those}
+
+
+def filled(text: str, blocks: Blocks) -> tuple[Crate, list[str]]:
+    """The crate of the blocks, and what is wrong: a place without a block, or a block without a place."""
+    crate, waiting, found = Crate(), dict(blocks), []
+    for number, line in enumerate(text.splitlines(), 1):
         place = PLACE.fullmatch(line)
         if not place:
             crate.add(BLOCKS, number, [line])
         elif place[1] not in waiting:
-            sys.exit(f"tests/snippets: {BLOCKS}:{number}: the crate {place[1]} has no other block in its head")
+            found.append(f"{BLOCKS}:{number}: the crate {place[1]} has no other block in its head")
         for first, lines in waiting.pop(place[1], []) if place else []:
             crate.add(f"crates/{place[1]}/src/lib.rt", first, lines)
-    return crate
+    return crate, found + [f"{BLOCKS} has no place for the blocks of {name}" for name in waiting]
 
 
-def make(folder, crate, programs):
+def make(folder: str, crate: Crate, programs: list[str]) -> None:
     """Makes a copy of the crates with one more, which has the blocks and the programs as modules."""
     shutil.copytree("crates", f"{folder}/crates", ignore=shutil.ignore_patterns("out"))
     os.makedirs(f"{folder}/crates/snippets/src")
@@ -77,36 +85,53 @@ def make(folder, crate, programs):
         file.write(f"{read('crates.txt')}\nsnippets: {' '.join(sorted(names - BUILT_IN))}\n")
 
 
-def placed(text, places):
-    """Returns what the compiler says, with the files of the repository in place of those of the copy."""
+def placed(text: str, places: list[str]) -> str:
+    """What the compiler says, with the files of the repository in place of those of the copy."""
     text = re.sub(r"\bsrc/lib\.rt:(\d+)", lambda it: places[int(it[1]) - 1], text)
     return re.sub(r"\bsrc/(\w+)_bench\.rt\b", r"benches/\1.rt.txt", text)
 
 
-def main():
-    os.chdir(os.path.join(os.path.dirname(os.path.abspath(__file__)), "../.."))
-    waiting, programs = blocks(), sorted(glob.glob("benches/*.rt.txt"))
-    count = sum(map(len, waiting.values()))
-    crate = filled(waiting)
-    if waiting:
-        print(f"tests/snippets: {BLOCKS} has no place for the blocks of {', '.join(waiting)}", file=sys.stderr)
-        return 1
-    with tempfile.TemporaryDirectory() as folder:
-        make(folder, crate, programs)
-        # The interpreter gets one step, so each block runs once, compiled.
-        words = ["rt", "try", "--test", "--seconds", "600", "--steps", "1"]
-        how = {"cwd": f"{folder}/crates/snippets", "stdin": subprocess.DEVNULL, "stdout": subprocess.PIPE}
-        ran = subprocess.run(words, stderr=subprocess.STDOUT, encoding="utf-8", errors="replace", **how)
-    passed = len(re.findall(r"^test \w+::\w+ \.\.\. ok$", ran.stdout, re.M))
-    if ran.returncode or passed < count or not programs:
-        print(placed(ran.stdout, crate.places), file=sys.stderr)
-        print(f"tests/snippets: {passed} of {count} blocks passed, status {ran.returncode}", file=sys.stderr)
-        return 1
-    print(f"tests/snippets: {count} blocks, {len(programs)} programs")
-    return 0
+def passed_in(text: str) -> int:
+    return len(re.findall(r"^test \w+::\w+ \.\.\. ok$", text, re.M))
 
 
-if __name__ == "__main__":
-    # If ./test ends this check, it ends rt too: that is waited for, so that the copy is removed.
-    signal.signal(signal.SIGTERM, lambda *_: None)
-    sys.exit(main())
+@needs.toolchain()
+class Snippets(Case):
+    def test_blocks_and_programs_compile(self) -> None:
+        found, programs = blocks(), sorted(glob.glob("benches/*.rt.txt"))
+        count = sum(map(len, found.values()))
+        self.expect(f"{count} blocks", count >= LEAST_BLOCKS)
+        self.expect(f"{len(programs)} programs", len(programs) >= LEAST_PROGRAMS)
+        crate, faults = filled(read(BLOCKS), found)
+        self.expect("the places of the blocks", faults, [])
+        with tempfile.TemporaryDirectory() as folder:
+            make(folder, crate, programs)
+            # The interpreter gets one step, so each block runs once, compiled.
+            words = ["rt", "try", "--test", "--seconds", "600", "--steps", "1"]
+            how = {"cwd": f"{folder}/crates/snippets", "stdin": subprocess.DEVNULL, "stdout": subprocess.PIPE}
+            ran = subprocess.run(words, stderr=subprocess.STDOUT, encoding="utf-8", errors="replace", **how)
+        passed = passed_in(ran.stdout)
+        if ran.returncode or passed < count:
+            print(placed(ran.stdout, crate.places))
+        self.expect(f"the status; {passed} of {count} blocks passed", (ran.returncode, passed >= count), (0, True))
+
+
+class Places(Case):
+    """What is found in a head, and where its lines are from."""
+
+    HEAD = "//! A.\n//! ```\n//! let _a = 1;\n//! ```\n//! ```text\n//! no code\n//! ```\nuse a;\n"
+
+    def test_blocks(self) -> None:
+        self.expect("the blocks", blocks_in(self.HEAD), [(3, [" let _a = 1;"])])
+        self.expect("no block", blocks_in("//! A.\nuse a;\n"), [])
+
+    def test_places(self) -> None:
+        found = {"a": blocks_in(self.HEAD)}
+        crate, faults = filled("//! Head.\n    // The block of a.\n", found)
+        self.expect("the crate", (crate.lines, faults), (["//! Head.", " let _a = 1;"], []))
+        self.expect("where a line is from", placed("src/lib.rt:2: wrong", crate.places), "crates/a/src/lib.rt:3: wrong")
+        self.expect("no place", len(filled("//! Head.\n", found)[1]), 1)
+        self.expect("no block", len(filled("// The block of b.\n// The block of a.\n", found)[1]), 1)
+
+    def test_passed(self) -> None:
+        self.expect("passed", passed_in("test a::b ... ok\ntest a::c ... FAILED\ntest x ... ok\n"), 1)

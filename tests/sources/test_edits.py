@@ -1,25 +1,30 @@
-#!/usr/bin/env python3
-"""Applies each must-fail edit to its crate, and proves nothing. Each must still apply, and have a name of its own
-there.
+"""Each must-fail edit still applies to its crate, and has a name of its own there. Nothing is proved.
 
-The gate tries those of crates/CRATE/must-fail/, whose number is limited. edits/try tries the others; the
-file edits/tried has the sums of what it tried. A crate fails here if its sources, its edits, or the statements
-of lower crates that these depend on have changed since then."""
+The gate tries those of crates/CRATE/must-fail/, whose number is limited. edits/try tries the others; the file edits/tried
+has the sums of what it tried. A crate fails here if its sources, its edits, or the statements of lower crates that these
+depend on have changed since then."""
+from __future__ import annotations
+
 import os
 import sys
+import tempfile
+from collections.abc import Iterable, Iterator, Mapping
+from typing import Any
 
-sys.dont_write_bytecode = True
-os.chdir(os.path.dirname(os.path.dirname(os.path.dirname(os.path.abspath(__file__)))))
-sys.path.insert(0, "edits")
+from fixtures import TOP
+from fixtures.cases import Case
+
+sys.path.insert(0, f"{TOP}/edits")
 import record
 import stored
 
 MOST_EDITS, MOST_CRATES = 64, 14
+Edits = list[tuple[str, str]]
 
 
-def of_names(edits):
-    """Yields what is wrong with each edit."""
-    found = {}
+def of_names(edits: Edits) -> Iterator[str]:
+    """What is wrong with each edit: a crate and a path."""
+    found: dict[tuple[str, str], str] = {}
     for crate, path in edits:
         if not os.path.isdir(f"crates/{crate}"):
             yield f"{path}: there is no crate {crate}"
@@ -30,10 +35,9 @@ def of_names(edits):
             yield f"{path}: {why}"
 
 
-def of_sums(crates):
-    """Yields which crates have changed since their edits were tried, or whose edits were never tried."""
-    sums, tried = record.Sums(), record.tried()
-    changed = [crate for crate in crates if crate not in tried or tried[crate][0] != sums.of(crate)]
+def of_sums(crates: Iterable[str], sums: Mapping[str, str], tried: Mapping[str, Any]) -> Iterator[str]:
+    """Which crates have changed since their edits were tried, or whose edits were never tried."""
+    changed = [crate for crate in crates if crate not in tried or tried[crate][0] != sums[crate]]
     if changed:
         these = " ".join(changed)
         yield f"changed since their edits were tried: run edits/try {these}, and commit {record.TRIED}"
@@ -41,22 +45,68 @@ def of_sums(crates):
         yield f"{record.TRIED}: {crate} has no edits in edits"
 
 
-def main():
-    gate, others = stored.of_the_gate(), stored.others()
-    faults = [*of_names([*gate, *others])]
-    if not faults:
-        faults = [*of_sums(sorted({crate for crate, _ in others}))]
+def of_numbers(gate: Edits, others: Edits) -> Iterator[str]:
+    """Too many edits for the gate, or none."""
     crates = {crate for crate, _ in gate}
     if len(gate) > MOST_EDITS or len(crates) > MOST_CRATES:
         has = f"the gate has {len(gate)} edits in {len(crates)} crates"
-        faults.append(f"{has}, and time for {MOST_EDITS} in {MOST_CRATES}")
-    for it in faults:
-        print(f"tests/edits: {it}", file=sys.stderr)
-    if faults or not gate or not others:
-        return 1
-    print(f"tests/edits: {len(gate)} edits of the gate and {len(others)} others apply")
-    return 0
+        yield f"{has}, and time for {MOST_EDITS} in {MOST_CRATES}"
+    if not gate or not others:
+        yield f"{len(gate)} edits of the gate and {len(others)} others were found"
 
 
-if __name__ == "__main__":
-    sys.exit(main())
+def faults() -> list[str]:
+    gate, others = stored.of_the_gate(), stored.others()
+    found = [*of_names([*gate, *others])]
+    if not found:
+        crates, sums = sorted({crate for crate, _ in others}), record.Sums()
+        found = [*of_sums(crates, {it: sums.of(it) for it in crates}, record.tried())]
+    return found + [*of_numbers(gate, others)]
+
+
+def line() -> str:
+    return f"{len(stored.of_the_gate())} edits of the gate and {len(stored.others())} others apply"
+
+
+class MustFailEdits(Case):
+    def test_all_apply_and_were_tried(self) -> None:
+        self.expect(line(), faults(), [])
+
+
+# An edit that applies to the crate budget, and what is changed in it.
+EDIT = "crates/budget/must-fail/cut_counts_its_items.edit"
+
+
+class SpoiltEdits(Case):
+    """The check fails for edits and sums that are changed."""
+
+    def test_an_edit_that_does_not_apply(self) -> None:
+        with open(EDIT, encoding="utf-8") as file:
+            text = file.read()
+        self.expect("the edit", [*of_names([("budget", EDIT)])], [])
+        with tempfile.TemporaryDirectory() as folder:
+            for at, spoilt in enumerate((text.replace("old:", "old: x", 1), text.replace("file:", "file: x", 1), "")):
+                path = f"{folder}/{at}.edit"
+                with open(path, "w", encoding="utf-8") as file:
+                    file.write(spoilt)
+                self.expect(f"spoilt edit {at}", len([*of_names([("budget", path)])]), 1)
+
+    def test_names(self) -> None:
+        twice = [*of_names([("budget", EDIT), ("budget", EDIT.replace("budget/", "budget/../budget/"))])]
+        self.expect("two edits of one name", [it.partition(": ")[2] for it in twice], [f"{EDIT} has the same name"])
+        self.expect("no crate", [*of_names([("nowhere", EDIT)])], [f"{EDIT}: there is no crate nowhere"])
+
+    def test_sums(self) -> None:
+        tried = {"a": ("1", "toolchain"), "b": ("2", "toolchain")}
+        self.expect("as they were tried", [*of_sums(["a", "b"], {"a": "1", "b": "2"}, tried)], [])
+        for sums in {"a": "1", "b": "3"}, {"a": "1", "b": "2", "c": "4"}:
+            found = [*of_sums([*sums], sums, tried)]
+            self.expect(f"{sums}", [it.startswith("changed since") for it in found], [True])
+        self.expect("a crate without edits", len([*of_sums(["a"], {"a": "1"}, tried)]), 1)
+
+    def test_numbers(self) -> None:
+        one = [("a", "a/1.edit")]
+        self.expect("few", [*of_numbers(one, one)], [])
+        many, spread = one * (MOST_EDITS + 1), [(f"{it}", "") for it in range(MOST_CRATES + 1)]
+        for gate, others in (many, one), (spread, one), ([], one), (one, []):
+            self.expect(f"{len(gate)} and {len(others)}", len([*of_numbers(gate, others)]), 1)

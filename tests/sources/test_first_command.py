@@ -1,7 +1,7 @@
-#!/usr/bin/env python3
-"""Runs the script openlink in copies of this repository that have a small stand-in for the toolchain, which sleeps and
-proves nothing. Tests which crates it proves, in which order and with how many jobs, and what it does after an
-interrupt, after an error, and when it runs twice at once."""
+"""The script openlink in copies of this repository that have a small stand-in for the toolchain, which sleeps and proves
+nothing: which crates it proves, in which order and with how many jobs, and what it does after an interrupt, after an
+error, and when it runs twice at once."""
+from __future__ import annotations
 
 import os
 import resource
@@ -11,11 +11,12 @@ import subprocess
 import sys
 import tempfile
 
-sys.dont_write_bytecode = True
-ROOT = os.path.dirname(os.path.dirname(os.path.dirname(os.path.realpath(__file__))))
-sys.path[:0] = [f"{ROOT}/tools/prove", f"{ROOT}/tests/shared"]
+from fixtures import TOP
+from fixtures.cases import Case
+from fixtures.patience import wait_until
+
+sys.path.insert(0, f"{TOP}/tools/prove")
 from crates import Crates, read
-from patience import wait_until
 from schedule import Schedule
 
 JOBS = 4
@@ -61,18 +62,11 @@ note("end", name, jobs)
 '''
 # The seconds in which all proofs but one end.
 LIMIT = 60
-failures = []
 
 
 def heed_interrupts():
     """A shell that starts this check in the background has it ignore them."""
     signal.signal(signal.SIGINT, signal.SIG_DFL)
-
-
-def expect(holds, text):
-    if not holds:
-        failures.append(text)
-        print(f"tests/first_command: {text}", file=sys.stderr)
 
 
 def processor_time():
@@ -86,11 +80,11 @@ class Copy:
 
     def __init__(self, top, name):
         self.root, self.notes = f"{top}/{name}", f"{top}/{name}.notes"
-        for crate in read(ROOT)[0]:
-            shutil.copytree(f"{ROOT}/crates/{crate}/src", f"{self.root}/crates/{crate}/src")
+        for crate in read(TOP)[0]:
+            shutil.copytree(f"{TOP}/crates/{crate}/src", f"{self.root}/crates/{crate}/src")
         for file in ("openlink", "crates.txt"):
-            shutil.copy2(f"{ROOT}/{file}", self.root)
-        shutil.copytree(f"{ROOT}/tools", f"{self.root}/tools")
+            shutil.copy2(f"{TOP}/{file}", self.root)
+        shutil.copytree(f"{TOP}/tools", f"{self.root}/tools")
         os.makedirs(f"{self.root}/bin")
         for command in ("rt", "rattle", "rattle-link"):
             with open(f"{self.root}/bin/{command}", "w", encoding="utf-8") as file:
@@ -138,120 +132,125 @@ class Copy:
         return found
 
 
-def check_schedule(crates):
-    """The order alone, without processes: of the crates that can start, the one with the longest chain above it."""
-    chain, weight = crates.chain, crates.weight
-    for name in crates.names:
-        for dep in crates.deps[name]:
-            expect(chain[dep] >= weight[dep] + chain[name], f"the chain from {dep} leaves out {name}")
-    schedule = Schedule(crates, JOBS)
-    while not schedule.is_done():
-        while found := schedule.next():
-            name, jobs = found
-            ready = [it for it in schedule.left if crates.below[it] <= schedule.done]
-            expect(name == max(ready, key=chain.get), f"{name} was chosen of {' '.join(ready)}")
-            schedule.start(name, jobs)
-            used = sum(jobs for jobs, _ in schedule.running.values())
-            expect(used <= JOBS, f"{used} jobs ran at once with {name}")
-        schedule.end(min(schedule.running, key=weight.get))
-    expect(schedule.done == {*crates.names}, "the schedule ended before all crates were done")
+class Order(Case):
+    """Of the crates that can start, the one with the longest chain above it starts first."""
+
+    copy: Copy
+
+    @classmethod
+    def setUpClass(cls) -> None:
+        room = tempfile.TemporaryDirectory()
+        cls.addClassCleanup(room.cleanup)
+        cls.copy = Copy(room.name, "order")
+
+    def test_schedule(self) -> None:
+        """The order alone, without processes."""
+        crates = self.copy.crates
+        chain, weight = crates.chain, crates.weight
+        for name in crates.names:
+            for dep in crates.deps[name]:
+                self.expect(f"the chain from {dep} has {name}", chain[dep] >= weight[dep] + chain[name])
+        schedule = Schedule(crates, JOBS)
+        while not schedule.is_done():
+            while found := schedule.next():
+                name, jobs = found
+                ready = [it for it in schedule.left if crates.below[it] <= schedule.done]
+                self.expect(f"the choice among {' '.join(ready)}", name, max(ready, key=chain.get))
+                schedule.start(name, jobs)
+                used = sum(jobs for jobs, _ in schedule.running.values())
+                self.expect(f"{used} jobs run at once with {name}", used <= JOBS)
+            schedule.end(min(schedule.running, key=weight.get))
+        self.expect("the crates at the end", schedule.done, {*crates.names})
+
+    def follow(self, copy: Copy) -> None:
+        """Goes through the notes of a whole run: what was started when, beside what, with how many jobs."""
+        crates, running, ended = copy.crates, {}, set()
+        for kind, name, jobs in copy.noted():
+            if kind == "start":
+                self.expect(f"what {name} depends on is proved", crates.below[name] <= ended)
+                running[name] = int(jobs)
+                self.expect(f"jobs with {name}: {sum(running.values())}", sum(running.values()) <= JOBS)
+            elif kind == "end":
+                ended.add(name)
+                del running[name]
+
+    def test_whole_run(self) -> None:
+        """The needed crates and no other, each once, and nothing in a second call."""
+        copy = self.copy
+        run = copy.start()
+        out, err = run.communicate()
+        crates = copy.crates
+        self.expect(f"the run, which says {err!r}", (run.returncode, out), (0, "ran expand a b \n"))
+        started = copy.names("start")
+        self.expect("the crates that were proved", sorted(started), sorted(crates.names))
+        self.expect("crates of tests", [it for it in started if it.endswith("_tests")], [])
+        self.expect("the last crate", started[-1], "openlink")
+        self.follow(copy)
+        # At the start no crate depends on another that is not proved: the first ones have the longest chains.
+        first = sorted((it for it in crates.names if not crates.below[it]), key=lambda it: -crates.chain[it])
+        self.expect("the first crates", {*started[: len(first)]}, {*first})
+        self.expect("the idle jobs", max(int(jobs) for _, _, jobs in copy.noted()), JOBS)
+        calls, used = len(copy.noted()), processor_time()
+        out = copy.start().communicate()
+        again = processor_time() - used
+        self.expect("the second call", out, ("ran expand a b \n", ""))
+        self.expect("the calls of the toolchain", len(copy.noted()), calls)
+        self.expect(f"a second call took {again:.2f} s of a processor, and the first one {used:.2f}", again < used / 50)
 
 
-def follow(copy):
-    """Goes through the notes of a whole run: what was started when, beside what, with how many jobs."""
-    crates, running, ended = copy.crates, {}, set()
-    for kind, name, jobs in copy.noted():
-        if kind == "start":
-            expect(crates.below[name] <= ended, f"{name} was started before a crate that it depends on was proved")
-            running[name] = int(jobs)
-            expect(sum(running.values()) <= JOBS, f"{sum(running.values())} jobs ran at once with {name}")
-        elif kind == "end":
-            ended.add(name)
-            del running[name]
-
-
-def check_order(copy):
-    """The whole run: the needed crates and no other, each once."""
-    run = copy.start()
-    out, err = run.communicate()
-    crates = copy.crates
-    expect((run.returncode, out) == (0, "ran expand a b \n"), f"status {run.returncode}, printed {out!r} and {err!r}")
-    started = copy.names("start")
-    expect(sorted(started) == sorted(crates.names), f"proved {' '.join(started)}")
-    expect(not any(name.endswith("_tests") for name in started), "crates of tests were proved")
-    expect(started[-1] == "openlink", f"{started[-1]} was proved last")
-    follow(copy)
-    # At the start no crate depends on another that is not proved: the first ones have the longest chains.
-    first = sorted((it for it in crates.names if not crates.below[it]), key=lambda it: -crates.chain[it])
-    expect({*started[: len(first)]} == {*first}, f"began with {' '.join(started[:len(first)])}")
-    expect(max(int(jobs) for _, _, jobs in copy.noted()) == JOBS, "no crate got the idle jobs")
-    calls, first = len(copy.noted()), processor_time()
-    out = copy.start().communicate()
-    again = processor_time() - first
-    expect(out == ("ran expand a b \n", ""), f"the second call gave {out}")
-    expect(len(copy.noted()) == calls, "a second call called the toolchain")
-    expect(again < first / 50, f"a second call took {again:.2f} s of a processor, and the first one {first:.2f}")
-
-
-def interrupt(copy, number, stuck):
-    """Runs until all is proved but the crate stuck, whose proof does not end, and those above it; sends the signal."""
-    rest = {it for it in copy.crates.names if it == stuck or stuck in copy.crates.below[it]}
-    run = copy.start(KEPT=stuck)
-    is_left = wait_until(lambda: copy.is_kept(stuck) and copy.marked() == {*copy.crates.names} - rest, LIMIT)
-    expect(is_left, f"not all is proved but {stuck} and what depends on it")
-    run.send_signal(number)
-    _, err = run.communicate()
-    expect(run.returncode == -number and "interrupted" in err, f"signal {number} gave {run.returncode}, {err}")
-    expect(not copy.processes(), f"signal {number} left processes")
-
-
-def check_two_runs(copy):
-    """A run that begins before another one has ended waits for it."""
-    first = copy.start(KEPT="openlink")
-    expect(wait_until(lambda: copy.is_kept("openlink"), LIMIT), "the first of two runs does not reach openlink")
-    second = copy.start()
-    said = second.stderr.readline()
-    copy.let_go()
-    errors = [run.communicate()[1] for run in (first, second)]
-    expect([first.returncode, second.returncode] == [0, 0], f"two runs at once gave {errors}")
-    expect("waiting" not in errors[0] and "waiting for another run" in said, f"two runs said {errors[0]} and {said}")
-
-
-def check_interrupts(copy):
+class Interrupts(Case):
     """An interrupt ends all that was started; the next run proves only what is left; of two runs at once one waits."""
-    first = copy.crates.names[10]
-    interrupt(copy, signal.SIGINT, first)
-    # A crate that depends on the first one is still left.
-    interrupt(copy, signal.SIGTERM, next(it for it in copy.crates.names if first in copy.crates.below[it]))
-    check_two_runs(copy)
-    ended = copy.names("end")
-    expect(sorted(ended) == sorted(copy.crates.names), f"after two interrupts these were proved: {' '.join(ended)}")
 
+    copy: Copy
 
-def check_failure(copy):
-    """An error shows the crate, the end of its log and where it is."""
-    name = copy.crates.names[0]
-    run = copy.start(FAILS=name)
-    out, err = run.communicate()
-    expect(run.returncode == 70 and out == "", f"a failed proof gave {run.returncode}, {out!r}")
-    log = copy.crates.log(name)
-    for expected in (f"crate {name}", "status 1", log, "the last line"):
-        expect(expected in err, f"the error lacks {expected!r}: {err}")
-    expect("first line" not in err and os.path.exists(log), "the error shows the whole log, or the log is gone")
-    expect(not copy.processes(), "a failed proof left processes")
+    def setUp(self) -> None:
+        room = tempfile.TemporaryDirectory()
+        self.addCleanup(room.cleanup)
+        self.copy = Copy(room.name, self.id().rpartition(".")[2])
 
+    def interrupt(self, number: int, stuck: str) -> None:
+        """Runs until all is proved but the crate stuck, whose proof does not end, and those above it; sends the
+        signal."""
+        copy = self.copy
+        rest = {it for it in copy.crates.names if it == stuck or stuck in copy.crates.below[it]}
+        run = copy.start(KEPT=stuck)
+        is_left = wait_until(lambda: copy.is_kept(stuck) and copy.marked() == {*copy.crates.names} - rest, LIMIT)
+        self.expect(f"all is proved but {stuck} and what depends on it", is_left)
+        run.send_signal(number)
+        _, err = run.communicate()
+        self.expect(f"signal {number}", (run.returncode, "interrupted" in err), (-number, True))
+        self.expect(f"processes after signal {number}", copy.processes(), [])
 
-def main():
-    with tempfile.TemporaryDirectory() as top:
-        copy = Copy(top, "order")
-        check_schedule(copy.crates)
-        check_order(copy)
-        check_interrupts(Copy(top, "interrupts"))
-        check_failure(Copy(top, "failure"))
-    if not failures:
-        print("tests/first_command: 7 runs")
-    return 1 if failures else 0
+    def two_runs(self) -> None:
+        """A run that begins before another one has ended waits for it."""
+        copy = self.copy
+        first = copy.start(KEPT="openlink")
+        self.expect("the first run reaches openlink", wait_until(lambda: copy.is_kept("openlink"), LIMIT))
+        second = copy.start()
+        said = second.stderr.readline()
+        copy.let_go()
+        errors = [run.communicate()[1] for run in (first, second)]
+        self.expect(f"two runs, which say {errors}", [first.returncode, second.returncode], [0, 0])
+        told = ("waiting" in errors[0], "waiting for another run" in said)
+        self.expect(f"which of them waits, of {errors[0]!r} and {said!r}", told, (False, True))
 
+    def test_interrupts(self) -> None:
+        first = self.copy.crates.names[10]
+        self.interrupt(signal.SIGINT, first)
+        # A crate that depends on the first one is still left.
+        self.interrupt(signal.SIGTERM, next(it for it in self.copy.crates.names if first in self.copy.crates.below[it]))
+        self.two_runs()
+        self.expect("what was proved", sorted(self.copy.names("end")), sorted(self.copy.crates.names))
 
-if __name__ == "__main__":
-    sys.exit(main())
+    def test_failure(self) -> None:
+        """An error shows the crate, the end of its log and where it is."""
+        name = self.copy.crates.names[0]
+        run = self.copy.start(FAILS=name)
+        out, err = run.communicate()
+        self.expect("a failed proof", (run.returncode, out), (70, ""))
+        log = self.copy.crates.log(name)
+        for expected in (f"crate {name}", "status 1", log, "the last line"):
+            self.expect(f"{expected!r} in {err}", expected in err)
+        self.expect("the error shows the whole log", "first line" in err, False)
+        self.expect("the log", os.path.exists(log))
+        self.expect("processes after a failed proof", self.copy.processes(), [])
