@@ -140,7 +140,7 @@ RUNS = [
     (["error: NoMemory", LAST], PASSED, 1),
     (["a", "status 1", LAST], PASSED, 1),
     (GOOD, LAST, 1),
-    (["a"] * MOST, PASSED, 1),
+    (["a"] * (MOST - 1), PASSED, 1),
 ]
 
 

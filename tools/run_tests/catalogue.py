@@ -42,7 +42,7 @@ def modules() -> list[Test]:
             with open(path, encoding="utf-8") as file:
                 tree = ast.parse(file.read(), path)
             methods = [f"{it.name}.{each.name}" for it in tree.body if isinstance(it, ast.ClassDef)
-                       for each in it.body if isinstance(each, ast.FunctionDef) and each.name.startswith("test")]
+                       for each in it.body if isinstance(each, ast.FunctionDef) and each.name.startswith("test_")]
             name = path[len("tests/") : -len(".py")].replace("/", ".")
             found.append(Test(name, "module", [sys.executable, "-B", MODULE], methods=methods))
     return found

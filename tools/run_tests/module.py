@@ -85,7 +85,7 @@ def faults_of_definitions(module: ModuleType, loaded: set[str]) -> list[str]:
     places = [("", it) for it in tree.body] + [(f"{it.name}.", each) for it in tree.body if isinstance(it, ast.ClassDef)
                                                for each in it.body]
     names = [f"{place}{it.name}" for place, it in places
-             if isinstance(it, (ast.FunctionDef, ast.AsyncFunctionDef)) and it.name.startswith("test")]
+             if isinstance(it, (ast.FunctionDef, ast.AsyncFunctionDef)) and it.name.startswith("test_")]
     found = [f"{it} is no method of a class of tests, and is not run" for it in names if it not in loaded]
     found += [f"{it} is defined {count} times" for it, count in collections.Counter(names).items() if count > 1]
     for name, kind in vars(module).items():
