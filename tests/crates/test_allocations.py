@@ -1,8 +1,8 @@
-"""Each test of the crate memory_tests with its first allocation failing, then with its second, and so on up to its last.
-Each run must end in one of the ways that ENDS lists, and each of these ways must occur.
+"""Each test of the crate memory_tests with its first allocation failing, then with its second, and so on up to its
+last. Each run must end in one of the ways that ENDS lists, and each of these ways must occur.
 
-`rt try --fail-alloc N` would build the tests again for each number. So this lets it build them once, for a number that no
-run reaches, keeps that program, and writes another number into it for each run."""
+`rt try --fail-alloc N` would build the tests again for each number. So this lets it build them once, for a number that
+no run reaches, keeps that program, and writes another number into it for each run."""
 from __future__ import annotations
 
 import collections
@@ -104,8 +104,8 @@ class Failing:
 
 
 def faults(expected: set[str], end: Callable[[int], str]) -> list[str]:
-    """What is wrong with a test that ends like this if an allocation fails: each run that ends otherwise than it may, and
-    each end that is missing."""
+    """What is wrong with a test that ends like this if an allocation fails: each run that ends otherwise than it may,
+    and each end that is missing."""
     found: list[str] = []
     seen: collections.Counter[str] = collections.Counter()
     for number in range(1, MOST):

@@ -1,6 +1,6 @@
 """The Rattle that the build does not compile: the blocks of code in the heads of crates, and the programs of benches/.
-Proves nothing. tests/crates/blocks.rt.txt has the names that the blocks use; each block is a test there, and runs. Needs
-no program."""
+Proves nothing. tests/crates/blocks.rt.txt has the names that the blocks use; each block is a test there, and runs.
+Needs no program."""
 from __future__ import annotations
 
 import glob

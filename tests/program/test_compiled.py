@@ -1,6 +1,6 @@
-"""Rules give the same link, the same error and the same status whether they run with `link`, or are compiled and run with
-`run`: each rule file of examples/ with its queries, rules with each kind of guard, and each template of the examples of
-RFC 6570."""
+"""Rules give the same link, the same error and the same status whether they run with `link`, or are compiled and run
+with `run`: each rule file of examples/ with its queries, rules with each kind of guard, and each template of the
+examples of RFC 6570."""
 from __future__ import annotations
 
 import glob

@@ -1,6 +1,6 @@
-"""Each rule file NAME.rules of examples/ gives each line of NAME.query the same line of NAME.link, which is empty if there
-is no link. Except in examples/spoilt/, every link in a rule file begins with a scheme, a host and a slash as text, so that
-no request chooses the host, or with `none:`, which is not a web link."""
+"""Each rule file NAME.rules of examples/ gives each line of NAME.query the same line of NAME.link, which is empty if
+there is no link. Except in examples/spoilt/, every link in a rule file begins with a scheme, a host and a slash as
+text, so that no request chooses the host, or with `none:`, which is not a web link."""
 from __future__ import annotations
 
 import glob
@@ -56,7 +56,7 @@ class Examples(Case):
     def test_what_is_refused(self) -> None:
         self.expect("numbers that differ", cases(["x=1", "x=2"], ["a"]), [])
         self.expect("a link and none", cases(["x=1", "x=2"], ["a", ""]), [("x=1", 0, b"a\n"), ("x=2", 1, b"")])
-        for link in "{+title_url}", "https://{host}/", "https://e.org", "https://e.org{x}/", "ftp://e.org/", "HTTP://e.org/":
+        for link in "{+title_url}", "https://{host}/", "https://e.org", "https://e.org{x}/", "ftp://e/", "HTTP://e/":
             self.expect(link, open_hosts(f"rule\nlink {link}\n"), [f"link {link}"])
         for link in "https://e.org/{x}", "http://e.org/", "none:{x}":
             self.expect(link, open_hosts(f"rule\nlink {link}\n"), [])

@@ -1,7 +1,7 @@
-"""The table of instructions in docs/MACHINE.md and the built program: the listing of a code file that has each operation
-from 0 to 255, with the fields that the table names, has the table's words and fields in the table's order, and no word for
-an operation that is not in the table. Rows that say "version 2" are for files that begin with OLK2; in a file that begins
-with OLK1 these operations are unknown."""
+"""The table of instructions in docs/MACHINE.md and the built program: the listing of a code file that has each
+operation from 0 to 255, with the fields that the table names, has the table's words and fields in the table's order,
+and no word for an operation that is not in the table. Rows that say "version 2" are for files that begin with OLK2; in
+a file that begins with OLK1 these operations are unknown."""
 from __future__ import annotations
 
 import re
@@ -62,7 +62,7 @@ def faults(found: Rows, version: int, listing: str) -> list[str]:
     for operation in range(256):
         word, line = word_of(found, operation, version), lines.get(str(operation), "")
         if not re.fullmatch(listed(word, operation), line):
-            wrong.append(f"operation {operation} of OLK{version} is {line!r}, and docs/MACHINE.md has {word or 'none'!r}")
+            wrong.append(f"operation {operation} of OLK{version} is {line!r}, and docs/MACHINE.md has {word!r}")
     return wrong
 
 

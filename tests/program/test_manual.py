@@ -1,6 +1,6 @@
-"""The manual pages. Their examples print what the pages say. The commands and exit statuses of openlink(1) are the README's
-and those that the program's help prints; the help's arguments and limits are the README's; the first version in
-CHANGELOG.md is the program's; and the options in the pages of openlink-update, openlink-fetch, openlink-holdings and
+"""The manual pages. Their examples print what the pages say. The commands and exit statuses of openlink(1) are the
+README's and those that the program's help prints; the help's arguments and limits are the README's; the first version
+in CHANGELOG.md is the program's; and the options in the pages of openlink-update, openlink-fetch, openlink-holdings and
 openlink-library are those of the scripts. If mandoc is installed, it finds no error in a page."""
 from __future__ import annotations
 
@@ -13,7 +13,7 @@ from fixtures.cases import Case
 from program import test_readme
 
 PAGE = "docs/man/openlink.1"
-# The scripts of update/ that have a help, with the sections of their pages, and the commands that have one of their own.
+# The scripts of update/ that have a help, with the sections of their pages, and the commands that have their own help.
 SCRIPTS = {"update": (8, ()), "fetch": (8, ()), "holdings": (1, ()),
            "library": (8, ("add", "remove", "list", "mail"))}
 # There are at least this many examples, commands, exit statuses and limits in the help.
@@ -85,8 +85,8 @@ def options(text: str) -> list[str]:
 
 
 def options_of_page(script: str, section: int) -> list[str]:
-    return sorted(f"--{it}" for it in re.findall(r"^\.It Fl -([a-z-]*).*", read(f"docs/man/openlink-{script}.{section}"),
-                                                 re.M))
+    page = read(f"docs/man/openlink-{script}.{section}")
+    return sorted(f"--{it}" for it in re.findall(r"^\.It Fl -([a-z-]*).*", page, re.M))
 
 
 @needs.program()

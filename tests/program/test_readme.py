@@ -1,7 +1,7 @@
-"""The commands of README.md and of the pages of docs/ print what the pages say: a line '$ COMMAND' in a block of code, and
-the lines below it. If the line before a block of code ends with a link to `examples/NAME` in parentheses and a colon, the
-block is that file without its comments. The commands run in a temporary folder that has a copy of examples/, update/ and
-packaging/."""
+"""The commands of README.md and of the pages of docs/ print what the pages say: a line '$ COMMAND' in a block of code,
+and the lines below it. If the line before a block of code ends with a link to `examples/NAME` in parentheses and a
+colon, the block is that file without its comments. The commands run in a temporary folder that has a copy of examples/,
+update/ and packaging/."""
 from __future__ import annotations
 
 import dataclasses
@@ -83,7 +83,8 @@ class Room:
 
     def faults_of_commands(self, page: Page) -> list[str]:
         got = [(command, self.printed(command), wanted.removesuffix("\n")) for command, wanted in page.commands]
-        return [f"{command} prints {printed!r}, not {wanted!r}" for command, printed, wanted in got if printed != wanted]
+        return [f"{command} prints {printed!r}, not {wanted!r}" for command, printed, wanted in got
+                if printed != wanted]
 
 
 def faults_of_files(page: Page) -> list[str]:

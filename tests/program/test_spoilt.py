@@ -1,7 +1,7 @@
-"""What the program prints of examples/spoilt/, byte for byte: `inspect` of each table NAME.tsv is NAME.inspect, `lint` of
-the rules NAME.rules and the table NAME.tsv, or target.tsv, is NAME.lint, and `explain` for NAME.query is NAME.explain. Each
-has a warning or no web link, so the status is 1, except for inspecting target.tsv and hosts.tsv. The tables and rules of
-examples/library/ and examples/menu/ have no warning."""
+"""What the program prints of examples/spoilt/, byte for byte: `inspect` of each table NAME.tsv is NAME.inspect, `lint`
+of the rules NAME.rules and the table NAME.tsv, or target.tsv, is NAME.lint, and `explain` for NAME.query is
+NAME.explain. Each has a warning or no web link, so the status is 1, except for inspecting target.tsv and hosts.tsv. The
+tables and rules of examples/library/ and examples/menu/ have no warning."""
 from __future__ import annotations
 
 import glob

@@ -1,5 +1,5 @@
-"""Each form of error and each exit status of the README's table, except for "out of memory": status, standard output and
-standard error, byte for byte."""
+"""Each form of error and each exit status of the README's table, except for "out of memory": status, standard output
+and standard error, byte for byte."""
 from __future__ import annotations
 
 import re
@@ -64,7 +64,8 @@ RUNS: list[tuple[list[str | bytes], int, str]] = [
     (["inspect", "empty.txt"], 3, "openlink: table: NoHeader\n"),
     (["lint", "some.rules", "empty.txt"], 3, "openlink: table: NoHeader\n"),
     (["lint", "issn.rules", "table.txt"], 0, "rules 1\n"),
-    (["lint", "some.rules", "table.txt"], 1, "rules 1\nrule 1, guard 1: unknown name x\nrule 1, link: unknown name x\n"),
+    (["lint", "some.rules", "table.txt"], 1,
+     "rules 1\nrule 1, guard 1: unknown name x\nrule 1, link: unknown name x\n"),
     (["explain", "issn.rules", "table.txt", "rft.issn=1234-5678"], 1, "no row\n"),
     (["resolve", "registry.tsv", "rft.issn=1234-5678"], 1, ""),
     (["resolve", "registry.tsv", "url_ver=1"], 3, "openlink: query: WrongVersion\n"),
@@ -99,8 +100,8 @@ class Statuses(ProgramCase):
             self.expect(f"openlink {str(arguments)[:200]}", self.program.run(arguments), wanted(status, text))
 
     def test_a_port_that_is_taken(self) -> None:
-        pipe = subprocess.PIPE
-        with subprocess.Popen([PATH, "serve", "registry.tsv", "0", "1"], cwd=self.program.folder, stdout=pipe) as service:
+        words, pipe = [PATH, "serve", "registry.tsv", "0", "1"], subprocess.PIPE
+        with subprocess.Popen(words, cwd=self.program.folder, stdout=pipe) as service:
             try:
                 assert service.stdout
                 address = service.stdout.readline().decode().split()[1]

@@ -1,6 +1,6 @@
-"""The columns of holdings tables: in front_door/query.js, which drops them from requests, and in the update, which finds
-headers by them, they are those of the crate standard_names, in their order; the last of these, which the update adds,
-are those in its module for them; and so is each list of them in a script or an example."""
+"""The columns of holdings tables: in front_door/query.js, which drops them from requests, and in the update, which
+finds headers by them, they are those of the crate standard_names, in their order; the last of these, which the update
+adds, are those in its module for them; and so is each list of them in a script or an example."""
 from __future__ import annotations
 
 import os

@@ -1,5 +1,5 @@
-"""The table that update/counts makes of a log, in one file, in two, and compressed, byte for byte; what it says of lines of
-another form; and its exit statuses. Some lines of the log have an older form, and some are hostile."""
+"""The table that update/counts makes of a log, in one file, in two, and compressed, byte for byte; what it says of
+lines of another form; and its exit statuses. Some lines of the log have an older form, and some are hostile."""
 from __future__ import annotations
 
 import gzip

@@ -1,8 +1,8 @@
 """Each must-fail edit still applies to its crate, and has a name of its own there. Nothing is proved.
 
-The gate tries those of crates/CRATE/must-fail/, whose number is limited. edits/try tries the others; the file edits/tried
-has the sums of what it tried. A crate fails here if its sources, its edits, or the statements of lower crates that these
-depend on have changed since then."""
+The gate tries those of crates/CRATE/must-fail/, whose number is limited. edits/try tries the others; the file
+edits/tried has the sums of what it tried. A crate fails here if its sources, its edits, or the statements of lower
+crates that these depend on have changed since then."""
 from __future__ import annotations
 
 import os

@@ -1,6 +1,6 @@
-"""The script openlink in copies of this repository that have a small stand-in for the toolchain, which sleeps and proves
-nothing: which crates it proves, in which order and with how many jobs, and what it does after an interrupt, after an
-error, and when it runs twice at once."""
+"""The script openlink in copies of this repository that have a small stand-in for the toolchain, which sleeps and
+proves nothing: which crates it proves, in which order and with how many jobs, and what it does after an interrupt,
+after an error, and when it runs twice at once."""
 from __future__ import annotations
 
 import os

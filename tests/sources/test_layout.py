@@ -1,5 +1,5 @@
-"""Each source, specification and proof of the crates has the layout of rt fmt. rt ci compares it too, but crate by crate,
-and after the proofs of those below."""
+"""Each source, specification and proof of the crates has the layout of rt fmt. rt ci compares it too, but crate by
+crate, and after the proofs of those below."""
 from __future__ import annotations
 
 import os

@@ -1,5 +1,5 @@
-"""The lengths of the files of crates. Sources have at most 120 columns, specifications and proofs 160, and files of proofs
-250 lines. Each source begins with //! lines, and has no others."""
+"""The lengths of the files of crates. Sources have at most 120 columns, specifications and proofs 160, and files of
+proofs 250 lines. Each source begins with //! lines, and has no others."""
 from __future__ import annotations
 
 import os

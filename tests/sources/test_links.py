@@ -1,6 +1,6 @@
-"""The links of the pages at the top, in docs/ and in benches/: each file exists, and has the heading that the link names.
-A path in code font that begins with a folder of the repository exists too, and is the text of a link. So is the file name
-of a page of docs/, and, in pages for engineers, the name of a crate."""
+"""The links of the pages at the top, in docs/ and in benches/: each file exists, and has the heading that the link
+names. A path in code font that begins with a folder of the repository exists too, and is the text of a link. So is the
+file name of a page of docs/, and, in pages for engineers, the name of a crate."""
 from __future__ import annotations
 
 import glob

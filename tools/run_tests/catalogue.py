@@ -75,7 +75,8 @@ def everything() -> list[Test]:
 def _methods_of(test: Test, name: str) -> list[str] | None:
     """The methods of a module that the name chooses: none for all of them, None if it chooses nothing there."""
     *folders, module = test.name.split(".")
-    if name in (test.name, module, module.removeprefix("test_")) or f"{test.name}.".startswith(f"{name}."):
+    short = module.removeprefix("test_")
+    if name in (module, short, ".".join([*folders, short])) or f"{test.name}.".startswith(f"{name}."):
         return []
     for prefix in (test.name, ".".join(folders)):
         rest = name[len(prefix) + 1 :] if name.startswith(f"{prefix}.") else ""

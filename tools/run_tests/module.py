@@ -88,12 +88,15 @@ def faults_of_definitions(module: ModuleType, loaded: set[str]) -> list[str]:
              if isinstance(it, (ast.FunctionDef, ast.AsyncFunctionDef)) and it.name.startswith("test_")]
     found = [f"{it} is no method of a class of tests, and is not run" for it in names if it not in loaded]
     found += [f"{it} is defined {count} times" for it, count in collections.Counter(names).items() if count > 1]
-    for name, kind in vars(module).items():
-        if isinstance(kind, type) and issubclass(kind, unittest.TestCase) and kind.__module__ == module.__name__:
-            if not any(it.startswith(f"{name}.") for it in loaded):
-                found.append(f"the class {name} has no test")
-            if not issubclass(kind, cases.Case):
-                found.append(f"the class {name} is not derived from fixtures.cases.Case")
+    kinds = {name: kind for name, kind in vars(module).items()
+             if isinstance(kind, type) and issubclass(kind, unittest.TestCase) and kind.__module__ == module.__name__}
+    with_tests = {name for name in kinds if any(it.startswith(f"{name}.") for it in loaded)}
+    for name, kind in kinds.items():
+        # The base of a class with tests needs none of its own.
+        if not any(issubclass(kinds[it], kind) for it in with_tests):
+            found.append(f"the class {name} has no test")
+        if not issubclass(kind, cases.Case):
+            found.append(f"the class {name} is not derived from fixtures.cases.Case")
     return found + ([] if loaded else ["it has no test"])
 
 
