@@ -23,7 +23,7 @@ QUERY = "&".join([
 
 LISTS = ["--list", "count", "--list", "dom", "--list", "list", "--list", "year"]
 
-# A template and its expansion. tests/compiled reads the templates from these lines.
+# A template and its expansion. tests/program/test_compiled.py runs the templates too.
 EXAMPLES = [
     # Section 1.2: the four levels.
     ("{var}", "value"),
