@@ -28,7 +28,7 @@ class Words(Case):
 # Modules with something that is wrong, and a pattern of what is said of them.
 BAD = {
     "differs": ("class A(Case):\n    def test_a(self):\n        self.expect('sum', 1, 2)\n", "got '1', wanted '2'"),
-    "breaks": ("class A(Case):\n    def test_a(self):\n        self.expect('a', 1, 1)\n        1 / 0\n", "ZeroDivision"),
+    "breaks": ("class A(Case):\n    def test_a(self):\n        self.expect('a', 1, 1)\n        1 / 0\n", "by zero"),
     "nothing": ("class A(Case):\n    def test_a(self):\n        pass\n", "it compared nothing"),
     "empty": ("X = 1\n", "it has no test"),
     "no_method": (GOOD + "def test_c(self):\n    pass\n", "test_c is no method of a class of tests"),
