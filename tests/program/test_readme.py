@@ -11,6 +11,7 @@ import re
 import shutil
 import subprocess
 import tempfile
+from typing import Any
 
 from fixtures import TOP, needs
 from fixtures.cases import Case
@@ -45,7 +46,8 @@ def pieces(block: list[str]) -> list[tuple[str, str]]:
 
 
 def read(text: str) -> Page:
-    page, file, block = Page(), "", None
+    page, file = Page(), ""
+    block: list[str] | None = None
     for line in text.splitlines():
         if line.startswith("```"):
             if block is not None:
@@ -76,7 +78,7 @@ class Room:
 
     def printed(self, command: str) -> str:
         """What a command prints, with its errors, without the empty lines at its end."""
-        how = {"cwd": self.folder, "stdin": subprocess.DEVNULL, "stdout": subprocess.PIPE, "stderr": subprocess.STDOUT}
+        how: dict[str, Any] = {"cwd": self.folder, "stdin": subprocess.DEVNULL, "stdout": subprocess.PIPE, "stderr": subprocess.STDOUT}
         words = ["bash", "-c", command.replace("./openlink", '"$program"')]
         ran = subprocess.run(words, env={**os.environ, "program": needs.PROGRAM}, timeout=patience(120), **how)
         return ran.stdout.decode(errors="replace").rstrip("\n")

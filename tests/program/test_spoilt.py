@@ -7,6 +7,7 @@ from __future__ import annotations
 import glob
 import os
 import subprocess
+from typing import Any
 
 from fixtures import needs
 from fixtures.cases import Case
@@ -27,7 +28,7 @@ def read(path: str) -> str:
 
 
 def given(folder: str, *words: str) -> Ended:
-    how = {"capture_output": True, "encoding": "utf-8", "errors": "surrogateescape"}
+    how: dict[str, Any] = {"capture_output": True, "encoding": "utf-8", "errors": "surrogateescape"}
     ran = subprocess.run([needs.PROGRAM, *words], cwd=folder, **how)
     return ran.returncode, ran.stdout, ran.stderr
 

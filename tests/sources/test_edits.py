@@ -105,8 +105,9 @@ class SpoiltEdits(Case):
         self.expect("a crate without edits", len([*of_sums(["a"], {"a": "1"}, tried)]), 1)
 
     def test_numbers(self) -> None:
-        one = [("a", "a/1.edit")]
+        one: Edits = [("a", "a/1.edit")]
+        none: Edits = []
         self.expect("few", [*of_numbers(one, one)], [])
         many, spread = one * (MOST_EDITS + 1), [(f"{it}", "") for it in range(MOST_CRATES + 1)]
-        for gate, others in (many, one), (spread, one), ([], one), (one, []):
+        for gate, others in (many, one), (spread, one), (none, one), (one, none):
             self.expect(f"{len(gate)} and {len(others)}", len([*of_numbers(gate, others)]), 1)

@@ -164,7 +164,8 @@ class Order(Case):
 
     def follow(self, copy: Copy) -> None:
         """Goes through the notes of a whole run: what was started when, beside what, with how many jobs."""
-        crates, running, ended = copy.crates, {}, set()
+        crates, running = copy.crates, {}
+        ended: set[str] = set()
         for kind, name, jobs in copy.noted():
             if kind == "start":
                 self.expect(f"what {name} depends on is proved", crates.below[name] <= ended)

@@ -53,7 +53,8 @@ EXAMPLES = [
 
 class Lengths(Case):
     def test_files_of_crates(self) -> None:
-        counts, found = dict.fromkeys(PARTS, 0), []
+        counts = dict.fromkeys(PARTS, 0)
+        found: list[str] = []
         for path in files():
             with open(path, encoding="utf-8") as file:
                 found += faults(path, file.read().splitlines())

@@ -9,6 +9,7 @@ import signal
 import subprocess
 import sys
 import tempfile
+from typing import Any
 
 from fixtures.cases import Case
 from fixtures.patience import wait_until
@@ -91,7 +92,7 @@ class RunnerCase(Case):
 
     def start(self, *arguments: str) -> subprocess.Popen[str]:
         path = f"{self.top}/bin:{os.environ['PATH']}"
-        how = {"stdout": subprocess.PIPE, "stderr": subprocess.STDOUT, "encoding": "utf-8", "cwd": self.top}
+        how: dict[str, Any] = {"stdout": subprocess.PIPE, "stderr": subprocess.STDOUT, "encoding": "utf-8", "cwd": self.top}
         words = [sys.executable, "-B", "test", *arguments]
         return subprocess.Popen(words, env={**os.environ, "PATH": path, "OPENLINK_JOBS": "4"}, **how)
 

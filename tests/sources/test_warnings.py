@@ -38,7 +38,8 @@ def stored(command: str) -> dict[str, str]:
 
 
 def faults_of_patterns(lines: list[str]) -> Iterator[str]:
-    for pattern in (*PLAIN, NO_COLUMN, PLACE):
+    patterns: list[re.Pattern[str]] = [*PLAIN, NO_COLUMN, PLACE]
+    for pattern in patterns:
         if not any(pattern.match(line) for line in lines):
             yield f"no stored line matches the pattern {pattern.pattern!r}"
 

@@ -118,7 +118,8 @@ def stop(processes: list[Any]) -> None:
 
 def run_all(tests: list[Test], jobs: int, totals: Totals) -> None:
     """Runs these tests, at most so many at once, in this order."""
-    waiting, running = [*tests], []
+    waiting = [*tests]
+    running: list[Run] = []
     with tempfile.TemporaryDirectory() as folder:
         try:
             while waiting or running:

@@ -1,5 +1,5 @@
 """The Rattle that the build does not compile: the blocks of code in the heads of crates, and the programs of benches/.
-Proves nothing. tests/crates/blocks.rt.txt has the names that the blocks use; each block is a test there, and runs.
+Proves nothing. tests/unproved/blocks.rt.txt has the names that the blocks use; each block is a test there, and runs.
 Needs no program."""
 from __future__ import annotations
 
@@ -9,11 +9,12 @@ import re
 import shutil
 import subprocess
 import tempfile
+from typing import Any
 
 from fixtures import needs
 from fixtures.cases import Case
 
-BLOCKS = "tests/crates/blocks.rt.txt"
+BLOCKS = "tests/unproved/blocks.rt.txt"
 PLACE = re.compile(r" *// The block of (\w+)\.")
 USES = re.compile(r"^ *use (\w+)", re.M)
 BUILT_IN = {"crate", "std"}
@@ -62,9 +63,10 @@ def filled(text: str, blocks: Blocks) -> tuple[Crate, list[str]]:
         place = PLACE.fullmatch(line)
         if not place:
             crate.add(BLOCKS, number, [line])
-        elif place[1] not in waiting:
+            continue
+        if place[1] not in waiting:
             found.append(f"{BLOCKS}:{number}: the crate {place[1]} has no other block in its head")
-        for first, lines in waiting.pop(place[1], []) if place else []:
+        for first, lines in waiting.pop(place[1], []):
             crate.add(f"crates/{place[1]}/src/lib.rt", first, lines)
     return crate, found + [f"{BLOCKS} has no place for the blocks of {name}" for name in waiting]
 
@@ -108,7 +110,7 @@ class Snippets(Case):
             make(folder, crate, programs)
             # The interpreter gets one step, so each block runs once, compiled.
             words = ["rt", "try", "--test", "--seconds", "600", "--steps", "1"]
-            how = {"cwd": f"{folder}/crates/snippets", "stdin": subprocess.DEVNULL, "stdout": subprocess.PIPE}
+            how: dict[str, Any] = {"cwd": f"{folder}/crates/snippets", "stdin": subprocess.DEVNULL, "stdout": subprocess.PIPE}
             ran = subprocess.run(words, stderr=subprocess.STDOUT, encoding="utf-8", errors="replace", **how)
         passed = passed_in(ran.stdout)
         if ran.returncode or passed < count:

@@ -6,6 +6,7 @@ no run reaches, keeps that program, and writes another number into it for each r
 from __future__ import annotations
 
 import collections
+import functools
 import glob
 import os
 import re
@@ -14,6 +15,7 @@ import subprocess
 import tempfile
 import time
 from collections.abc import Callable
+from typing import Any
 
 from fixtures import needs
 from fixtures.cases import Case
@@ -30,7 +32,7 @@ LAST = "last: out of memory"
 OTHERS = re.compile(r"error: .*\b(AllocError|NoMemory)\b")
 # How a test ends if an allocation of the tested call fails. It passes if the call needs that memory for speed alone. A
 # file that is cut short is rejected before any allocation.
-ENDS = {
+ENDS: dict[str, set[str]] = {
     "codes::a_file_is_loaded": {"load: out of memory"},
     "codes::a_cut_file_is_rejected": set(),
     "codes::a_run_starts": {"prepare: out of memory"},
@@ -87,7 +89,8 @@ class Failing:
             raise AssertionError("the program does not have the number of the allocation that fails")
 
     def tests(self) -> list[str]:
-        listed = subprocess.run([self.path, "--list"], env={}, capture_output=True, check=True).stdout.decode()
+        empty: dict[str, str] = {}
+        listed = subprocess.run([self.path, "--list"], env=empty, capture_output=True, check=True).stdout.decode()
         return re.findall(r"^(\S+): test$", listed, re.M)
 
     def end(self, test: str, number: int) -> str:
@@ -96,7 +99,7 @@ class Failing:
             for place in self.places:
                 file.seek(place)
                 file.write(struct.pack("<I", number))
-        how = {"env": {}, "stdin": subprocess.DEVNULL, "capture_output": True, "timeout": patience(60)}
+        how: dict[str, Any] = {"env": {}, "stdin": subprocess.DEVNULL, "capture_output": True, "timeout": patience(60)}
         done = subprocess.run([self.path, test], **how)
         if done.returncode == 0:
             return PASSED
@@ -130,7 +133,7 @@ class Allocations(Case):
             program = Failing(room, build(room))
             self.expect("the tests", sorted(program.tests()), sorted(ENDS))
             for test, ends in sorted(ENDS.items()):
-                self.expect(test, faults(ends, lambda number, test=test: program.end(test, number)), [])
+                self.expect(test, faults(ends, functools.partial(program.end, test)), [])
 
 
 # How a test with an end "a" ends for each number of an allocation, and the number of faults.
