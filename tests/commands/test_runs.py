@@ -42,7 +42,7 @@ RULE = "EMIT l9, CONST r4 l2, TEXT r0 n5, UNDEF r0 8, EMPTY r4 6, EMIT l0, CONST
 COUNTS = "LIST r0 n1, COUNT r1 r0, COUNT r63 r0, LESS r1 r63 5, HALT, FAIL"
 
 
-def comes_to(program, version, instructions, query, link):
+def expect_link(program, version, instructions, query, link):
     program.write("some.olk", code(NAMES, LITERALS, instructions, version))
     if link is NO_LINK:
         program.finds_no_link(["run", "some.olk", query])
@@ -137,20 +137,20 @@ class Runs(ProgramCase):
     def test_endings(self):
         for versions, instructions, query, link in ENDINGS:
             for version in versions:
-                comes_to(self.program, version, instructions, query, link)
+                expect_link(self.program, version, instructions, query, link)
 
     def test_effects(self):
         for instructions, link in EFFECTS:
             for version in BOTH:
-                comes_to(self.program, version, instructions, VARIABLES, link)
+                expect_link(self.program, version, instructions, VARIABLES, link)
         for instructions, link in SECOND_EFFECTS:
-            comes_to(self.program, 2, instructions, VARIABLES, link)
+            expect_link(self.program, 2, instructions, VARIABLES, link)
 
     def test_branches(self):
         for versions, instructions, link, bare_link in BRANCHES:
             for version in versions:
-                comes_to(self.program, version, instructions, VARIABLES, link)
-                comes_to(self.program, version, instructions, "", bare_link)
+                expect_link(self.program, version, instructions, VARIABLES, link)
+                expect_link(self.program, version, instructions, "", bare_link)
 
     def test_list_file(self):
         self.program.write("list.olk", LIST_FILE)
@@ -165,6 +165,6 @@ class Runs(ProgramCase):
 
     def test_long_links(self):
         member = "a" * 1_000
-        comes_to(self.program, 1, LIST_CODE, "&".join([f"list={member}"] * 20), ",".join([member] * 20))
-        comes_to(self.program, 1, LIST_CODE, "&".join(["list=m"] * 4_096), ",".join(["m"] * 4_096))
-        comes_to(self.program, 1, OPTIONAL, "x=" + "+" * 40_000, "%20" * 40_000)
+        expect_link(self.program, 1, LIST_CODE, "&".join([f"list={member}"] * 20), ",".join([member] * 20))
+        expect_link(self.program, 1, LIST_CODE, "&".join(["list=m"] * 4_096), ",".join(["m"] * 4_096))
+        expect_link(self.program, 1, OPTIONAL, "x=" + "+" * 40_000, "%20" * 40_000)

@@ -78,9 +78,10 @@ class Room:
 
     def printed(self, command: str) -> str:
         """What a command prints, with its errors, without the empty lines at its end."""
-        how: dict[str, Any] = {"cwd": self.folder, "stdin": subprocess.DEVNULL, "stdout": subprocess.PIPE, "stderr": subprocess.STDOUT}
         words = ["bash", "-c", command.replace("./openlink", '"$program"')]
-        ran = subprocess.run(words, env={**os.environ, "program": needs.PROGRAM}, timeout=patience(120), **how)
+        how: dict[str, Any] = {"cwd": self.folder, "env": {**os.environ, "program": needs.PROGRAM},
+                               "stdin": subprocess.DEVNULL, "stdout": subprocess.PIPE, "stderr": subprocess.STDOUT}
+        ran = subprocess.run(words, timeout=patience(120), **how)
         return ran.stdout.decode(errors="replace").rstrip("\n")
 
     def faults_of_commands(self, page: Page) -> list[str]:

@@ -92,9 +92,9 @@ class RunnerCase(Case):
 
     def start(self, *arguments: str) -> subprocess.Popen[str]:
         path = f"{self.top}/bin:{os.environ['PATH']}"
-        how: dict[str, Any] = {"stdout": subprocess.PIPE, "stderr": subprocess.STDOUT, "encoding": "utf-8", "cwd": self.top}
-        words = [sys.executable, "-B", "test", *arguments]
-        return subprocess.Popen(words, env={**os.environ, "PATH": path, "OPENLINK_JOBS": "4"}, **how)
+        how: dict[str, Any] = {"cwd": self.top, "env": {**os.environ, "PATH": path, "OPENLINK_JOBS": "4"},
+                               "stdout": subprocess.PIPE, "stderr": subprocess.STDOUT, "encoding": "utf-8"}
+        return subprocess.Popen([sys.executable, "-B", "test", *arguments], **how)
 
     def given(self, *arguments: str) -> tuple[int, list[str]]:
         """The status, and the lines without seconds."""

@@ -110,8 +110,9 @@ class Snippets(Case):
             make(folder, crate, programs)
             # The interpreter gets one step, so each block runs once, compiled.
             words = ["rt", "try", "--test", "--seconds", "600", "--steps", "1"]
-            how: dict[str, Any] = {"cwd": f"{folder}/crates/snippets", "stdin": subprocess.DEVNULL, "stdout": subprocess.PIPE}
-            ran = subprocess.run(words, stderr=subprocess.STDOUT, encoding="utf-8", errors="replace", **how)
+            how: dict[str, Any] = {"stdout": subprocess.PIPE, "stderr": subprocess.STDOUT, "encoding": "utf-8"}
+            where = f"{folder}/crates/snippets"
+            ran = subprocess.run(words, cwd=where, stdin=subprocess.DEVNULL, errors="replace", **how)
         passed = passed_in(ran.stdout)
         if ran.returncode or passed < count:
             print(placed(ran.stdout, crate.places))

@@ -117,7 +117,7 @@ def stop(processes: list[Any]) -> None:
 
 
 def run_all(tests: list[Test], jobs: int, totals: Totals) -> None:
-    """Runs these tests, at most so many at once, in this order."""
+    """Runs these tests, at most this many at once, in this order."""
     waiting = [*tests]
     running: list[Run] = []
     with tempfile.TemporaryDirectory() as folder:
