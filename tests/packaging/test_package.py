@@ -96,7 +96,7 @@ class Package(Case):
         with open(needs.PROGRAM, "rb") as file:
             versions = {int(it) for it in re.findall(rb"GLIBC_2\.(\d+)", file.read())}
         self.expect("versions of the C library", len(versions) >= 2)
-        self.expect("Depends", self.field("Depends"), f"libc6 (>= 2.{max(versions)}), python3")
+        self.expect("Depends", self.field("Depends"), f"libc6 (>= 2.{max(versions)}), python3 (>= 3.10)")
         self.expect("Recommends", self.field("Recommends"), "nginx, libnginx-mod-http-js, curl")
         self.expect("Architecture", self.field("Architecture"), "amd64")
         self.expect("Maintainer", self.field("Maintainer"), "Jane Smith <jane@library.example.org>")

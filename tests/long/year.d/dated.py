@@ -1,5 +1,5 @@
 """Runs a script of update/ as at another time: dated.py YYYY-MM-DDTHH:MM:SS SCRIPT OPTION.."""
-import datetime, runpy, sys, time
+import datetime, os, runpy, sys, time
 
 MOMENT = datetime.datetime.fromisoformat(sys.argv[1]).replace(tzinfo=datetime.timezone.utc)
 START = time.monotonic()
@@ -23,4 +23,5 @@ class DateTime(datetime.datetime):
 
 datetime.date, datetime.datetime = Date, DateTime
 sys.argv = sys.argv[2:]
+sys.path[0] = os.path.dirname(os.path.realpath(sys.argv[0]))  # as Python does for a script
 runpy.run_path(sys.argv[0], run_name="__main__")
