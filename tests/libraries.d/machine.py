@@ -64,7 +64,7 @@ class Machine:
         return os.path.join(self.folder, *names)
 
     def install(self):
-        """What OPERATING.md installs, with the paths and ports of this folder."""
+        """What INSTALLING.md installs, with the paths and ports of this folder."""
         self.share = self.path("usr/local/share/openlink")
         installation.install(self.share)
         pairs = [(it, self.folder + it) for it in ("/usr/local/share/openlink/", "/etc/openlink/", "/etc/nginx/",
