@@ -108,7 +108,9 @@ function page(q) {
     const first = pagesUnder(q, 'rft.spage');
     const found = first[0] || pagesUnder(q, 'rft.pages')[0] || articleIn(q.first('rft.artnum'));
     if (found !== '') q.lead('rft.spage', found);
-    if (q.has('rft.pages') && is(FOREIGN, q.first('rft.pages'))) q.lead('rft.pages', numbers.ascii(q.first('rft.pages')));
+    if (q.has('rft.pages') && is(FOREIGN, q.first('rft.pages'))) {
+        q.lead('rft.pages', numbers.ascii(q.first('rft.pages')));
+    }
     if (!q.has('rft.epage')) {
         if (first[1] !== '') q.add('rft.epage', first[1]);
         return;

@@ -1,6 +1,7 @@
 """Tests of the look-up of a DOI or PubMed number that comes alone. A server on loopback plays Crossref and NCBI over
 TLS in their documented forms: as they are, slow, byte by byte, huge, broken, hostile and down."""
-import collections, concurrent.futures, contextlib, http.client, http.server, json, os, re, ssl, stat, subprocess, threading
+import collections, concurrent.futures, contextlib, http.client, http.server, json, os, re, ssl, stat, subprocess
+import threading
 import time, urllib.parse
 from patience import best_of_three, patience, wait_until
 from running import free_ports

@@ -363,8 +363,8 @@ def test_address_families(site, expect):
 
 
 def test(site, expect):
-    for part in (test_sources, test_health, test_hosts, test_tls, test_ciphers, test_balancer, test_password, test_exports,
-                 test_wanted, test_address_families):
+    for part in (test_sources, test_health, test_hosts, test_tls, test_ciphers, test_balancer, test_password,
+                 test_exports, test_wanted, test_address_families):
         part(site, expect)
         site.write_configuration()
         site.reload()

@@ -1,7 +1,7 @@
 """Plants a name, a title, a source and an address of a reader in requests for each page, in each error and in each
 failure of a connection, and then searches all that nginx and the scripts have written. Nothing of it may be there but
 what the form of the access log means: the path of a request, and the host of its source."""
-import base64, concurrent.futures, http.client, os, re, socket, struct, subprocess
+import base64, concurrent.futures, contextlib, http.client, os, re, socket, struct, subprocess
 import lookups, operating
 from patience import patience, wait_until
 from running import Site
@@ -125,12 +125,27 @@ def test_resets(site, reader, expect):
     site.reload()
 
 
+def descriptors_of(site):
+    """The most descriptors that a worker has."""
+    counts = [0]
+    for worker in site.workers():
+        try:
+            counts.append(len(os.listdir(f"/proc/{worker}/fd")))
+        except FileNotFoundError:
+            pass  # it has ended since
+    return max(counts)
+
+
 def test_descriptors(site, reader, expect):
-    """A worker whose table of descriptors is full."""
+    """A worker whose table of descriptors is full of connections: one of them asks for a page."""
     edit_file(site.path("nginx.conf"), "nofile 8192;", f"nofile {DESCRIPTORS};")
     site.reload()
-    statuses = reader.at_once([f"/find?{QUERY}&x={i}" for i in range(2 * DESCRIPTORS)])
-    expect("descriptors ran out", bool({500, 503} & set(statuses)))
+    with contextlib.ExitStack() as held:
+        peers = [held.enter_context(reader.connect()) for _ in range(DESCRIPTORS)]
+        # Those that nginx cannot accept wait.
+        expect("the table is full", wait_until(lambda: descriptors_of(site) >= DESCRIPTORS))
+        peers[0].sendall(f"GET /find?{QUERY} HTTP/1.0\r\n\r\n".encode())
+        expect("descriptors ran out", peers[0].recv(12)[9:] in (b"500", b"503"))
     edit_file(site.path("nginx.conf"), f"nofile {DESCRIPTORS};", "nofile 8192;")
     site.reload()
 
@@ -207,8 +222,8 @@ def test(expect):
             part(site, reader, expect)
             site.write_site(plain)
         statuses = {LINE.fullmatch(line)[1] for line in lines_of(site) if LINE.fullmatch(line)}
-        expect("statuses that are not in the log", {"200", "302", "400", "401", "403", "404", "405", "413", "414", "429",
-                                                    "503"} - statuses, set())
+        expect("statuses that are not in the log", {"200", "302", "400", "401", "403", "404", "405", "413", "414",
+                                                    "429", "503"} - statuses, set())
         expect("planted texts in the counts", [it for it in (NAME, TITLE, PAGE, PATH, ADDRESS) if it in counted(
             site, site.path("log/openlink.log")) + counted(site, "--wanted", site.path("log/openlink-wanted.log"))], [])
         kept = [os.path.basename(folder) for folder, _, names in os.walk(site.path("lookups")) if names]

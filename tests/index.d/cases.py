@@ -1,6 +1,8 @@
 """Tables and the lines that the index has of them, by hand."""
+import os, subprocess, sys, tempfile
 from openlink_update.index import word_sets
 from counting import expect
+from made_titles import isbn
 from reader import COLUMNS, Index, check_form, table
 
 SERIAL, BOOK = "serial", "monograph"
@@ -238,5 +240,33 @@ def test_random_words():
            [2] * 6)
 
 
-TESTS = [test_random_words, test_titles, test_numbers, test_rows, test_cells, test_related, test_short_keys, test_umlauts, test_list,
-         test_limits, test_large_files]
+MEASURED = """
+import re, sys
+sys.path.insert(0, "update")
+from openlink_update.index import title_index as index
+index.begin(sys.argv[2], True)
+index.make(sys.argv[2], True, index.tables_of(sys.argv[1]))
+with open("/proc/self/status") as status:
+    print(int(re.search(r"VmHWM:\\s*(\\d+) kB", status.read())[1]) >> 10)
+"""
+
+
+def test_memory_of_random_words():
+    """Titles of 82 words that no other title has take little more memory than their table, as honest ones do."""
+    titles = (" ".join(f"{(number * 82 + word) * 7919 % 2**32:x}q" for word in range(82)) for number in range(8_000))
+    rows = [f"{title}\t{isbn(number)}" for number, title in enumerate(titles)]
+    with tempfile.TemporaryDirectory() as folder:
+        with open(f"{folder}/table.txt", "w", encoding="utf-8") as file:
+            file.write("\n".join(["publication_title\tonline_identifier", *rows, ""]))
+        with open(f"{folder}/registry.tsv", "w", encoding="utf-8") as file:
+            file.write(f"books\tcode\t{folder}/table.txt\n")
+        words = [sys.executable, "-S", "-B", "-c", MEASURED, f"{folder}/registry.tsv", f"{folder}/index"]
+        done = subprocess.run(words, capture_output=True, text=True)
+        has_words = sum(len(names) for _, _, names in os.walk(f"{folder}/index/words")) > 10
+    expect(f"its memory in MB: {done.stdout}{done.stderr[-300:]}", 20 < int(done.stdout or 9999) <= 120)
+    expect("it has words", has_words)
+
+
+TESTS = [test_titles, test_numbers, test_rows, test_cells, test_related, test_short_keys, test_umlauts, test_list,
+         test_limits, test_large_files, test_random_words,
+         test_memory_of_random_words]

@@ -162,7 +162,7 @@ def test_remove(machine, east, wing):
     expect("those of the other", left, [f"WorkingDirectory={east.path('current')}"] * 2)
     expect("its processes", [os.path.exists(machine.path("run", str(it))) for it in ports], [False, False])
     expect("the folder", (os.path.lexists(wing.path()), sorted(os.listdir(f"{wing.path()}.removed"))),
-           (False, ["input", "local.conf", "logo.svg", "passwords", "report", "site.conf"]))
+           (False, ["input", "local.conf", "logo.svg", "passwords", "report", "site.conf", "updated"]))
     expect("its site is gone", wait_until(lambda: machine.get(wing.host, "/find")[0] == 404))
     expect("and its local server", wait_until(lambda: not machine.listens(port)))
     expect("the other site", links(east), {"coastal-law of east": OLD})

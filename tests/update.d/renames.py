@@ -20,7 +20,7 @@ def killed_at(library, number, *options, **how):
 def test_killed_at_renames():
     """SIGKILL directly before and after each rename and link of a run that ends well, those of `openlink compile` too,
     and of one that goes back, from its first own rename on. The next run puts it right."""
-    for name, options, first, expected in (("forward", {}, 0, 20), ("back", {"restart": "true"}, 10, 24)):
+    for name, options, first, expected in (("forward", {}, 0, 22), ("back", {"restart": "true"}, 10, 24)):
         with Library(probes=5) as library:
             week, number, moments = "A", first, None
             while moments is None:

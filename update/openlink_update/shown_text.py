@@ -21,7 +21,8 @@ def line_of(text, most=500):
 def cell(text):
     """A cell that no spreadsheet runs as a formula, and that has one line."""
     text = printable(text.replace("\n", " "))
-    return f"'{text}" if text.lstrip().startswith(FORMULA) else text
+    start = text.strip()
+    return f"'{text}" if start.startswith(FORMULA) and len(start) > 1 else text
 
 
 def row(texts):
