@@ -1,4 +1,4 @@
-"""What OPERATING.md says to an operator: the commands of "When the resolver is down" that need no systemd, before and
+"""What INSTALLING.md says to an operator: the commands of "When the resolver is down" that need no systemd, before and
 after the processes have ended; the limits of nginx in "First start"; the "Record of what is kept"; and "Disk"."""
 import glob, os, re, shutil, subprocess
 from operating import with_tls
@@ -14,7 +14,7 @@ class Plain:
 
 
 def chapter(title):
-    with open("docs/OPERATING.md", encoding="utf-8") as file:
+    with open("docs/INSTALLING.md", encoding="utf-8") as file:
         return file.read().split(f"\n## {title}\n")[1].split("\n## ")[0]
 
 

@@ -239,8 +239,8 @@ def test_ciphers(site, expect):
 
 
 def test_monitoring(site, expect):
-    """The commands that OPERATING.md has for it."""
-    with open("docs/OPERATING.md") as file:
+    """The commands that INSTALLING.md has for it."""
+    with open("docs/INSTALLING.md") as file:
         section = file.read().split("\n## Monitoring\n")[1]
     commands = section.split("```\n")[1].splitlines()
     expect("commands of Monitoring", len(commands), 2)

@@ -79,7 +79,7 @@ class Site:
         return f"{self.folder}/{name}"
 
     def write_registry(self):
-        """A folder as in docs/OPERATING.md: the registry, rules/, code/ and tables/."""
+        """A folder as in docs/INSTALLING.md: the registry, rules/, code/ and tables/."""
         tables = {}
         for name, table in LIBRARY.items():
             shutil.copy(f"examples/library/{name}.rules", self.path("rules"))

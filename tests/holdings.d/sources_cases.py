@@ -149,7 +149,7 @@ def test_lists():
 
 def test_examples():
     """The sources in the documents are as the list may have them."""
-    for path in ("docs/OPERATING.md", "docs/man/openlink-fetch.8"):
+    for path in ("docs/LIBRARIANS.md", "docs/man/openlink-fetch.8"):
         with open(path, encoding="utf-8") as file, Input() as folder:
             folder.write_sources(*(line.rstrip("\n") for line in file if "\thttps://" in line))
             found, faults = sources.read(folder.path("sources.tsv"))

@@ -1,4 +1,4 @@
-"""The chapter "Backup and restore" of OPERATING.md: its commands bring back what readers see if all else is lost."""
+"""The chapter "Backup and restore" of INSTALLING.md: its commands bring back what readers see if all else is lost."""
 import glob, os, shlex, shutil, stat, subprocess, sys, tempfile
 from counting import expect
 from machine import FEW, Machine, read, write
@@ -12,7 +12,7 @@ SECRET = "BOOKHOUSE\ta secret\n"
 
 def blocks():
     """The commands of the chapter, by block."""
-    section = read("docs/OPERATING.md").split("\n## Backup and restore\n")[1].split("\n## ")[0]
+    section = read("docs/INSTALLING.md").split("\n## Backup and restore\n")[1].split("\n## ")[0]
     found = [it.splitlines() for it in section.split("```\n")[1::2]]
     expect("blocks of commands", [bool(it) for it in found], [True, True])
     return found

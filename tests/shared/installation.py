@@ -1,4 +1,4 @@
-"""The scripts and the front door in a folder, as OPERATING.md installs them."""
+"""The scripts and the front door in a folder, as INSTALLING.md installs them."""
 import os
 import shutil
 

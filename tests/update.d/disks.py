@@ -57,8 +57,8 @@ def test_no_file_left():
 
 
 def test_oldest_away():
-    """The command of OPERATING's chapter "Disk" that deletes the oldest version: the next update is as ever."""
-    with open("docs/OPERATING.md", encoding="utf-8") as file:
+    """The command of INSTALLING's chapter "Disk" that deletes the oldest version: the next update is as ever."""
+    with open("docs/INSTALLING.md", encoding="utf-8") as file:
         block = next(it for it in file.read().split("\n## Disk\n")[1].split("```\n")[1::2] if "rm -r" in it)
     command = next(line for line in block.splitlines() if line.startswith("rm "))
     with Library() as library:
