@@ -108,7 +108,8 @@ function page(q) {
     const first = pagesUnder(q, 'rft.spage');
     const found = first[0] || pagesUnder(q, 'rft.pages')[0] || articleIn(q.first('rft.artnum'));
     if (found !== '') q.lead('rft.spage', found);
-    if (q.has('rft.pages') && is(FOREIGN, q.first('rft.pages'))) q.lead('rft.pages', numbers.ascii(q.first('rft.pages')));
+    const pages = q.first('rft.pages');
+    if (pages !== '' && is(FOREIGN, pages)) q.lead('rft.pages', numbers.ascii(pages));
     if (!q.has('rft.epage')) {
         if (first[1] !== '') q.add('rft.epage', first[1]);
         return;
@@ -117,4 +118,4 @@ function page(q) {
     if (last[0] !== '') q.lead('rft.epage', last[1] || last[0]);
 }
 
-export default { COUNT: COUNT, OF_ISSUE: OF_ISSUE, OF_VOLUME: OF_VOLUME, volume: volume, page: page };
+export default { COUNT, OF_ISSUE, OF_VOLUME, volume, page };
