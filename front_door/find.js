@@ -16,16 +16,16 @@ import query from './query.js';
 import search from './search.js';
 import texts from './text.js';
 
-// Asks the program, unless the query is empty, and gives the query and the groups to `reply`.
+// Asks the program, unless the query is empty, and gives the groups and the site to `reply`.
 async function answer(r, q, reply) {
     const site = exchange.siteOf(r);
     r.variables.openlink_source = log.sourceOf(q);
-    if (q.isEmpty()) return reply(r, q, menu.groupsOf(query.NONE, site), site);
+    if (q.isEmpty()) return reply(menu.groupsOf(query.NONE, site), site);
     const menus = await program.menusOf(r, q);
     if (menus.status !== 200) return exchange.sendFault(r, program.faultStatus(menus), site);
     const groups = menu.groupsOf(menus.links, site);
     logLinks(r, q, groups);
-    reply(r, q, groups, site);
+    reply(groups, site);
 }
 
 function logTargets(r, names) { r.variables.openlink_targets = names.join(','); }
@@ -44,14 +44,13 @@ function logLinks(r, q, groups) {
 function replyPage(r, q, groups, site) {
     exchange.sendPage(r, 200, q.isEmpty() ? form.formOf(q, site) : menu.pageOf(q, groups, site), site);
 }
-function replyJson(r, q, groups, site) { exchange.sendJson(r, 200, menu.dataOf(q, groups, site), site); }
 async function find(r) {
     const q = await completion.queryOf(r);
-    return answer(r, q, replyPage);
+    return answer(r, q, (groups, site) => { replyPage(r, q, groups, site); });
 }
 async function json(r) {
     const q = await completion.queryOf(r);
-    return answer(r, q, replyJson);
+    return answer(r, q, (groups, site) => { exchange.sendJson(r, 200, menu.dataOf(q, groups, site), site); });
 }
 // The first link, if there is one alone in the first group or `first=1` asks for it; otherwise the page, and so if the
 // request may mean several titles.
@@ -59,7 +58,7 @@ async function go(r) {
     const q = await completion.queryOf(r);
     const isFirst = q.first('first') === '1';
     q.drop('first');
-    return answer(r, q, function (r, q, groups, site) {
+    return answer(r, q, (groups, site) => {
         const links = groups[0].links;
         const isOne = links.length === 1 || (isFirst && links.length > 0);
         if (!isOne || q.maybe.length > 0) return replyPage(r, q, groups, site);

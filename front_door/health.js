@@ -169,6 +169,5 @@ async function machine(r) {
 }
 
 export default {
-    portsOf, upstreamsOf, ageOf, updateOf, limitOf, replyOf, isDrained, machineReplyOf,
-    health: exchange.guarded(health), machine: exchange.guarded(machine)
+    portsOf, ageOf, updateOf, limitOf, replyOf, health: exchange.guarded(health), machine: exchange.guarded(machine)
 };

@@ -24,8 +24,8 @@ const isObject = texts.isObject;
 function rangesOf(header) {
     const pieces = header.slice(0, MOST_BYTES).split(',');
     if (header.length > MOST_BYTES) pieces.pop();
-    const texts = pieces.map((piece) => piece.trim()).filter(Boolean).slice(0, MOST_RANGES);
-    return texts.filter((text) => is(RANGE, text)).map((text) => {
+    const ranges = pieces.map((piece) => piece.trim()).filter(Boolean).slice(0, MOST_RANGES);
+    return ranges.filter((text) => is(RANGE, text)).map((text) => {
         const found = RANGE.exec(text);
         return { tag: found[1].toLowerCase(), quality: found[2] === undefined ? 1 : Number(found[2]) };
     });

@@ -17,7 +17,7 @@ const MOST_ROWS = 12;
 const MOST_TITLES = index.PAGE;
 
 // The link of a title: its number, which comes first to count before others, and the request's own pairs.
-function addressOf(it, args, site) {
+function titleAddress(it, args, site) {
     const number = it.numbers[0];
     const pair = (numbers.isIssn(number) ? 'rft.issn=' : 'rft.isbn=') + encodeURIComponent(numbers.standard(number));
     if (!args) return pages.addressOf('/find', `rft.genre=${it.kind === 'b' ? 'book' : 'journal'}&${pair}`, site);
@@ -41,7 +41,7 @@ function rowsHtml(it, site, isShown) {
 function numberText(number, site) { return filled(site, numbers.isIssn(number) ? 'issn' : 'isbn', number); }
 function titleHtml(it, site, args) {
     const listed = it.standard.slice(0, MOST_NUMBERS).map((number) => numberText(number, site)).join(', ');
-    const anchor = pages.anchor(addressOf(it, args, site), it.title);
+    const anchor = pages.anchor(titleAddress(it, args, site), it.title);
     return `<li>${anchor}<p>${escape(listed)}</p>${rowsHtml(it, site)}</li>`;
 }
 function titlesHtml(titles, site) {

@@ -110,4 +110,4 @@ async function complete(r, q) {
     openurl.readNumbers(q);
 }
 
-export default { complete, ofCrossref, ofPubmed };
+export default { complete };

@@ -28,8 +28,8 @@ function emptyGroups(site) {
         }
     }
     if (groups.length > 0) return groups;
-    const name = word(site, 'group');
-    return [{ name, label: name, links: [] }];
+    const only = word(site, 'group');
+    return [{ name: only, label: only, links: [] }];
 }
 
 // A link of program.js as a reader sees it: with the words of targets.json, which edition it is of, if that is not the

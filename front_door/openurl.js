@@ -80,8 +80,8 @@ function kindOf(q) {
 function kindAsked(q) {
     const kind = own(KINDS, q.first('rft.genre').trim().toLowerCase());
     if (kind) return kind === 'journal' ? 'j' : 'b';
-    const format = (q.given.rft_val_fmt || NONE)[0] || '';
-    const name = format.slice(format.lastIndexOf(':') + 1);
+    const declared = (q.given.rft_val_fmt || NONE)[0] || '';
+    const name = declared.slice(declared.lastIndexOf(':') + 1);
     if (name === 'journal') return 'j';
     if (name === 'book' || name === 'dissertation') return 'b';
     const has = (key) => q.given[key] !== undefined || q.given['rft.' + key] !== undefined;
@@ -124,7 +124,7 @@ function dublinCore(q) {
 const TITLE_KEYS = ['rft.btitle', 'rft.title', 'rft.jtitle'];
 // A reader may have typed the volume and the pages after the title of the journal.
 function cited(q) {
-    const isTitle = q.has('title') && TITLE_KEYS.every((key) => !q.has(key));
+    const isTitle = q.has('title') && TITLE_KEYS.every((other) => !q.has(other));
     const key = q.has('rft.jtitle') ? 'rft.jtitle' : isTitle && kindOf(q) === 'journal' ? 'title' : '';
     const isNumbered = key !== '' && is(/\d/, q.first(key));
     const isArticle = q.has('rft.atitle') || q.has('rft.date') || is(/^article$/i, q.first('rft.genre'));

@@ -55,7 +55,7 @@ async function repliesOfOne(r, place, queries) {
 async function askAll(r, place, queries) {
     let replies = await repliesOfOne(r, place, queries);
     if (replies.slice(1).some(isLost)) replies = await repliesOfOne(r, place, queries);
-    const others = replies.map((reply) => reply.status).filter((status) => status !== 200);
+    const others = replies.map((reply) => reply.status).filter((one) => one !== 200);
     const status = others.length === 0 ? 200 : others.reduce((a, b) => Math.max(a, b));
     return { queries, status, texts: replies.map((reply) => reply.text) };
 }

@@ -210,9 +210,9 @@ Query.prototype.set = function (key, value) {
 function encodedOf(q, key) {
     const known = q.encoded[key];
     if (known !== undefined && known.values === q.added[key]) return known.texts;
-    const texts = q.added[key].map((value) => key + '=' + encode(value));
-    q.encoded[key] = { values: q.added[key], texts };
-    return texts;
+    const written = q.added[key].map((value) => key + '=' + encode(value));
+    q.encoded[key] = { values: q.added[key], texts: written };
+    return written;
 }
 
 // The query as text, with `first` before it and without the keys of `omitted`. If it is too long, those pairs are left

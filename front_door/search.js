@@ -114,9 +114,9 @@ async function search(r, kind, text, page) {
     const found = numbers.numbersIn([text], numbers.ISSN, 2).concat(numbers.numbersIn([text], numbers.ISBN, 2));
     if (found.length > 0) {
         const all = await index.titlesOfAll(r, found);
-        const list = all.filter((it) => it.kind === kind);
-        const part = partOf(list, page);
-        return { titles: part.its, page: part.page, pages: part.pages, count: list.length, isMore: false };
+        const ofKind = all.filter((it) => it.kind === kind);
+        const part = partOf(ofKind, page);
+        return { titles: part.its, page: part.page, pages: part.pages, count: ofKind.length, isMore: false };
     }
     const words = titles.wordsOf(text);
     const sought = words.filter((word, i) => word.length > 1 && words.indexOf(word) === i).slice(0, MOST_WORDS);

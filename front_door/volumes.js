@@ -76,7 +76,7 @@ function pagesIn(text) {
 }
 // `2344-55` ends at 2355, and `S12-20` at S20. What is before the first page is no last page.
 function lastPage(first, last) {
-    const parts = [first, last].map((page) => /^([a-z]*)(\d*)(.*)$/i.exec(page));
+    const parts = [first, last].map((one) => /^([a-z]*)(\d*)(.*)$/i.exec(one));
     const begins = parts[0][2];
     const ends = parts[1][2];
     if (begins === '' || ends === '') return last;

@@ -17,7 +17,6 @@ import words from './words.js';
 const FOLDER = '/etc/openlink/current';  // that of openlink@.service
 const RULES = ['rules/', 'received/'];   // folders of rule files in it
 const own = texts.own;
-const is = texts.is;
 const escape = texts.escape;
 
 // ---------------------------------------------------------------- The registry
@@ -45,12 +44,12 @@ function readRegistry(site) {
 }
 
 // The rules of code/NAME.olk are NAME.rules in the first folder that has such a file, unless targets.json names them.
-function rulesOf(name, code, site, isFile) {
+function rulesOf(name, code, site, exists) {
     const path = own(own(own(site, 'targets'), name), 'rules');
     if (typeof path === 'string') return inFolder(path, site);
     const file = code.slice(code.lastIndexOf('/') + 1).replace(/\.[^.]*$/, '') + '.rules';
     const paths = RULES.map((folder) => inFolder(folder + file, site));
-    return paths.find(isFile) || paths[0];
+    return paths.find(exists) || paths[0];
 }
 function isFile(path) {
     try {
@@ -67,8 +66,8 @@ function quoted(path) { return `'${path.split("'").join("'\\''")}'`; }
 function quotedQuery(query) { return `'${query.split("'").join('%27')}'`; }
 
 // The command for a target of the registry, without its last argument, the query.
-function commandOf(name, target, site, isFile) {
-    return ['openlink explain', quoted(rulesOf(name, target.code, site, isFile)), quoted(inFolder(target.table, site))]
+function commandOf(name, target, site, exists) {
+    return ['openlink explain', quoted(rulesOf(name, target.code, site, exists)), quoted(inFolder(target.table, site))]
         .join(' ');
 }
 
@@ -76,7 +75,7 @@ function commandOf(name, target, site, isFile) {
 function heading(level, text) { return `<${level}>${escape(text)}</${level}>`; }
 function paragraph(text) { return text === '' ? '' : `<p>${escape(text)}</p>`; }
 // What the program reads or writes is English, from left to right.
-function code(text) { return `<code lang="en" dir="ltr">${escape(text)}</code>`; }
+function codeHtml(text) { return `<code lang="en" dir="ltr">${escape(text)}</code>`; }
 
 function queryName(i, site) { return words.filled(site, 'query', String(i + 1)); }
 function queriesHtml(queries, site) {
@@ -89,7 +88,8 @@ function queriesHtml(queries, site) {
 
 function rowHtml(it) {
     const name = escape(it.name);
-    const cells = it.reasons.map((reason, i) => i === it.used ? `<strong>${code(reason)}</strong>` : code(reason));
+    const cells = it.reasons.map(codeHtml)
+        .map((reason, i) => i === it.used ? `<strong>${reason}</strong>` : reason);
     const anchor = `<a href="#target-${name}">${name}</a>`;
     return `<tr><th scope="row">${anchor}</th><td>${cells.join('</td><td>')}</td></tr>`;
 }
@@ -104,7 +104,7 @@ function reportsHtml(reasons, queries, site) {
 function targetHtml(it, registry, last, site) {
     const target = registry === null ? undefined : registry[it.name];
     const name = escape(it.name);
-    const report = `${escape(queryName(it.used, site))}: ${code(it.reasons[it.used])}`;
+    const report = `${escape(queryName(it.used, site))}: ${codeHtml(it.reasons[it.used])}`;
     const command = target ? `${escape(commandOf(it.name, target, site, isFile))} ${last[it.used]}` : '';
     return [`<h3 id="target-${name}">${name}</h3>`, `<p>${report}</p>`,
         target ? `<pre dir="ltr" class="command">${command}</pre>`

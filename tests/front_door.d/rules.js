@@ -163,10 +163,10 @@ function testRetractions() {
             expect('the title ' + it[0], page.indexOf('<bdi>Silt</bdi>') > 0, it[1]);
         });
     });
-    const q = openurl.begun('issn=2901-0012');
-    q.put('rft.atitle', ['RETRACTED: Silt']);  // as a look-up does
-    openurl.finish(q);
-    expect('a title that was looked up', q.first('rft.atitle') + ' ' + q.isRetracted, 'Silt true');
+    const lookedUp = openurl.begun('issn=2901-0012');
+    lookedUp.put('rft.atitle', ['RETRACTED: Silt']);  // as a look-up does
+    openurl.finish(lookedUp);
+    expect('a title that was looked up', lookedUp.first('rft.atitle') + ' ' + lookedUp.isRetracted, 'Silt true');
 }
 
 // What a request says of its kind, and the type of RIS.
@@ -244,9 +244,8 @@ function testWords() {
     expect('the direction',
         site({ languages: ['he', 'en'] }, '').dir + ' ' + site({ languages: ['he', 'en'] }, 'en').dir, 'rtl ltr');
     const heading = function (words, header) {
-        const found = program.joined(['a\thttp://a/\n']);
         // No group is named, so there is one with the word `group`.
-        return menus.groupsOf(found, site({ languages: ['en', 'de'], words }, header))[0].name;
+        return menus.groupsOf([], site({ languages: ['en', 'de'], words }, header))[0].name;
     };
     expect('a word', heading({}, 'en'), 'Links');
     expect('a word that is no text', heading({}, 'de'), 'Links');
@@ -444,10 +443,10 @@ async function testReplies() {
 const ARABIC = '0123456789';
 const THREE_BYTES = '\u2460\u2461\u2462\u2463\u2464\u2465\u2466\u2467\u2468\u2469';
 function numeral(number, digits) { return String(number).split('').map((digit) => digits[Number(digit)]).join(''); }
-function madeLines(digits, count, longest) {
+function madeLines(digits, most, longest) {
     const lines = [];
     let number = 7;
-    for (let i = 0; lines.length < count; i++) {
+    for (let i = 0; lines.length < most; i++) {
         number = (number * 1103515245 + 12345) % 2147483648;
         const length = number % 9 === 0 ? number % longest : number % 150;
         const text = repeated(number % 2 === 0 ? '\u00e9' : number % 3 === 0 ? 'a\u20ac' : 'a', length);
