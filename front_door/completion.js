@@ -131,7 +131,7 @@ function furtherQueries(q, known) {
 // The titles that a request may mean, if its numbers are not known: those of its title, then those of a similar one,
 // then those of another kind. `known` is what addNumbers has found.
 async function addMaybe(r, q, known) {
-    if (q.titles.length > 0) return;
+    if (q.titles.length > 0 || titlesAsked(q).length === 0) return;
     const named = known || await index.titlesOfAll(r, keysAsked(q).map((key) => '=' + key));
     const isOfKind = ofKind(q, named).length > 0;
     const similar = isOfKind ? NONE : await index.titlesOfAll(r, similarKeys(q));

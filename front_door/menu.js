@@ -186,6 +186,7 @@ function dataOf(q, groups, site) {
     const shown = shownGroups(groups);
     shown.forEach((g) => { g.links.forEach((link) => { delete link.covered; }); });
     const data = { citation: citation.citationOf(q, site), groups: shown };
+    if (q.isRetracted) data.retracted = true;
     if (q.maybe.length > 0) {
         data.maybe = q.maybe.map((it) => ({ title: it.title, numbers: it.standard }));
     }

@@ -157,7 +157,10 @@ function testRetractions() {
     RETRACTIONS.forEach(function (it) {
         ['atitle', 'rft.btitle', 'title'].forEach(function (key) {
             const q = openurl.queryOf(key + '=' + encodeURIComponent(it[0]) + '&issn=2901-0012');
-            const page = menus.pageOf(q, menus.groupsOf(program.joined(['t\thttp://t/\n']), site), site);
+            const groups = menus.groupsOf(program.joined(['t\thttp://t/\n']), site);
+            const page = menus.pageOf(q, groups, site);
+            expect('retracted in JSON: ' + key + '=' + it[0], menus.dataOf(q, groups, site).retracted,
+                it[1] ? true : undefined);
             const at = page.indexOf('RETRACTION &lt;');
             expect('retracted: ' + key + '=' + it[0], at > 0 && at < page.indexOf('http://t/'), it[1]);
             expect('the title ' + it[0], page.indexOf('<bdi>Silt</bdi>') > 0, it[1]);
