@@ -14,7 +14,7 @@ function authorOf(q, site) {
     const last = clean(q.first('rft.aulast'));
     if (last === '') return clean(q.first('rft.aucorp'));
     const given = clean(q.first('rft.aufirst') || q.first('rft.auinit') || q.first('rft.auinit1'));
-    return given === '' ? last : last + ', ' + given;
+    return given === '' ? last : `${last}, ${given}`;
 }
 
 // What the page and the JSON say of a request, and the keys that it is taken from.
@@ -42,15 +42,15 @@ function firstOf(q, keys) {
 }
 
 const NAMED = ['volume', 'issue', 'pages', 'doi', 'pmid', 'issn', 'isbn'];
-function textHtml(value) { return '<bdi>' + escape(value) + '</bdi>'; }
+function textHtml(value) { return `<bdi>${escape(value)}</bdi>`; }
 function citationHtml(c, site) {
     const parts = [];
     if (c.author) parts.push(textHtml(c.author));
-    if (c.title) parts.push('<strong>' + textHtml(c.title) + '</strong>');
-    if (c.journal) parts.push('<cite>' + textHtml(c.journal) + '</cite>');
+    if (c.title) parts.push(`<strong>${textHtml(c.title)}</strong>`);
+    if (c.journal) parts.push(`<cite>${textHtml(c.journal)}</cite>`);
     if (c.year) parts.push(textHtml(c.year));
     NAMED.forEach((name) => { if (c[name]) parts.push(textHtml(filled(site, name, c[name]))); });
-    return '<p class="citation">' + (parts.length > 0 ? parts.join(', ') : escape(word(site, 'noCitation'))) + '</p>';
+    return `<p class="citation">${parts.length > 0 ? parts.join(', ') : escape(word(site, 'noCitation'))}</p>`;
 }
 
 // The types of RIS for genres, for types of Dublin Core (those of OpenAIRE too), and for the format and kind of a
@@ -87,18 +87,18 @@ function risOf(q, kind, site) {
     c.first = q.first('rft.spage');
     c.last = q.first('rft.epage');
     c.number = c.issn || c.isbn;
-    const lines = ['TY  - ' + typeOf(q, kind)];
+    const lines = [`TY  - ${typeOf(q, kind)}`];
     const put = (tag, value) => {
         const text = clean(String(value || '')).slice(0, 1000);
-        if (text !== '') lines.push(tag + '  - ' + text);
+        if (text !== '') lines.push(`${tag}  - ${text}`);
     };
     authorsOf(q).forEach((name) => { put('AU', name); });
     if (!c.title) c.title = c.journal;
     FIELDS.split(',').map((field) => field.split(' ')).forEach((field) => {
         if (field[1] !== 'journal' || c.journal !== c.title) put(field[0], c[field[1]]);
     });
-    if (c.pmid) put('AN', 'PMID ' + c.pmid);
+    if (c.pmid) put('AN', `PMID ${c.pmid}`);
     return lines.concat(['ER  - ', '']).join('\r\n');
 }
 
-export default { citationOf: citationOf, citationHtml: citationHtml, risOf: risOf };
+export default { citationOf, citationHtml, risOf };

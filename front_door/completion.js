@@ -21,35 +21,31 @@ TITLE_KEYS[''] = ['rft.jtitle', 'rft.btitle', 'rft.title', 'rft.stitle'];
 // The titles that a request has for its journal or book, those of its kind first.
 function titlesAsked(q) {
     const found = [];
-    TITLE_KEYS[openurl.kindAsked(q)].concat(TITLE_KEYS[''], ['title']).forEach((key) => {
+    TITLE_KEYS[q.kind].concat(TITLE_KEYS[''], ['title']).forEach((key) => {
         const title = q.first(key);
-        if (title !== '' && found.indexOf(title) < 0) found.push(title);
+        if (title !== '' && !found.includes(title)) found.push(title);
     });
     return found;
 }
 function keysAsked(q) {
-    if (q.keys === undefined) {
-        q.keys = titlesAsked(q).map(titles.keyOf).filter((key, i, all) => key !== '' && all.indexOf(key) === i);
-    }
-    return q.keys;
+    return titlesAsked(q).map(titles.keyOf).filter((key, i, all) => key !== '' && all.indexOf(key) === i);
 }
-function ofKind(q, list) {
-    const kind = openurl.kindAsked(q);
-    return list.filter((it) => kind === '' || it.kind === kind);
-}
+function ofKind(q, list) { return list.filter((it) => q.kind === '' || it.kind === q.kind); }
 
-// A request without a number gets those of the one title of its kind that has its title.
+// A request without a number gets those of the one title of its kind that has its title. Returns the titles that the
+// index has for its titles, null if the request has a number.
 async function addNumbers(r, q) {
-    if (openurl.hasNumber(q)) return;
+    if (openurl.hasNumber(q)) return null;
     const keys = keysAsked(q);
-    q.named = NONE;
+    let named = NONE;
     for (let i = 0; i < keys.length; i++) {
         const all = await index.titlesOf(r, '=' + keys[i]);
         const found = ofKind(q, all);
-        q.named = q.named.concat(all);
+        named = named.concat(all);
         if (found.length === 1) addNumbersOf(q, found[0]);
-        if (found.length > 0) return;
+        if (found.length > 0) return named;
     }
+    return named;
 }
 function addNumbersOf(q, title) {
     q.byTitle = title;
@@ -64,7 +60,7 @@ function addNumbersOf(q, title) {
 }
 // The format and the key of the title, where the request does not say them.
 function setKind(q, found) {
-    if (openurl.kindAsked(q) !== '') return;
+    if (q.kind !== '') return;
     const key = found.kind === 'b' ? 'rft.btitle' : 'rft.jtitle';
     const other = found.kind === 'b' ? 'rft.jtitle' : 'rft.btitle';
     if (q.added[other]) q.drop(other);
@@ -77,7 +73,7 @@ const IN_DOI = texts.lazy('(?:^|[^\\d-])(97[89](?:-?\\d){10})(?!\\d)');
 function isbnInDoi(q) {
     const doi = q.first('x.doi');
     const name = doi.slice(doi.indexOf('/') + 1);
-    if (name.indexOf('97') < 0 || !is(IN_DOI(), name)) return NONE;
+    if (!name.includes('97') || !is(IN_DOI(), name)) return NONE;
     return numbers.numbersIn([IN_DOI().exec(name)[1]], numbers.ISBN, 1);
 }
 function numbersAsked(q) {
@@ -87,7 +83,7 @@ function numbersAsked(q) {
 // The title of the numbers, and the other numbers of this title.
 async function addTitle(r, q) {
     const asked = numbersAsked(q);
-    const inDoi = isbnInDoi(q).filter((it) => asked.indexOf(it) < 0);
+    const inDoi = isbnInDoi(q).filter((it) => !asked.includes(it));
     const sought = asked.concat(inDoi);
     const known = sought.length > 0 ? await titlesFor(r, sought) : NONE;
     q.titles = known;
@@ -102,7 +98,7 @@ async function addTitle(r, q) {
 // The titles of the first number, and those of the numbers that these titles do not have.
 async function titlesFor(r, sought) {
     const first = await index.titlesOf(r, sought[0]);
-    const rest = sought.slice(1).filter((number) => !first.some((it) => it.standard.indexOf(number) >= 0));
+    const rest = sought.slice(1).filter((number) => !first.some((it) => it.standard.includes(number)));
     if (rest.length === 0) return first;
     const others = await index.titlesOfAll(r, rest);
     return first.concat(others.filter((it) => !first.some((one) => one.title === it.title && one.kind === it.kind
@@ -115,14 +111,14 @@ function furtherQueries(q, known) {
     const all = known.length === 1 ? known[0].numbers : known.reduce((list, it) => list.concat(it.numbers), []);
     const first = q.first('x.isbn');
     const forms = all.filter((it) => !numbers.isIssn(it) && numbers.standard(it) === first);
-    if (forms.length > 0 && forms.indexOf(first) < 0) q.lead('rft.isbn', forms[0]);
+    if (forms.length > 0 && !forms.includes(first)) q.lead('rft.isbn', forms[0]);
     const sent = [q.first('rft.issn'), q.first('rft.eissn'), q.first('rft.isbn')];
-    if (all.every((it) => sent.indexOf(it) >= 0)) return NONE;
-    const isNew = (it, i) => sent.indexOf(it) < 0 && all.indexOf(it) === i;
+    if (all.every((it) => sent.includes(it))) return NONE;
+    const isNew = (it, i) => !sent.includes(it) && all.indexOf(it) === i;
     const issns = all.filter((it, i) => numbers.isIssn(it) && isNew(it, i));
     if (q.has('rft.issn') && !q.has('rft.eissn') && issns.length > 0) q.add('rft.eissn', issns.shift());
-    const isbns = q.isbns.concat(all).filter((it, i, list) => !numbers.isIssn(it) && sent.indexOf(it) < 0
-        && list.indexOf(it) === i && (all.indexOf(it) >= 0));
+    const isbns = q.isbns.concat(all).filter((it, i, list) => !numbers.isIssn(it) && !sent.includes(it)
+        && list.indexOf(it) === i && all.includes(it));
     const queries = [];
     for (let i = 0; i < issns.length; i += 2) {
         const pair = issns.slice(i, i + 2);
@@ -133,11 +129,10 @@ function furtherQueries(q, known) {
 }
 
 // The titles that a request may mean, if its numbers are not known: those of its title, then those of a similar one,
-// then those of another kind.
-async function addMaybe(r, q) {
-    const keys = q.titles.length > 0 ? NONE : keysAsked(q);
-    if (keys.length === 0) return;
-    const named = q.named || await index.titlesOfAll(r, keys.map((key) => '=' + key));
+// then those of another kind. `known` is what addNumbers has found.
+async function addMaybe(r, q, known) {
+    if (q.titles.length > 0 || titlesAsked(q).length === 0) return;
+    const named = known || await index.titlesOfAll(r, keysAsked(q).map((key) => '=' + key));
     const isOfKind = ofKind(q, named).length > 0;
     const similar = isOfKind ? NONE : await index.titlesOfAll(r, similarKeys(q));
     const all = index.distinct(named.concat(similar));
@@ -148,7 +143,7 @@ async function addMaybe(r, q) {
 // `&` in another language.
 function similarKeys(q) {
     const found = [];
-    const put = (sign, key) => { if (key !== '' && found.indexOf(sign + key) < 0) found.push(sign + key); };
+    const put = (sign, key) => { if (key !== '' && !found.includes(sign + key)) found.push(sign + key); };
     titlesAsked(q).filter((title) => title.length <= MOST_LETTERS).slice(0, 2).forEach((title) => {
         const written = titles.writtenOut(title);
         const keys = keysWithin(title);
@@ -164,7 +159,7 @@ function keysWithin(title) {
     return [title, short, titles.shorter(short)].map(titles.keyOf);
 }
 const ANDS = ' and und et ';
-function isAnd(word) { return ANDS.indexOf(' ' + word + ' ') >= 0; }
+function isAnd(word) { return ANDS.includes(' ' + word + ' '); }
 function withOtherAnd(key) {
     const words = key.split(' ');
     if (!words.some(isAnd)) return NONE;
@@ -184,19 +179,18 @@ async function knowledgeOf(r, q) {
 
 async function queryOf(r) {
     const q = openurl.begun(exchange.argsOf(r));
-    q.titles = NONE;
-    q.further = NONE;
-    q.maybe = NONE;
+    let named = null;
     if (!q.isEmpty()) {
         await lookup.complete(r, q);
-        await addNumbers(r, q);
+        q.kind = openurl.kindAsked(q);
+        named = await addNumbers(r, q);
     }
     openurl.finish(q);
     if (q.isEmpty()) return q;
     await addTitle(r, q);
-    await addMaybe(r, q);
+    await addMaybe(r, q, named);
     q.knowledge = await knowledgeOf(r, q);
     return q;
 }
 
-export default { queryOf: queryOf };
+export default { queryOf };

@@ -23,7 +23,7 @@ function expiryOf(now) {
 function textOf(value, now) {
     const contacts = contactsIn(value);
     if (contacts.length === 0) return '';
-    return contacts.map((it) => 'Contact: ' + it + '\n').join('') + 'Expires: ' + expiryOf(now) + '\n';
+    return contacts.map((it) => `Contact: ${it}\n`).concat(`Expires: ${expiryOf(now)}\n`).join('');
 }
 
-export default { textOf: textOf };
+export default { textOf };

@@ -42,4 +42,4 @@ function mayHave(row, year) {
     return year === '' || ((first === '' || first <= year) && (last === '' || year <= last));
 }
 
-export default { mayHave: mayHave, textOf: textOf, dataOf: dataOf };
+export default { mayHave, textOf, dataOf };

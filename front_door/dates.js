@@ -29,7 +29,7 @@ function yearLast(found) {
 // Zero-padded; only the year if there is no such month, only the month if there is no such day.
 function ymd(year, month, day) {
     if (!(month >= 1 && month <= 12)) return year;
-    const two = (n) => ('0' + Number(n)).slice(-2);
+    const two = (n) => String(Number(n)).padStart(2, '0');
     return year + '-' + two(month) + (day >= 1 && day <= 31 ? '-' + two(day) : '');
 }
 
@@ -66,4 +66,4 @@ function daysOf(date) {
     return [month + '01', month + length];
 }
 
-export default { dateOf: dateOf, daysOf: daysOf };
+export default { dateOf, daysOf };

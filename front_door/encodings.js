@@ -35,10 +35,10 @@ const DECLARED = /(?:^|[?&;])(?:amp;)?ctx_enc=([^&;]{0,60})/i;
 // The encoding that a request declares in `ctx_enc`: a name of TABLES, `unicode`, `unknown`, or '' if it declares none.
 // Browsers and vendors mean windows-1252 by Latin-1.
 function declaredIn(args) {
-    if (args.toLowerCase().indexOf('ctx_enc=') < 0 || !is(DECLARED, args)) return '';
+    if (!args.toLowerCase().includes('ctx_enc=') || !is(DECLARED, args)) return '';
     const value = DECLARED.exec(args)[1].replace(/%(3a|2f|20)/gi, ':').replace(/\+/g, ':').toLowerCase();
     const name = value.slice(Math.max(value.lastIndexOf(':'), value.lastIndexOf('/')) + 1).split('_').join('-');
-    const found = NAMES.filter((it) => is(it[0], name))[0];
+    const found = NAMES.find((it) => is(it[0], name));
     return name === '' ? '' : found ? found[1] : 'unknown';
 }
 
@@ -54,4 +54,4 @@ function decoded(text, encoding) {
     }).join('');
 }
 
-export default { declaredIn: declaredIn, decoded: decoded };
+export default { declaredIn, decoded };

@@ -31,7 +31,7 @@ function siteOf(r) {
     site.hasList = r.variables.openlink_list !== 'off';
     return site;
 }
-function hasLanguage(args) { return args.indexOf('lang=') >= 0 && is(LANGUAGE, args); }
+function hasLanguage(args) { return args.includes('lang=') && is(LANGUAGE, args); }
 function withoutLanguage(args) { return hasLanguage(args) ? args.replace(LANGUAGE, '').replace(/^&/, '') : args; }
 // The type has no charset: nginx adds it. njs 0.7.9 would take both together for the type, which nginx does not
 // compress.
@@ -106,7 +106,4 @@ function guarded(handler) {
     };
 }
 
-export default {
-    argsOf: argsOf, siteOf: siteOf, send: send, sendPage: sendPage, sendJson: sendJson, sendFault: sendFault,
-    guarded: guarded
-};
+export default { argsOf, siteOf, send, sendPage, sendJson, sendFault, guarded };

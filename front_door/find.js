@@ -16,17 +16,16 @@ import query from './query.js';
 import search from './search.js';
 import texts from './text.js';
 
-// Asks the program, unless the query is empty, and gives the query and the groups to `reply`.
+// Asks the program, unless the query is empty, and gives the groups and the site to `reply`.
 async function answer(r, q, reply) {
     const site = exchange.siteOf(r);
     r.variables.openlink_source = log.sourceOf(q);
-    if (q.isEmpty()) return reply(r, q, menu.groupsOf('', site), site);
+    if (q.isEmpty()) return reply(menu.groupsOf(query.NONE, site), site);
     const menus = await program.menusOf(r, q);
     if (menus.status !== 200) return exchange.sendFault(r, program.faultStatus(menus), site);
-    const groups = menu.groupsOf(menus.text, site);
-    menu.describe(groups, menus, site);
+    const groups = menu.groupsOf(menus.links, site);
     logLinks(r, q, groups);
-    reply(r, q, groups, site);
+    reply(groups, site);
 }
 
 function logTargets(r, names) { r.variables.openlink_targets = names.join(','); }
@@ -36,7 +35,7 @@ function logLinks(r, q, groups) {
     let count = 0;
     groups.forEach((group) => { count += group.links.length; });
     menu.shownGroups(groups).forEach((group) => { group.links.forEach((link) => { names.push(link.target); }); });
-    r.variables.openlink_found = groups[0].links.length + '/' + count;
+    r.variables.openlink_found = `${groups[0].links.length}/${count}`;
     logTargets(r, names);
     const isWanted = groups[0].links.length === 0 && r.variables.openlink_log_wanted === 'on';
     if (isWanted) r.variables.openlink_wanted = log.wantedOf(q);
@@ -45,14 +44,13 @@ function logLinks(r, q, groups) {
 function replyPage(r, q, groups, site) {
     exchange.sendPage(r, 200, q.isEmpty() ? form.formOf(q, site) : menu.pageOf(q, groups, site), site);
 }
-function replyJson(r, q, groups, site) { exchange.sendJson(r, 200, menu.dataOf(q, groups, site), site); }
 async function find(r) {
     const q = await completion.queryOf(r);
-    return answer(r, q, replyPage);
+    return answer(r, q, (groups, site) => { replyPage(r, q, groups, site); });
 }
 async function json(r) {
     const q = await completion.queryOf(r);
-    return answer(r, q, replyJson);
+    return answer(r, q, (groups, site) => { exchange.sendJson(r, 200, menu.dataOf(q, groups, site), site); });
 }
 // The first link, if there is one alone in the first group or `first=1` asks for it; otherwise the page, and so if the
 // request may mean several titles.
@@ -60,7 +58,7 @@ async function go(r) {
     const q = await completion.queryOf(r);
     const isFirst = q.first('first') === '1';
     q.drop('first');
-    return answer(r, q, function (r, q, groups, site) {
+    return answer(r, q, (groups, site) => {
         const links = groups[0].links;
         const isOne = links.length === 1 || (isFirst && links.length > 0);
         if (!isOne || q.maybe.length > 0) return replyPage(r, q, groups, site);
@@ -105,7 +103,7 @@ async function list(r) {
 async function letter(r, kind, name, page, site) {
     const found = await index.lettersOf(r, kind);
     const letters = found || NO_LETTERS;
-    const it = letters.letters.filter((one) => one.letter === name)[0];
+    const it = letters.letters.find((one) => one.letter === name);
     if (it === undefined || page < 1 || page > it.pages) return exchange.sendFault(r, 404, site);
     const titles = await index.pageOf(r, kind, it.page + page - 1);
     exchange.sendPage(r, 200, lists.letterOf(kind, letters, it, page, titles, site), site);
@@ -130,7 +128,7 @@ function security(r) {
 function fault(r) { exchange.sendFault(r, Number(r.variables.status) || 503, exchange.siteOf(r)); }
 
 export default {
-    find: exchange.guarded(find), json: exchange.guarded(json), go: exchange.guarded(go),
-    cite: exchange.guarded(cite), ris: exchange.guarded(ris), list: exchange.guarded(list),
-    report: exchange.guarded(report), security: exchange.guarded(security), fault: exchange.guarded(fault)
+    find: exchange.guarded(find), json: exchange.guarded(json), go: exchange.guarded(go), cite: exchange.guarded(cite),
+    ris: exchange.guarded(ris), list: exchange.guarded(list), report: exchange.guarded(report),
+    security: exchange.guarded(security), fault: exchange.guarded(fault)
 };

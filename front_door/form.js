@@ -14,25 +14,24 @@ const FIELDS = [
 ];
 
 function fieldHtml(q, field, site) {
-    const value = texts.clean(field[1].split(' ').map((key) => q.first(key)).filter(Boolean)[0] || '').slice(0, 300);
+    const value = texts.clean(field[1].split(' ').map((key) => q.first(key)).find(Boolean) || '').slice(0, 300);
     const name = field[0];
-    const label = '<label for="' + name + '">' + escape(word(site, name + 'Field')) + '</label>';
-    return '<p>' + label + ' <input id="' + name + '" name="' + name + '" maxlength="300" value="' + escape(value)
-        + '"></p>';
+    const label = `<label for="${name}">${escape(word(site, name + 'Field'))}</label>`;
+    return `<p>${label} <input id="${name}" name="${name}" maxlength="300" value="${escape(value)}"></p>`;
 }
 // The form alone, filled in with what is known.
 function formHtml(q, site) {
     const genre = texts.clean(q.first('rft.genre')).slice(0, 30);
     const hidden = [['genre', genre], ['lang', site.chosen || '']].filter((it) => it[1] !== '')
-        .map((it) => '<input type="hidden" name="' + it[0] + '" value="' + escape(it[1]) + '">');
+        .map((it) => `<input type="hidden" name="${it[0]}" value="${escape(it[1])}">`);
     return ['<form action="/find" method="get" class="citation">', hidden.join('')].filter(Boolean)
         .concat(FIELDS.map((field) => fieldHtml(q, field, site)),
-            ['<p><button>' + escape(word(site, 'search')) + '</button></p>', '</form>']).join('\n');
+            [`<p><button>${escape(word(site, 'search'))}</button></p>`, '</form>']).join('\n');
 }
 function formOf(q, site) {
     const heading = word(site, 'form');
-    const note = '<p>' + escape(word(site, 'formNote')) + '</p>';
+    const note = `<p>${escape(word(site, 'formNote'))}</p>`;
     return pages.documentOf(heading, heading, [note, formHtml(q, site)], site);
 }
 
-export default { formHtml: formHtml, formOf: formOf };
+export default { formHtml, formOf };

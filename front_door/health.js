@@ -53,7 +53,7 @@ function namesIn(folder) {
 }
 async function answers(port) {
     try {
-        const reply = await ngx.fetch('http://127.0.0.1:' + port + '/openurl.txt');
+        const reply = await ngx.fetch(`http://127.0.0.1:${port}/openurl.txt`);
         await reply.text();
         return reply.status === 200;
     } catch (e) {
@@ -78,7 +78,7 @@ function versionLine(folder) {
         const path = fs.realpathSync(folder);
         const age = ageOf(path, Date.now());
         const name = path.slice(path.lastIndexOf('/') + 1);
-        return 'version ' + name + (age < 0 ? '' : ', ' + age + (age === 1 ? ' day old' : ' days old'));
+        return age < 0 ? `version ${name}` : `version ${name}, ${age} ${age === 1 ? 'day' : 'days'} old`;
     } catch (e) {
         return 'no version';
     }
@@ -92,19 +92,19 @@ function updateOf(text, now, most) {
     const days = Math.max(Math.floor((now - time) / DAY), 0);
     return {
         isOld: most > 0 && now - time > most * DAY,
-        line: 'updated ' + stamp + ', ' + days + (days === 1 ? ' day ago' : ' days ago')
+        line: `updated ${stamp}, ${days} ${days === 1 ? 'day' : 'days'} ago`
     };
 }
 function limitOf(text) { return DAYS.test(String(text)) ? Number(text) : MOST_DAYS; }
 // `ok` if all processes answer and the last update is not old. The status is 503 only if no process answers, since
 // readers get pages as long as one does.
 function replyOf(ports, are, version, update) {
-    const some = are.indexOf(true) >= 0;
-    const isDown = are.indexOf(false) >= 0 || !some;
+    const some = are.includes(true);
+    const isDown = are.includes(false) || !some;
     const heads = [some ? '' : 'no process answers', update.isOld ? 'old' : '',
         some && isDown ? 'some processes do not answer' : ''].filter(Boolean);
     const lines = (heads.length > 0 ? heads : ['ok'])
-        .concat(ports.map((port, i) => 'port ' + port + (are[i] ? ' answers' : ' does not answer')),
+        .concat(ports.map((port, i) => `port ${port} ${are[i] ? 'answers' : 'does not answer'}`),
             [version, update.line, '']);
     return { status: some ? 200 : 503, text: lines.join('\n') };
 }
@@ -132,44 +132,42 @@ function isDrained(text, now) {
 // What the balancer is told of a machine: the name of its last delivery, of the one that it should have, whether it is
 // drained, and its upstreams, each with `are`, whether its processes answer. Names of deliveries are times.
 function machineReplyOf(own, expected, drained, upstreams) {
-    const dead = upstreams.filter((it) => it.are.indexOf(true) < 0).map((it) => it.name);
-    const some = upstreams.some((it) => it.are.indexOf(false) >= 0);
+    const dead = upstreams.filter((it) => !it.are.includes(true)).map((it) => it.name);
+    const some = upstreams.some((it) => it.are.includes(false));
     const isOld = expected !== '' && own < expected;
     const heads = [
         upstreams.length === 0 ? 'no site has processes' : '',
-        dead.length > 0 ? 'no process of ' + dead.join(', ') + ' answers' : '',
-        isOld ? 'the delivery ' + expected + ' is missing: openlink-update --send brings it' : '',
+        dead.length > 0 ? `no process of ${dead.join(', ')} answers` : '',
+        isOld ? `the delivery ${expected} is missing: openlink-update --send brings it` : ''
     ].filter(Boolean);
     const status = heads.length > 0 ? 503 : drained ? 404 : 200;
     const first = heads.length > 0 ? heads : [drained ? 'drained' : some ? 'some processes do not answer' : 'ok'];
-    return { status: status, lines: first.concat([own === '' ? 'no delivery' : 'delivery ' + own]) };
+    return { status, lines: first.concat([own === '' ? 'no delivery' : 'delivery ' + own]) };
 }
 // The libraries of the machine that have a version in use: the folder and the site of each. The one without a name is
 // the machine's folder itself.
 function librariesIn(folder, site) {
-    return [''].concat(namesIn(folder)).filter((name) => isThere(folder + '/' + name + '/current/registry.tsv'))
-        .map((name) => name === '' ? { name: '', folder: folder, site: site }
-            : { name: name, folder: folder + '/' + name, site: folder + '/' + name + '/site.conf' });
+    return [''].concat(namesIn(folder)).filter((name) => isThere(`${folder}/${name}/current/registry.tsv`))
+        .map((name) => name === '' ? { name: '', folder, site }
+            : { name, folder: `${folder}/${name}`, site: `${folder}/${name}/site.conf` });
 }
 function upstreamLines(it) {
-    return it.ports.filter((port, i) => !it.are[i]).map((port) => it.name + ': port ' + port + ' does not answer');
+    return it.ports.filter((port, i) => !it.are[i]).map((port) => `${it.name}: port ${port} does not answer`);
 }
 async function machine(r) {
     const folder = r.variables.openlink_machine;
     const libraries = librariesIn(folder, r.variables.openlink_main);
     const upstreams = [].concat.apply([], libraries.map((it) => upstreamsOf(textIn(it.site) || '')));
     await Promise.all(upstreams.map(ask));
-    const own = (textIn(folder + '/delivery') || '').split('\n')[0].trim();
+    const own = (textIn(`${folder}/delivery`) || '').split('\n')[0].trim();
     const reply = machineReplyOf(own, String(r.headersIn['Openlink-Delivery'] || '').trim(),
-        isDrained(textIn(folder + '/drain'), Date.now()), upstreams);
+        isDrained(textIn(`${folder}/drain`), Date.now()), upstreams);
     if (own !== '') r.headersOut['Openlink-Delivery'] = own;
     const lines = reply.lines.concat([].concat.apply([], upstreams.map(upstreamLines)),
-        libraries.map((it) => (it.name === '' ? '' : it.name + ': ') + versionLine(it.folder + '/current')), ['']);
+        libraries.map((it) => (it.name === '' ? '' : `${it.name}: `) + versionLine(`${it.folder}/current`)), ['']);
     exchange.send(r, reply.status, 'text/plain; charset=utf-8', lines.join('\n'));
 }
 
 export default {
-    portsOf: portsOf, upstreamsOf: upstreamsOf, ageOf: ageOf, updateOf: updateOf, limitOf: limitOf, replyOf: replyOf,
-    isDrained: isDrained, machineReplyOf: machineReplyOf, health: exchange.guarded(health),
-    machine: exchange.guarded(machine)
+    portsOf, ageOf, updateOf, limitOf, replyOf, health: exchange.guarded(health), machine: exchange.guarded(machine)
 };

@@ -41,7 +41,7 @@ const BRACKETS = { ')': '(', ']': '[', '}': '{', '>': '<' };
 function trimmed(text) {
     let start = 0;
     let end = text.length;
-    while (start < end && OPENING.indexOf(text.charAt(start)) >= 0) start++;
+    while (start < end && OPENING.includes(text.charAt(start))) start++;
     if (is(/[\w\/]$/, text)) return text.slice(start);
     const counts = Object.create(null);
     for (let i = start; i < end; i++) counts[text.charAt(i)] = (counts[text.charAt(i)] || 0) + 1;
@@ -49,7 +49,7 @@ function trimmed(text) {
         const last = text.charAt(end - 1);
         const opening = texts.own(BRACKETS, last);
         const isOdd = opening !== undefined && counts[last] > (counts[opening] || 0);
-        if (!isOdd && CLOSING.indexOf(last) < 0) break;
+        if (!isOdd && !CLOSING.includes(last)) break;
         counts[last]--;
     }
     return text.slice(start, end);
@@ -76,7 +76,7 @@ const ADDRESS = /^((?:info:)?doi[\/:]\s*)?(?:https?:)?(?:\/\/)?(?:dx[.-]|www\.)?
 
 // A bare number counts under the keys of PubMed and PMC, and a bare ISSN or ISBN under Dublin Core's `rft.identifier`.
 function withWord(text, key) {
-    const name = key.slice(0, 4) === 'rft.' ? key.slice(4) : key;
+    const name = key.startsWith('rft.') ? key.slice(4) : key;
     if ((name === 'pmid' || name === 'pmcid') && is(/^\d{1,9}$/, text)) return name + ':' + text;
     if (key === 'rft.identifier' && is(/^\d{4}-\d{3}[\dx]$/i, text)) return 'issn:' + text;
     return key === 'rft.identifier' && is(/^(?:97[89]-?)?(?:\d-?){9}[\dx]$/i, text) ? 'isbn:' + text : text;
@@ -86,24 +86,24 @@ function withWord(text, key) {
 function identifierIn(value, key) {
     if (value.length > MOST_CHARACTERS) return null;
     let text = value;
-    if (text.indexOf('%') >= 0) {
+    if (text.includes('%')) {
         try { text = decodeURIComponent(text); } catch (e) { /* not encoded twice */ }
     }
     text = trimmed(joined(text));
     if (text === '') return null;
     if (is(/^(?:info:)?pmid[\/:]http/i, text)) text = text.slice(text.indexOf('http'));
-    text = text.indexOf('org') < 0 ? withWord(text, key) : text.replace(ADDRESS, 'doi:');
+    text = text.includes('org') ? text.replace(ADDRESS, 'doi:') : withWord(text, key);
     for (let i = 0; i < IDENTIFIERS.length; i++) {
         if (is(IDENTIFIERS[i][2], text)) return identifierOf(IDENTIFIERS[i], IDENTIFIERS[i][2].exec(text)[1]);
     }
-    if (text.toLowerCase().indexOf('arxiv') < 0 || !is(ARXIV_FORM(), text)) return null;
+    if (!text.toLowerCase().includes('arxiv') || !is(ARXIV_FORM(), text)) return null;
     const doi = arxivDoi(ARXIV_FORM().exec(text)[1]);
     return ['arxiv', doi, 'info:doi/' + doi];
 }
 function identifierOf(kind, number) {
     const isPreprint = kind[0] === 'x.doi' && is(PREPRINT, number);
     const found = isPreprint ? number.slice(0, ARXIV.length) + PREPRINT.exec(number)[1] : number;
-    return [kind[0], found, kind[1].indexOf('{}') < 0 ? kind[1] + found : kind[1].split('{}').join(found)];
+    return [kind[0], found, kind[1].includes('{}') ? kind[1].split('{}').join(found) : kind[1] + found];
 }
 
 // What a reader has pasted into the field of a title, with what shows that it is no part of the title.
@@ -128,8 +128,8 @@ function isbnIn(text) {
 function withoutEnds(text, chars) {
     let start = 0;
     let end = text.length;
-    while (start < end && chars.indexOf(text.charAt(start)) >= 0) start++;
-    while (end > start && chars.indexOf(text.charAt(end - 1)) >= 0) end--;
+    while (start < end && chars.includes(text.charAt(start))) start++;
+    while (end > start && chars.includes(text.charAt(end - 1))) end--;
     return text.slice(start, end);
 }
 
@@ -151,7 +151,7 @@ function pastedIn(value) {
         rest = rest.split(part).join(' ');
     });
     if (found.length === 0) return null;
-    return { found: found, rest: withoutEnds(texts.clean(rest).replace(/\( ?\)|\[ ?\]/g, ''), ' ,;:.-([') };
+    return { found, rest: withoutEnds(texts.clean(rest).replace(/\( ?\)|\[ ?\]/g, ''), ' ,;:.-([') };
 }
 
-export default { identifierIn: identifierIn, pastedIn: pastedIn };
+export default { identifierIn, pastedIn };

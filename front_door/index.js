@@ -64,7 +64,7 @@ function linesIn(text, beginning, most, last, isEnd) {
         const end = text.indexOf('\n', last);
         return isEnd || (end >= 0 && end + beginning.length + CUT < text.length) ? found : null;
     }
-    while (found.length < most && text.slice(at + 1, at + 1 + beginning.length) === beginning) {
+    while (found.length < most && text.startsWith(beginning, at + 1)) {
         const end = text.indexOf('\n', at + 1);
         if (!isEnd && (end < 0 || end + beginning.length + CUT >= text.length)) return null;
         found.push(text.slice(at + 1, end).split('\t'));
@@ -85,7 +85,7 @@ function rowOf(entry) {
 }
 function relatedOf(cell) {
     const at = cell.indexOf(' ');
-    return { isLater: cell.charAt(0) === '>', number: cell.slice(1, at), title: cell.slice(at + 1) };
+    return { isLater: cell.startsWith('>'), number: cell.slice(1, at), title: cell.slice(at + 1) };
 }
 // `numbers` are in the form that finds a row, `standard` as the standards write them, each once, and `rows` entries.
 function titleOf(kind, cells) {
@@ -93,10 +93,10 @@ function titleOf(kind, cells) {
     const standard = [];
     sent.forEach((it) => {
         const number = numbers.standard(it);
-        if (standard.indexOf(number) < 0) standard.push(number);
+        if (!standard.includes(number)) standard.push(number);
     });
     return {
-        kind: kind, title: cells[0], numbers: sent, standard: standard, rows: cells[2] ? cells[2].split(';') : NONE,
+        kind, title: cells[0], numbers: sent, standard, rows: cells[2] ? cells[2].split(';') : NONE,
         related: cells.length > 3 ? cells.slice(3).map(relatedOf) : NONE
     };
 }
@@ -114,7 +114,7 @@ async function titlesOfAll(r, keys) {
 function distinct(list) {
     const known = Object.create(null);
     return list.filter((it) => {
-        const name = it.kind + it.title + '\t' + it.numbers.join(' ');
+        const name = `${it.kind}${it.title}\t${it.numbers.join(' ')}`;
         const isNew = known[name] !== true;
         known[name] = true;
         return isNew;
@@ -129,7 +129,7 @@ async function isThere(r) {
 // The letters of the list of a kind, with the number of titles and that of the digits of the names of words. An index
 // of an earlier version has no `starts`, the beginnings of the pages of a letter.
 async function lettersOf(r, kind) {
-    const text = await linesOf(r, 'list/' + kind + '/letters');
+    const text = await linesOf(r, `list/${kind}/letters`);
     const lines = text.map((line) => line.split('\t'));
     if (lines.length === 0) return null;
     return {
@@ -139,14 +139,13 @@ async function lettersOf(r, kind) {
         })
     };
 }
-function linesOfPage(r, kind, number) { return linesOf(r, 'list/' + kind + '/' + number); }
+function linesOfPage(r, kind, number) { return linesOf(r, `list/${kind}/${number}`); }
 async function pageOf(r, kind, number) {
     const lines = await linesOfPage(r, kind, number);
     return lines.map((line) => titleOf(kind, line.split('\t')));
 }
 
 export default {
-    PAGE: PAGE, hashed: hashed, bytesOf: bytesOf, linesWith: linesWith, targetOf: targetOf, rowOf: rowOf,
-    titleOf: titleOf, titlesOf: titlesOf, titlesOfAll: titlesOfAll, distinct: distinct, isThere: isThere,
-    lettersOf: lettersOf, linesOfPage: linesOfPage, pageOf: pageOf
+    PAGE, hashed, bytesOf, linesWith, targetOf, rowOf, titleOf, titlesOf, titlesOfAll, distinct, isThere, lettersOf,
+    linesOfPage, pageOf
 };

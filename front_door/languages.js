@@ -24,15 +24,15 @@ const isObject = texts.isObject;
 function rangesOf(header) {
     const pieces = header.slice(0, MOST_BYTES).split(',');
     if (header.length > MOST_BYTES) pieces.pop();
-    const texts = pieces.map((piece) => piece.trim()).filter(Boolean).slice(0, MOST_RANGES);
-    return texts.filter((text) => is(RANGE, text)).map((text) => {
+    const ranges = pieces.map((piece) => piece.trim()).filter(Boolean).slice(0, MOST_RANGES);
+    return ranges.filter((text) => is(RANGE, text)).map((text) => {
         const found = RANGE.exec(text);
         return { tag: found[1].toLowerCase(), quality: found[2] === undefined ? 1 : Number(found[2]) };
     });
 }
 
 // Whether a tag such as `de` is another one or the beginning of it, such as `de-AT`. In small letters.
-function covers(tag, other) { return (other + '-').slice(0, tag.length + 1) === tag + '-'; }
+function covers(tag, other) { return (other + '-').startsWith(tag + '-'); }
 
 // The language that a range names: itself, else one that the range covers (`pt-BR` for `pt`), else the longest one that
 // covers the range (`de` for `de-AT`).
@@ -67,7 +67,7 @@ function chosenOf(ranges, languages) {
     ranges.forEach((range) => {
         if (range.quality <= best.quality) return;
         const language = range.tag === '*' ? others[0] : named(range.tag, free);
-        if (language) best = { language: language, quality: range.quality };
+        if (language) best = { language, quality: range.quality };
     });
     return best.language;
 }
@@ -75,7 +75,7 @@ function chosenOf(ranges, languages) {
 // ---------------------------------------------------------------- Words
 // Those of a library, if it has its own, come before those of all.
 function wordsIn(language, library) {
-    const name = 'words_' + (language.indexOf('-') < 0 ? language : language.split('-').join('_'));
+    const name = 'words_' + (language.includes('-') ? language.split('-').join('_') : language);
     return (library && globalThis[name + '__' + library]) || globalThis[name];
 }
 
@@ -92,10 +92,10 @@ function offered(targets, library) {
 }
 
 function isRightToLeft(language) {
-    if (language.indexOf('-') < 0) return LANGUAGES_RTL.indexOf(' ' + language.toLowerCase() + ' ') >= 0;
+    if (!language.includes('-')) return LANGUAGES_RTL.includes(' ' + language.toLowerCase() + ' ');
     const parts = language.toLowerCase().split('-').map((part) => ' ' + part + ' ');
-    return parts.indexOf(' latn ') < 0 && (LANGUAGES_RTL.indexOf(parts[0]) >= 0
-        || parts.slice(1).some((part) => SCRIPTS_RTL.indexOf(part) >= 0));
+    return !parts.includes(' latn ') && (LANGUAGES_RTL.includes(parts[0])
+        || parts.slice(1).some((part) => SCRIPTS_RTL.includes(part)));
 }
 
 // What a language calls itself.
@@ -108,11 +108,11 @@ function nameOf(language, site) {
 // languages.
 function siteIn(targets, header, asked, library) {
     const languages = offered(targets, library);
-    const isChosen = asked !== undefined && languages.indexOf(asked) >= 0;
+    const isChosen = asked !== undefined && languages.includes(asked);
     const language = isChosen ? asked : chosen(header, languages);
-    return { language: language, main: languages[0], dir: isRightToLeft(language) ? 'rtl' : 'ltr',
-        known: Object.create(null), labels: Object.create(null), languages: languages, chosen: isChosen ? asked : '',
-        file: wordsIn(language, library), mainFile: wordsIn(languages[0], library), library: library,
+    return { language, main: languages[0], dir: isRightToLeft(language) ? 'rtl' : 'ltr',
+        known: Object.create(null), labels: Object.create(null), languages, chosen: isChosen ? asked : '',
+        file: wordsIn(language, library), mainFile: wordsIn(languages[0], library), library,
         words: own(targets, 'words'), groups: own(targets, 'groups'), targets: own(targets, 'targets'),
         folder: own(targets, 'folder') };
 }
@@ -139,6 +139,4 @@ function wordOf(name, site) {
         || textAt(own(site.mainFile, name));
 }
 
-export default {
-    chosen: chosen, nameOf: nameOf, siteIn: siteIn, textAt: textAt, textOf: textOf,
-    wordOf: wordOf };
+export default { chosen, nameOf, siteIn, textAt, textOf, wordOf };

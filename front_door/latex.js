@@ -41,7 +41,7 @@ function composed(all, apostrophe, sign, braced, bare, name, bracedToo, bareToo,
     if (escaped !== undefined || apostrophe !== undefined) return escaped || apostrophe;
     if (letters !== undefined) return own(LETTERS, letters);
     const accent = sign || name;
-    if (accent === undefined) return all.charAt(0) === '$' ? all : '';
+    if (accent === undefined) return all.startsWith('$') ? all : '';
     const letter = (braced || bare || bracedToo || bareToo).slice(-1);
     const known = ACCENTS[accent];
     const at = known.indexOf(letter);
@@ -53,7 +53,7 @@ const BRACES = texts.lazy('\\$[^$]*\\$|(?<![$\\\\])\\{([^{}]+)\\}', 'g');
 const MOST_NESTED = 4;
 function withoutBraces(text) {
     let inner = text;
-    for (let i = 0; i < MOST_NESTED && inner.indexOf('{') >= 0; i++) {
+    for (let i = 0; i < MOST_NESTED && inner.includes('{'); i++) {
         const outer = inner;
         inner = texts.replaced(outer, BRACES(), (all, group) => group === undefined ? all : group).trim();
         if (inner === outer) break;
@@ -65,8 +65,8 @@ function withoutBraces(text) {
 const MOST_CHARACTERS = 2000;
 function plain(text) {
     if (text.length > MOST_CHARACTERS) return text;
-    const read = text.indexOf('\\') < 0 ? text : texts.replaced(text, COMMAND(), composed).trim();
+    const read = text.includes('\\') ? texts.replaced(text, COMMAND(), composed).trim() : text;
     return withoutBraces(read);
 }
 
-export default { plain: plain };
+export default { plain };

@@ -17,11 +17,11 @@ const MOST_ROWS = 12;
 const MOST_TITLES = index.PAGE;
 
 // The link of a title: its number, which comes first to count before others, and the request's own pairs.
-function addressOf(it, args, site) {
+function titleAddress(it, args, site) {
     const number = it.numbers[0];
     const pair = (numbers.isIssn(number) ? 'rft.issn=' : 'rft.isbn=') + encodeURIComponent(numbers.standard(number));
-    if (!args) return pages.addressOf('/find', 'rft.genre=' + (it.kind === 'b' ? 'book&' : 'journal&') + pair, site);
-    const isOld = args.indexOf('&') < 0 && args.indexOf(';') >= 0;  // as query.js reads it
+    if (!args) return pages.addressOf('/find', `rft.genre=${it.kind === 'b' ? 'book' : 'journal'}&${pair}`, site);
+    const isOld = !args.includes('&') && args.includes(';');  // as query.js reads it
     return pages.addressOf('/find', pair + (isOld ? ';' : '&') + args, site);
 }
 // What targets have of a title, of all rows or of those for which `isShown` is true.
@@ -29,44 +29,45 @@ function rowsHtml(it, site, isShown) {
     const known = Object.create(null);
     const rows = it.rows.map(index.rowOf).filter(isShown || Boolean).map((row) => {
         const text = coverage.textOf(row, site);
-        return escape(words.labelOf(site, row.target) + (text ? ': ' + text : ''));
+        const label = words.labelOf(site, row.target);
+        return escape(text ? `${label}: ${text}` : label);
     }).filter((text) => {
         const isNew = known[text] !== true;
         known[text] = true;
         return isNew;
     });
-    return rows.length === 0 ? '' : '<ul><li>' + rows.slice(0, MOST_ROWS).join('</li><li>') + '</li></ul>';
+    return rows.length === 0 ? '' : `<ul><li>${rows.slice(0, MOST_ROWS).join('</li><li>')}</li></ul>`;
 }
 function numberText(number, site) { return filled(site, numbers.isIssn(number) ? 'issn' : 'isbn', number); }
 function titleHtml(it, site, args) {
     const listed = it.standard.slice(0, MOST_NUMBERS).map((number) => numberText(number, site)).join(', ');
-    return '<li>' + pages.anchor(addressOf(it, args, site), it.title) + '<p>' + escape(listed) + '</p>'
-        + rowsHtml(it, site) + '</li>';
+    const anchor = pages.anchor(titleAddress(it, args, site), it.title);
+    return `<li>${anchor}<p>${escape(listed)}</p>${rowsHtml(it, site)}</li>`;
 }
 function titlesHtml(titles, site) {
     if (titles.length === 0) return [];
     return ['<ul class="titles">'].concat(titles.map((it) => titleHtml(it, site, '')), ['</ul>']);
 }
-function paragraph(text) { return '<p>' + escape(text) + '</p>'; }
+function paragraph(text) { return `<p>${escape(text)}</p>`; }
 function countText(count, site) { return filled(site, count === 1 ? 'oneTitle' : 'titles', String(count)); }
 
 function searchHtml(kind, text, site) {
-    const language = site.chosen ? '<input type="hidden" name="lang" value="' + site.chosen + '">' : '';
-    return ['<form action="' + PATHS[kind] + '" method="get" class="search">' + language, '<p><label for="q">'
-        + escape(word(site, 'searchField')) + '</label> <input id="q" name="q" maxlength="200" value="'
-        + escape(texts.clean(text)) + '"> <button>' + escape(word(site, 'search')) + '</button></p>', '</form>'];
+    const language = site.chosen ? `<input type="hidden" name="lang" value="${site.chosen}">` : '';
+    const label = `<label for="q">${escape(word(site, 'searchField'))}</label>`;
+    const input = `<input id="q" name="q" maxlength="200" value="${escape(texts.clean(text))}">`;
+    return [`<form action="${PATHS[kind]}" method="get" class="search">${language}`,
+        `<p>${label} ${input} <button>${escape(word(site, 'search'))}</button></p>`, '</form>'];
 }
 // A row of links with a name for those who do not see it.
 function navigation(name, items, site) {
     if (items.length === 0) return [];
-    return ['<nav aria-label="' + escape(word(site, name)) + '">', '<ul class="letters">'].concat(items,
+    return [`<nav aria-label="${escape(word(site, name))}">`, '<ul class="letters">'].concat(items,
         ['</ul>', '</nav>']);
 }
 // A link of such a row. What is shown has none; `current` says what it is, as in aria-current.
 function itemHtml(address, name, current) {
-    const text = current ? '<strong aria-current="' + current + '">' + escape(name) + '</strong>'
-        : pages.anchor(address, name);
-    return '<li>' + text + '</li>';
+    const text = current ? `<strong aria-current="${current}">${escape(name)}</strong>` : pages.anchor(address, name);
+    return `<li>${text}</li>`;
 }
 // The links to the pages before and after one of several.
 function nearHtml(page, count, addressOf, site) {
@@ -95,7 +96,7 @@ function pagesHtml(it, page, addressOf, site) {
         return itemHtml(addressOf(number), name, number === page ? 'page' : '');
     }), site);
 }
-function letterPath(kind, letter, page) { return PATHS[kind] + '/' + encodeURIComponent(letter) + '/' + page; }
+function letterPath(kind, letter, page) { return `${PATHS[kind]}/${encodeURIComponent(letter)}/${page}`; }
 function letterName(letter, site) { return letter === 'other' ? word(site, 'otherLetters') : letter.toUpperCase(); }
 // The letters as links, the one that is shown without.
 function lettersHtml(kind, found, shown, site) {
@@ -114,15 +115,15 @@ function startOf(kind, found, site) {
     const other = kind === 'j' ? 'b' : 'j';
     const link = pages.anchor(pages.addressOf(PATHS[other], '', site), word(site, NAMES[other]));
     return documentOf(kind, word(site, NAMES[kind]), [searchHtml(kind, '', site), lettersHtml(kind, found, '', site),
-        [paragraph(countText(found.count, site)), '<p>' + link + '</p>']], site);
+        [paragraph(countText(found.count, site)), `<p>${link}</p>`]], site);
 }
 // A page of a letter, and the links to the pages around it.
 function letterOf(kind, found, it, page, titles, site) {
     const addressOf = (number) => pages.addressOf(letterPath(kind, it.letter, number), '', site);
     const name = letterName(it.letter, site);
     const place = filled(site, 'pageOf', [String(page), String(it.pages)]);
-    return documentOf(kind, word(site, NAMES[kind]) + ': ' + name, [searchHtml(kind, '', site),
-        lettersHtml(kind, found, it.letter, site), ['<h2>' + escape(name) + '</h2>'],
+    return documentOf(kind, `${word(site, NAMES[kind])}: ${name}`, [searchHtml(kind, '', site),
+        lettersHtml(kind, found, it.letter, site), [`<h2>${escape(name)}</h2>`],
         pagesHtml(it, page, addressOf, site), titlesHtml(titles, site), [paragraph(place)],
         nearHtml(page, it.pages, addressOf, site)], site);
 }
@@ -132,13 +133,13 @@ function searchOf(kind, text, found, site) {
     const args = 'q=' + encodeURIComponent(text);
     const again = pages.addressOf(PATHS[other], args, site);
     const link = pages.anchor(again, filled(site, 'searchIn', word(site, NAMES[other])));
-    const title = word(site, NAMES[kind]) + ': ' + texts.clean(text).slice(0, 100);
+    const title = `${word(site, NAMES[kind])}: ${texts.clean(text).slice(0, 100)}`;
     const near = found === null ? [] : nearHtml(found.page, found.pages, (page) => {
-        return pages.addressOf(PATHS[kind], page === 1 ? args : args + '&page=' + page, site);
+        return pages.addressOf(PATHS[kind], page === 1 ? args : `${args}&page=${page}`, site);
     }, site);
     return documentOf(kind, title, [searchHtml(kind, text, site),
-        ['<p class="nothing" role="status">' + escape(foundText(found, site)) + '</p>'],
-        titlesHtml(found === null ? [] : found.titles, site), near, ['<p>' + link + '</p>']], site);
+        [`<p class="nothing" role="status">${escape(foundText(found, site))}</p>`],
+        titlesHtml(found === null ? [] : found.titles, site), near, [`<p>${link}</p>`]], site);
 }
 // How many titles a search has found, and which of them its page has.
 function foundText(found, site) {
@@ -151,11 +152,10 @@ function foundText(found, site) {
     const shown = found.page === 1 ? [last] : [first, last];
     const name = (found.page === 1 ? 'firstTitles' : 'titlesBetween') + (found.isMore ? 'OfMore' : '');
     const isWhole = !found.isMore && found.pages * MOST_TITLES >= count;
-    return filled(site, name, shown.concat([count]).map(String)) + (isWhole ? '' : ' ' + word(site, 'addWord'));
+    const text = filled(site, name, shown.concat([count]).map(String));
+    return isWhole ? text : `${text} ${word(site, 'addWord')}`;
 }
 // The page of a search that an address names, which is the first one unless it is a number.
 function pageIn(text) { return texts.is(/^[1-9]\d{0,4}$/, text) ? Number(text) : 1; }
 
-export default {
-    titleHtml: titleHtml, rowsHtml: rowsHtml, startOf: startOf, letterOf: letterOf, searchOf: searchOf, pageIn: pageIn
-};
+export default { titleHtml, rowsHtml, startOf, letterOf, searchOf, pageIn };

@@ -27,4 +27,4 @@ function wantedOf(q) {
     return number + ' ' + (is(YEAR, date) ? date.slice(0, 4) : '-');
 }
 
-export default { sourceOf: sourceOf, wantedOf: wantedOf };
+export default { sourceOf, wantedOf };

@@ -90,8 +90,8 @@ async function fetched(address, read) {
 function addressOf(base, q) {
     const doi = q.first('x.doi');
     const pmid = q.first('x.pmid');
-    if (doi !== '') return doi.length > 300 ? '' : base + '/doi?id=' + encodeURIComponent(doi);
-    return is(/^\d{1,9}$/, pmid) ? base + '/pmid?id=' + pmid : '';
+    if (doi !== '') return doi.length > 300 ? '' : `${base}/doi?id=${encodeURIComponent(doi)}`;
+    return is(/^\d{1,9}$/, pmid) ? `${base}/pmid?id=${pmid}` : '';
 }
 
 // Adds to a request what it lacks, if it has a DOI or PubMed number and neither number nor title.
@@ -107,6 +107,7 @@ async function complete(r, q) {
         if (values.length > 0 && !q.has(key)) q.put(key, values);
     });
     if (q.added.rft_val_fmt) q.set('rft_val_fmt', 'info:ofi/fmt:kev:mtx:' + openurl.kindOf(q));
+    openurl.readNumbers(q);
 }
 
-export default { complete: complete, ofCrossref: ofCrossref, ofPubmed: ofPubmed };
+export default { complete };

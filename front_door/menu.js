@@ -24,59 +24,23 @@ function emptyGroups(site) {
         const name = words.textAt(own(named[i], 'name'));
         const label = words.inLanguage(own(named[i], 'label'), site) || name;
         if (name !== '') {
-            groups.push({ name: name, label: label, onlyWithout: own(named[i], 'onlyWithout'), links: [] });
+            groups.push({ name, label, onlyWithout: own(named[i], 'onlyWithout'), links: [] });
         }
     }
     if (groups.length > 0) return groups;
-    const name = word(site, 'group');
-    return [{ name: name, label: name, links: [] }];
+    const only = word(site, 'group');
+    return [{ name: only, label: only, links: [] }];
 }
 
-function linkOf(name, target, url, site) {
-    const link = { target: name, label: words.labelOf(site, name), url: url };
+// A link of program.js as a reader sees it: with the words of targets.json, which edition it is of, if that is not the
+// request's own, and what its target has.
+function linkOf(found, target, site) {
+    const link = { target: found.target, label: words.labelOf(site, found.target), url: found.url };
     const note = words.inLanguage(own(target, 'note'), site);
     if (note !== '') link.note = note;
+    if (found.edition !== null) link.edition = found.edition.join(', ');
+    if (found.row !== null) addCoverage(link, found.row, site);
     return link;
-}
-// All groups of the site with the links of a menu's text. A target without a group is in the first, and one that
-// targets.json does not name in the last, unless there is only one.
-function groupsOf(menu, site) {
-    const groups = emptyGroups(site);
-    const places = Object.create(null);
-    groups.forEach((g) => { if (places[g.name] === undefined) places[g.name] = g; });
-    const more = word(site, 'more') || 'More';
-    const others = site.groups === undefined ? groups[0] : places[more] || { name: more, label: more, links: [] };
-    menu.split('\n').forEach((line) => {
-        const at = line.indexOf('\t');
-        const url = line.slice(at + 1);
-        if (at < 0 || !texts.isWeb(url)) return;
-        const name = line.slice(0, at);
-        const target = own(site.targets, name);
-        const group = target === undefined ? others : places[words.textAt(own(target, 'group'))] || groups[0];
-        group.links.push(linkOf(name, target, url, site));
-    });
-    if (groups.indexOf(others) < 0) groups.push(others);
-    return groups;
-}
-
-// The groups that a reader sees: those with links, except where `onlyWithout` names a group that has some.
-function shownGroups(groups) {
-    const full = groups.filter((g) => g.links.length > 0);
-    const names = full.map((g) => g.name);
-    return full.filter((g) => names.indexOf(g.onlyWithout) < 0).map((g) => {
-        if (g.label === g.name) return { name: g.name, links: g.links };
-        return { name: g.name, label: g.label, links: g.links };
-    });
-}
-
-// Adds to each link which edition it is of, where that is not the first, and what its target has.
-function describe(groups, menus, site) {
-    groups.forEach((g) => { g.links.forEach((link) => {
-        const numbers = menus.editions[link.target];
-        const row = menus.rows[link.target];
-        if (numbers) link.edition = numbers.join(', ');
-        if (row) addCoverage(link, row, site);
-    }); });
 }
 function addCoverage(link, row, site) {
     const data = coverage.dataOf(row);
@@ -84,13 +48,40 @@ function addCoverage(link, row, site) {
     link.coverage = data;
     link.covered = coverage.textOf(row, site);
 }
+// All groups of the site with these links. A target without a group is in the first, and one that targets.json does not
+// name in the last, unless there is only one.
+function groupsOf(links, site) {
+    const groups = emptyGroups(site);
+    const places = Object.create(null);
+    groups.forEach((g) => { if (places[g.name] === undefined) places[g.name] = g; });
+    const more = word(site, 'more') || 'More';
+    const others = site.groups === undefined ? groups[0] : places[more] || { name: more, label: more, links: [] };
+    links.forEach((found) => {
+        if (!texts.isWeb(found.url)) return;
+        const target = own(site.targets, found.target);
+        const group = target === undefined ? others : places[words.textAt(own(target, 'group'))] || groups[0];
+        group.links.push(linkOf(found, target, site));
+    });
+    if (!groups.includes(others)) groups.push(others);
+    return groups;
+}
 
-function noteHtml(note) { return note ? '<p>' + escape(note) + '</p>' : ''; }
-function numberText(number, site) { return filled(site, number.indexOf('-') >= 0 ? 'issn' : 'isbn', number); }
+// The groups that a reader sees: those with links, except where `onlyWithout` names a group that has some.
+function shownGroups(groups) {
+    const full = groups.filter((g) => g.links.length > 0);
+    const names = full.map((g) => g.name);
+    return full.filter((g) => !names.includes(g.onlyWithout)).map((g) => {
+        if (g.label === g.name) return { name: g.name, links: g.links };
+        return { name: g.name, label: g.label, links: g.links };
+    });
+}
+
+function noteHtml(note) { return note ? `<p>${escape(note)}</p>` : ''; }
+function numberText(number, site) { return filled(site, number.includes('-') ? 'issn' : 'isbn', number); }
 function linkHtml(link, site) {
     const edition = link.edition ? filled(site, 'edition', numberText(link.edition, site)) : '';
-    const notes = noteHtml(edition) + noteHtml(link.covered) + noteHtml(link.note);
-    return '<li>' + pages.anchor(link.url, link.label) + notes + '</li>';
+    const anchor = pages.anchor(link.url, link.label);
+    return `<li>${anchor}${noteHtml(edition)}${noteHtml(link.covered)}${noteHtml(link.note)}</li>`;
 }
 
 // The link by which a reader sends the request to the library. `{}` in the library's address is the place of the
@@ -101,17 +92,17 @@ function problemHtml(q, site) {
     const link = word(site, 'problemLink');
     if (q.args === '' || text === '' || !is(PROBLEM_LINK, link)) return '';
     const encoded = encodeURIComponent(q.args);
-    const request = encoded.indexOf("'") < 0 ? encoded : encoded.split("'").join('%27');  // nothing is left to escape
-    return '<p class="problem"><a href="' + escape(link).split('{}').join(request) + '">' + escape(text) + '</a></p>';
+    const request = encoded.includes("'") ? encoded.split("'").join('%27') : encoded;  // nothing is left to escape
+    return `<p class="problem"><a href="${escape(link).split('{}').join(request)}">${escape(text)}</a></p>`;
 }
 
 // What the reader can do with the request: change it, take it along, come back to it.
 function actionsHtml(q, site) {
     if (q.args === '' || q.args.length > MOST_ARGS) return '';
     const args = escape(pages.addressOf('', q.args, site));
-    const link = (path, name) => '<li><a href="' + path + args + '">' + escape(word(site, name)) + '</a></li>\n';
-    return '<ul class="actions">\n' + link('/cite', 'change') + link('/find.ris', 'ris') + link('/find', 'permanent')
-        + '</ul>';
+    const link = (path, name) => `<li><a href="${path}${args}">${escape(word(site, name))}</a></li>`;
+    const links = [link('/cite', 'change'), link('/find.ris', 'ris'), link('/find', 'permanent')];
+    return `<ul class="actions">\n${links.join('\n')}\n</ul>`;
 }
 
 // What is said of a request without full text: only what is certain.
@@ -149,15 +140,15 @@ function noticeHtml(q, groups, site) {
 function completeHtml(q, groups, site) {
     const isShort = hasNotice(q, groups) && q.args.length <= MOST_ARGS;
     if (!isShort || knowledgeOf(q, groups, site) === 'number') return '';
-    return '<h2>' + escape(word(site, 'complete')) + '</h2>\n' + form.formHtml(q, site);
+    return `<h2>${escape(word(site, 'complete'))}</h2>\n${form.formHtml(q, site)}`;
 }
 function foundHtml(q, site) {
     if (!q.byTitle) return '';
-    const text = q.byTitle.title + ', ' + numberText(q.byTitle.standard[0], site);
-    return '<p class="found">' + escape(filled(site, 'byTitle', text)) + '</p>';
+    const text = `${q.byTitle.title}, ${numberText(q.byTitle.standard[0], site)}`;
+    return `<p class="found">${escape(filled(site, 'byTitle', text))}</p>`;
 }
 function listHtml(heading, items) {
-    return '<h2>' + escape(heading) + '</h2>\n<ul>\n' + items.join('\n') + '\n</ul>';
+    return `<h2>${escape(heading)}</h2>\n<ul>\n${items.join('\n')}\n</ul>`;
 }
 function maybeHtml(q, site) {
     if (q.maybe.length === 0) return '';
@@ -168,7 +159,7 @@ function relatedHtml(it, site) {
     const name = it.isLater ? 'later' : 'earlier';
     const key = is(/-/, it.number) ? 'rft.issn=' : 'rft.isbn=';
     const link = pages.anchor(pages.addressOf('/find', key + encodeURIComponent(it.number), site), it.title);
-    return '<p class="related">' + filled(site, name, '\t').split('\t').map(escape).join(link) + '</p>';
+    return `<p class="related">${filled(site, name, '\t').split('\t').map(escape).join(link)}</p>`;
 }
 
 function pageOf(q, groups, site) {
@@ -177,7 +168,7 @@ function pageOf(q, groups, site) {
     const body = [citation.citationHtml(cited, site)];
     const put = (html) => { if (html !== '') body.push(html); };
     put(foundHtml(q, site));
-    if (q.isRetracted) put('<p class="retracted"><strong>' + escape(word(site, 'retracted')) + '</strong></p>');
+    if (q.isRetracted) put(`<p class="retracted"><strong>${escape(word(site, 'retracted'))}</strong></p>`);
     put(noticeHtml(q, groups, site));
     put(maybeHtml(q, site));
     shownGroups(groups).forEach((g) => {
@@ -195,12 +186,11 @@ function dataOf(q, groups, site) {
     const shown = shownGroups(groups);
     shown.forEach((g) => { g.links.forEach((link) => { delete link.covered; }); });
     const data = { citation: citation.citationOf(q, site), groups: shown };
+    if (q.isRetracted) data.retracted = true;
     if (q.maybe.length > 0) {
         data.maybe = q.maybe.map((it) => ({ title: it.title, numbers: it.standard }));
     }
     return data;
 }
 
-export default {
-    groupsOf: groupsOf, shownGroups: shownGroups, describe: describe, pageOf: pageOf, dataOf: dataOf
-};
+export default { groupsOf, shownGroups, pageOf, dataOf };

@@ -34,7 +34,7 @@ function inAscii(char) {
 }
 function ascii(value, most) {
     const text = plain(value, most);
-    if (is(/^[^"\x7f-\uffff]*$/, text)) return text.indexOf('  ') < 0 ? text : texts.clean(text);
+    if (is(/^[^"\x7f-\uffff]*$/, text)) return text.includes('  ') ? texts.clean(text) : text;
     return texts.clean(texts.replaced(texts.replaced(text, QUOTES, ''), FOREIGN, inAscii));
 }
 // `form` finds a number in a text, and `exact` matches one as the standards write it.
@@ -69,11 +69,11 @@ function isRight(digits) {
 function numbersIn(values, kind, count) {
     const found = [];
     const put = (number) => {
-        if (number !== NO_ISSN && found.length < count && found.indexOf(number) < 0) found.push(number);
+        if (number !== NO_ISSN && found.length < count && !found.includes(number)) found.push(number);
     };
     values.forEach((value) => {
         if (is(kind.exact, value)) return put(value);
-        const text = plain(value);
+        const text = ascii(value);
         if (is(kind.form, text)) texts.padded(text).match(kind.form).forEach((it) => {
             put(kind.write(it.split('-').join('').split(' ').join('').toUpperCase()));
         });
@@ -84,7 +84,4 @@ function numbersIn(values, kind, count) {
 function standard(number) { return number.length === 10 ? isbn13(number) : number; }
 function isIssn(number) { return number.length === 9; }
 
-export default {
-    plain: plain, ascii: ascii, isRight: isRight, ISSN: ISSN, ISBN: ISBN, numbersIn: numbersIn, standard: standard,
-    isIssn: isIssn
-};
+export default { plain, ascii, isRight, ISSN, ISBN, numbersIn, standard, isIssn };

@@ -29,11 +29,12 @@ const FINDING = [
     title,        // `title` is a book's, a dissertation's or a journal's
     format,       // a request that does not say its format is a book's or a journal's
     markup,       // titles and names have no tags, entities and commands of LaTeX, and are not encoded twice
-    identifiers   // DOIs, the numbers of arXiv, PubMed, PMC and OCLC, ISSNs and ISBNs are found in any form
+    identifiers,  // DOIs, the numbers of arXiv, PubMed, PMC and OCLC, ISSNs and ISBNs are found in any form
+    readNumbers   // ISSNs and ISBNs are found in their values
 ];
 const WRITING = [
     retraction,      // no title has a remark that the article was retracted, and none that was looked up
-    isxns,           // ISSNs and ISBNs are found in their values, and written as the standards do
+    isxns,           // ISSNs and ISBNs, also those that were looked up, are written as the standards do
     date,            // a date becomes YEAR-MONTH-DAY, YEAR-MONTH or YEAR; its first and last day are x.from and x.to
     volumes.volume,  // volume and issue are numbers without a word, and a supplement of a volume is its issue
     volumes.page,    // first and last page are found in ranges, and the number of an article is its page
@@ -75,16 +76,12 @@ function kindOf(q) {
     return (hasIsbn && !hasIssn) || (q.has('rft.btitle') && !q.has('rft.jtitle')) ? 'book' : 'journal';
 }
 
-// The kinds of title that a request says it wants: `j`, `b`, or '' if it may be either.
+// The kind of title that a request says it wants: `j`, `b`, or '' if it may be either.
 function kindAsked(q) {
-    if (q.kind === undefined) q.kind = kindIn(q);
-    return q.kind;
-}
-function kindIn(q) {
     const kind = own(KINDS, q.first('rft.genre').trim().toLowerCase());
     if (kind) return kind === 'journal' ? 'j' : 'b';
-    const format = (q.given.rft_val_fmt || NONE)[0] || '';
-    const name = format.slice(format.lastIndexOf(':') + 1);
+    const declared = (q.given.rft_val_fmt || NONE)[0] || '';
+    const name = declared.slice(declared.lastIndexOf(':') + 1);
     if (name === 'journal') return 'j';
     if (name === 'book' || name === 'dissertation') return 'b';
     const has = (key) => q.given[key] !== undefined || q.given['rft.' + key] !== undefined;
@@ -127,7 +124,7 @@ function dublinCore(q) {
 const TITLE_KEYS = ['rft.btitle', 'rft.title', 'rft.jtitle'];
 // A reader may have typed the volume and the pages after the title of the journal.
 function cited(q) {
-    const isTitle = q.has('title') && TITLE_KEYS.every((key) => !q.has(key));
+    const isTitle = q.has('title') && TITLE_KEYS.every((other) => !q.has(other));
     const key = q.has('rft.jtitle') ? 'rft.jtitle' : isTitle && kindOf(q) === 'journal' ? 'title' : '';
     const isNumbered = key !== '' && is(/\d/, q.first(key));
     const isArticle = q.has('rft.atitle') || q.has('rft.date') || is(/^article$/i, q.first('rft.genre'));
@@ -202,7 +199,6 @@ const TITLES_PASTED = ['title', 'jtitle', 'btitle', 'atitle'];
 const NOTICE = texts.lazy('^\\W*(?:(?:author|publisher)(?:\'s)? )?(?:errat|corrigend|correction|retract|withdraw'
     + '|expression of|comment|reply|response|addend)', 'i');
 function pasted(q) {
-    q.pasted = NONE;
     TITLES_PASTED.forEach((name) => {
         const key = q.has('rft.' + name) ? 'rft.' + name : name;
         const it = q.has(key) ? identifying.pastedIn(q.first(key)) : null;
@@ -261,18 +257,16 @@ function numbersUnder(q, key, other, kind, most) {
     if (!q.has(key) && !q.has(other)) return NONE;
     return numbers.numbersIn(q.has(other) ? q.all(key).concat(q.all(other)) : q.all(key), kind, most);
 }
-// Whether a request has a number before the rules of WRITING. What was read is kept for them if nothing is added.
-function hasNumber(q) {
-    q.issnsRead = issnsOf(q);
+function readNumbers(q) {
+    q.issns = issnsOf(q);
     q.isbns = isbnsOf(q);
-    return q.issnsRead.length > 0 || q.isbns.length > 0;
 }
+// Whether a request had a number when its numbers were last read.
+function hasNumber(q) { return q.issns.length > 0 || q.isbns.length > 0; }
 function isxns(q) {
-    const isRead = q.issnsRead && (q.issnsRead.length > 0 || q.isbns.length > 0);
-    const issns = isRead ? q.issnsRead : issnsOf(q);
-    if (!isRead) q.isbns = isbnsOf(q);
-    leadNumber(q, 'issn', issns[0]);
-    leadNumber(q, 'eissn', issns[1]);
+    if (!hasNumber(q)) readNumbers(q);
+    leadNumber(q, 'issn', q.issns[0]);
+    leadNumber(q, 'eissn', q.issns[1]);
     leadNumber(q, 'isbn', q.isbns[0]);
 }
 function leadNumber(q, name, number) {
@@ -320,6 +314,5 @@ function requestOf(args) { return requestText(queryOf(args)); }
 function anyOf(args) { return anyText(queryOf(args)); }
 
 export default {
-    begun: begun, finish: finish, queryOf: queryOf, kindOf: kindOf, kindAsked: kindAsked, hasNumber: hasNumber,
-    ROW_KEYS: ROW_KEYS, requestText: requestText, anyText: anyText, requestOf: requestOf, anyOf: anyOf
+    begun, finish, queryOf, kindOf, kindAsked, readNumbers, hasNumber, ROW_KEYS, requestText, anyText, requestOf, anyOf
 };

@@ -15,25 +15,25 @@ const word = words.word;
 const MOST_ARGS = 3000;
 const LOGO = /^[\w-]{1,60}\.(?:svg|png|jpg|gif|webp)$/;
 
-function anchor(url, text) { return '<a href="' + escape(url) + '">' + escape(text) + '</a>'; }
-function notice(name, site) { return '<p class="nothing">' + escape(word(site, name)) + '</p>'; }
+function anchor(url, text) { return `<a href="${escape(url)}">${escape(text)}</a>`; }
+function notice(name, site) { return `<p class="nothing">${escape(word(site, name))}</p>`; }
 // An address of the site, which keeps the language that the reader has chosen.
 function addressOf(path, args, site) {
-    if (!site.chosen) return args ? path + '?' + args : path;
-    return path + '?' + (args ? args + '&' : '') + 'lang=' + site.chosen;
+    if (!site.chosen) return args ? `${path}?${args}` : path;
+    return `${path}?${args ? args + '&' : ''}lang=${site.chosen}`;
 }
 
 function headerHtml(library, site) {
     const logo = word(site, 'logo');
-    const image = logo !== '' && is(LOGO, logo) ? '<img src="/' + logo + '" alt=""> ' : '';
-    return library || image ? '<header><p>' + image + escape(library) + '</p></header>\n' : '';
+    const image = logo !== '' && is(LOGO, logo) ? `<img src="/${logo}" alt=""> ` : '';
+    return library || image ? `<header><p>${image}${escape(library)}</p></header>\n` : '';
 }
 
 function addHelp(items, site) {
     const help = word(site, 'help');
     if (help === '') return;
     const link = word(site, 'helpLink');
-    items.push('<li class="help">' + (isWeb(link) ? anchor(link, help) : escape(help)) + '</li>');
+    items.push(`<li class="help">${isWeb(link) ? anchor(link, help) : escape(help)}</li>`);
 }
 // The links of the library, such as its imprint. A preloaded array has no methods.
 function addLinks(items, site) {
@@ -42,23 +42,23 @@ function addLinks(items, site) {
         const it = list[i];
         const label = words.inLanguage(own(it, 'label'), site);
         const url = words.inLanguage(own(it, 'url'), site);
-        if (label !== '' && isWeb(url)) items.push('<li>' + anchor(url, label) + '</li>');
+        if (label !== '' && isWeb(url)) items.push(`<li>${anchor(url, label)}</li>`);
     }
 }
 // The same page in the other languages. A page of an error has no address of its own, but it leads to those that have.
 function addLanguages(items, site) {
     if (!site.path || site.languages.length < 2 || site.args.length > MOST_ARGS) return;
-    const address = escape(site.path + '?' + (site.args === '' ? '' : site.args + '&') + 'lang=');
+    const address = escape(`${site.path}?${site.args === '' ? '' : site.args + '&'}lang=`);
     site.languages.forEach((language) => {
         if (language === site.language) return;
-        items.push('<li><a href="' + address + language + '" hreflang="' + language + '" lang="' + language + '">'
-            + escape(languages.nameOf(language, site)) + '</a></li>');
+        const name = escape(languages.nameOf(language, site));
+        items.push(`<li><a href="${address}${language}" hreflang="${language}" lang="${language}">${name}</a></li>`);
     });
 }
 function footerHtml(site) {
     const items = [];
     const add = (path, name) => {
-        items.push('<li><a href="' + addressOf(path, '', site) + '">' + escape(word(site, name)) + '</a></li>');
+        items.push(`<li><a href="${addressOf(path, '', site)}">${escape(word(site, name))}</a></li>`);
     };
     if (!site.isForStaff) add('/find', 'form');
     if (!site.isForStaff && site.hasList) {
@@ -68,19 +68,29 @@ function footerHtml(site) {
     addHelp(items, site);
     addLinks(items, site);
     addLanguages(items, site);
-    return items.length > 0 ? '<footer>\n<ul>\n' + items.join('\n') + '\n</ul>\n</footer>\n' : '';
+    return items.length > 0 ? `<footer>\n<ul>\n${items.join('\n')}\n</ul>\n</footer>\n` : '';
 }
 
 // Characters that HTML may not hold; those of requests are gone before, those of the library's own texts go here.
 const CONTROLS = /[\u0000-\u0009\u000b-\u001f\u007f-\u009f\u2028\u2029\ufdd0-\ufdef\ufffe\uffff]/g;
 function documentOf(title, heading, body, site) {
     const library = word(site, 'library');
-    const text = '<!DOCTYPE html>\n<html lang="' + site.language + '" dir="' + site.dir + '">\n<head>\n'
-        + '<meta charset="utf-8">\n<meta name="viewport" content="width=device-width, initial-scale=1">\n'
-        + '<title>' + escape(library === '' ? title : title + ' – ' + library) + '</title>\n'
-        + '<link rel="stylesheet" href="/menu.css">\n</head>\n<body>\n' + headerHtml(library, site)
-        + '<main>\n<h1>' + escape(heading) + '</h1>\n' + body.join('\n') + '\n</main>\n' + footerHtml(site)
-        + '</body>\n</html>\n';
+    const text = `<!DOCTYPE html>
+<html lang="${site.language}" dir="${site.dir}">
+<head>
+<meta charset="utf-8">
+<meta name="viewport" content="width=device-width, initial-scale=1">
+<title>${escape(library === '' ? title : `${title} – ${library}`)}</title>
+<link rel="stylesheet" href="/menu.css">
+</head>
+<body>
+${headerHtml(library, site)}<main>
+<h1>${escape(heading)}</h1>
+${body.join('\n')}
+</main>
+${footerHtml(site)}</body>
+</html>
+`;
     return is(CONTROLS, text) ? texts.replaced(text, CONTROLS, ' ') : text;
 }
 
@@ -91,9 +101,9 @@ function faultHtml(status, site) { return notice(faultName(status), site); }
 const MOST_DOI = 300;
 function doiHtml(doi, site) {
     if (!doi || doi.length > MOST_DOI) return [];
-    const link = anchor('https://doi.org/' + encodeURIComponent(doi).split('%2F').join('/'), 'doi.org/' + doi);
+    const link = anchor(`https://doi.org/${encodeURIComponent(doi).split('%2F').join('/')}`, `doi.org/${doi}`);
     const text = words.filled(site, 'byDoi', '\t').split('\t').map(escape);
-    return ['<p>' + (text.length > 1 ? text.join(link) : link) + '</p>'];
+    return [`<p>${text.length > 1 ? text.join(link) : link}</p>`];
 }
 // The page of an error, for a request that may have a DOI.
 function faultOf(status, site, doi) {
@@ -101,7 +111,4 @@ function faultOf(status, site, doi) {
     return documentOf(title, title, [faultHtml(status, site)].concat(doiHtml(doi, site)), site);
 }
 
-export default {
-    MOST_ARGS: MOST_ARGS, anchor: anchor, notice: notice, addressOf: addressOf, documentOf: documentOf,
-    faultHtml: faultHtml, faultOf: faultOf
-};
+export default { MOST_ARGS, anchor, notice, addressOf, documentOf, faultHtml, faultOf };

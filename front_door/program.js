@@ -1,16 +1,17 @@
-// The program's replies: subrequests to its processes, and menus and reports of both queries joined. text.js says in
+// The program's replies: subrequests to its processes, and the menus and reports of all queries joined. text.js says in
 // which njs it runs.
 import index from './index.js';
 import openurl from './openurl.js';
 import texts from './text.js';
 
 const is = texts.is;
+const LINK = /^([^\t]+)\tlink (\d+)$/;  // a line of a report
 
 // The status and text of a reply of the program, and the address of the process that gave it. A process that ends while
 // it writes leaves a reply that is shorter than its head says, which nginx gives as status 200: it counts as no reply,
 // since a page without links would be wrong.
 async function replyOf(r, place, args) {
-    const reply = await r.subrequest(place, { args: args });
+    const reply = await r.subrequest(place, { args });
     const bytes = reply.responseBuffer || Buffer.from('');
     const isWhole = reply.status !== 200 || reply.headersOut['Content-Length'] === String(bytes.length);
     return {
@@ -54,27 +55,28 @@ async function repliesOfOne(r, place, queries) {
 async function askAll(r, place, queries) {
     let replies = await repliesOfOne(r, place, queries);
     if (replies.slice(1).some(isLost)) replies = await repliesOfOne(r, place, queries);
-    const others = replies.map((reply) => reply.status).filter((status) => status !== 200);
+    const others = replies.map((reply) => reply.status).filter((one) => one !== 200);
     const status = others.length === 0 ? 200 : others.reduce((a, b) => Math.max(a, b));
-    return { queries: queries, status: status, texts: replies.map((reply) => reply.text) };
+    return { queries, status, texts: replies.map((reply) => reply.text) };
 }
 
 function nameOf(line) { return line.slice(0, line.indexOf('\t')); }
 function linesOf(text) { return text.split('\n').filter((line) => line.indexOf('\t') > 0); }
-// All menus in one, and for each target in which of them it comes first: it is not taken again from another menu, nor
-// from another part of its table.
+// The links of all menus in their order. Each target has the first one of its parts. `source` is the number of the
+// menu that has it, `row` what the target has of the title, and `edition` the numbers of an edition that is not the
+// request's own: null as long as they are not known.
 function joined(menus) {
-    const sources = Object.create(null);
-    const lines = [];
-    menus.forEach((menu, i) => { menu.split('\n').forEach((line) => {
+    const links = [];
+    const known = Object.create(null);
+    menus.forEach((menu, source) => { menu.split('\n').forEach((line) => {
         const at = line.indexOf('\t');
         if (at <= 0) return;
-        const name = texts.targetOf(line.slice(0, at));
-        if (sources[name] !== undefined) return;
-        sources[name] = i;
-        lines.push(name + line.slice(at));
+        const target = texts.targetOf(line.slice(0, at));
+        if (known[target] === true) return;
+        known[target] = true;
+        links.push({ target, url: line.slice(at + 1), row: null, edition: null, source });
     }); });
-    return { text: lines.join('\n'), sources: sources };
+    return links;
 }
 
 function isLink(reason) { return is(/^link /, reason); }
@@ -91,11 +93,11 @@ function reasonsOf(reports) {
         const reasons = all.map((report) => report[name] || '');
         const links = reasons.map(isLink).indexOf(true);
         const rows = reasons.map((reason) => reason !== 'no row' && reason !== '').indexOf(true);
-        return { name: name, reasons: reasons, used: links >= 0 ? links : Math.max(rows, 0) };
+        return { name, reasons, used: links >= 0 ? links : Math.max(rows, 0) };
     });
 }
 function joinedReports(reports) {
-    return reasonsOf(reports).map((it) => it.name + '\t' + it.reasons[it.used] + '\n').join('');
+    return reasonsOf(reports).map((it) => `${it.name}\t${it.reasons[it.used]}\n`).join('');
 }
 
 // The entries of the titles' rows, by target.
@@ -104,51 +106,49 @@ function entriesOf(q) {
     q.titles.forEach((it) => { it.rows.forEach((entry) => {
         const name = index.targetOf(entry);
         if (entries[name] === undefined) entries[name] = [entry];
-        else if (entries[name].indexOf(entry) < 0) entries[name].push(entry);
+        else if (!entries[name].includes(entry)) entries[name].push(entry);
     }); });
     return entries;
 }
-// The row of each target's link, if the index has the title. The report says which, where a target has several rows.
-async function rowsOf(r, q, queries, sources) {
-    const rows = Object.create(null);
+// Adds its row to each link, if the index has the title. The report says which, where a target has several rows.
+async function addRows(r, q, queries, links) {
     const entries = entriesOf(q);
-    const open = Object.keys(sources).filter((name) => {
-        if (entries[name] === undefined) return false;
-        if (entries[name].length === 1) rows[name] = index.rowOf(entries[name][0]);
-        return entries[name].length > 1;
+    const open = links.filter((link) => {
+        const all = entries[link.target];
+        if (all !== undefined && all.length === 1) link.row = index.rowOf(all[0]);
+        return all !== undefined && all.length > 1;
     });
-    if (open.length === 0) return rows;
-    const places = open.map((name) => sources[name]).filter((it, i, all) => all.indexOf(it) === i);
-    const reports = await Promise.all(places.map((i) => reportOf(r, queries[i])));
-    reports.forEach((reply, i) => { linesOf(reply.text).forEach((line) => {
-        const found = /^([^\t]+)\tlink (\d+)$/.exec(line);
-        const name = found === null ? '' : texts.targetOf(found[1]);
-        if (open.indexOf(name) < 0 || sources[name] !== places[i] || name in rows) return;
-        rows[name] = entries[name].map(index.rowOf).filter((row) => row.part === found[1] && row.row === found[2])[0];
-    }); });
-    return rows;
+    if (open.length === 0) return;
+    const sources = open.map((link) => link.source).filter((it, i, all) => all.indexOf(it) === i);
+    const reports = await Promise.all(sources.map((source) => reportOf(r, queries[source])));
+    reports.forEach((reply, i) => {
+        const lines = linesOf(reply.text).map((line) => LINK.exec(line)).filter(Boolean);
+        open.filter((link) => link.source === sources[i]).forEach((link) => {
+            const found = lines.find((it) => texts.targetOf(it[1]) === link.target);
+            if (found !== undefined) link.row = rowNamed(entries[link.target], found[1], found[2]);
+        });
+    });
 }
-// The numbers of the targets' links that are not of the request's own edition.
-function editionsOf(q, sources) {
-    const editions = Object.create(null);
-    if (q.further.length > 0) Object.keys(sources).forEach((name) => {
-        const further = q.further[sources[name] - 1];
-        if (further && further.numbers[0] !== q.first('x.isbn')) editions[name] = further.numbers;
+function rowNamed(entries, part, number) {
+    return entries.map(index.rowOf).find((row) => row.part === part && row.row === number) || null;
+}
+// Adds the numbers of its edition to each link that is not of the request's own.
+function addEditions(q, links) {
+    if (q.further.length > 0) links.forEach((link) => {
+        const further = q.further[link.source - 1];
+        if (further && further.numbers[0] !== q.first('x.isbn')) link.edition = further.numbers;
     });
-    return editions;
 }
 async function menusOf(r, q) {
     const queries = queriesOf(q);
     const replies = await askAll(r, '/_menu', queries);
     if (replies.status !== 200) return { status: replies.status };
-    const menu = joined(replies.texts);
-    const rows = await rowsOf(r, q, queries, menu.sources);
-    return { status: 200, text: menu.text, rows: rows, editions: editionsOf(q, menu.sources) };
+    const links = joined(replies.texts);
+    await addRows(r, q, queries, links);
+    addEditions(q, links);
+    return { status: 200, links };
 }
 
 function faultStatus(replies) { return replies.status >= 400 && replies.status < 500 ? 400 : 503; }
 
-export default {
-    queriesOf: queriesOf, askAll: askAll, menusOf: menusOf, joined: joined, reasonsOf: reasonsOf,
-    joinedReports: joinedReports, faultStatus: faultStatus
-};
+export default { queriesOf, askAll, menusOf, joined, reasonsOf, joinedReports, faultStatus };

@@ -32,13 +32,13 @@ const COLUMNS = ' ' + ('publication_title print_identifier online_identifier dat
 const NUMBER_KEYS = ' rft.issn rft.eissn rft.isbn issn eissn isbn ';
 const OF_OPENURL = /^(?:rf[ter]|ctx|url|req|svc)_/;
 function isColumn(key) {
-    return (key.indexOf('_') >= 0 || key === 'notes') && !is(OF_OPENURL, key)
+    return (key.includes('_') || key === 'notes') && !is(OF_OPENURL, key)
         && (isIn(COLUMNS, key) || isIn(ADDED_COLUMNS, key));
 }
 function isDropped(key, value) {
-    return value.trim() === '' || key.slice(0, 2) === 'x.' || isColumn(key)
+    return value.trim() === '' || key.startsWith('x.') || isColumn(key)
         || (key === 'rft_id' && is(PREFIX, value))
-        || (key.slice(-1) === 'n' && isIn(NUMBER_KEYS, key) && is(ANY, value));
+        || (key.endsWith('n') && isIn(NUMBER_KEYS, key) && is(ANY, value));
 }
 
 // The keys of OpenURL 0.1, and those that it shares with 1.0 behind `rft.`; then all others that a rule reads.
@@ -47,16 +47,16 @@ const OLD_KEYS = ['genre', 'issn', 'eissn', 'isbn', 'eisbn', 'volume', 'issue', 
     'part', 'ssn', 'quarter', 'sici', 'coden'];
 const OTHER_KEYS = ' title sid pid id doi pmid pmcid number identifier creator source type ctx_ver ctx_enc url_ver '
     + 'url_ctx_fmt rft_id rft_dat rft_val_fmt rfr_id ';
-function isIn(names, key) { return names.indexOf(' ' + key + ' ') >= 0 && key.indexOf(' ') < 0; }
+function isIn(names, key) { return names.includes(' ' + key + ' ') && !key.includes(' '); }
 function isKey(key) {
-    const name = key.slice(0, 4) === 'rft.' ? key.slice(4) : key;
-    return OLD_KEYS.indexOf(name) >= 0 || isIn(OTHER_KEYS, name);
+    const name = key.startsWith('rft.') ? key.slice(4) : key;
+    return OLD_KEYS.includes(name) || isIn(OTHER_KEYS, name);
 }
 
 // A base URL may end with a question mark, or with a query of its own, before the source adds another one.
 const SECOND_QUERY = /^((?:[\w.]+=[\w.:-]*&)*[\w.]+=[\w.:-]*)\?+([\w.]+)(?==)/;
 function withoutBase(args) {
-    const text = args.charAt(0) === '?' ? args.replace(/^\?+/, '') : args;
+    const text = args.startsWith('?') ? args.replace(/^\?+/, '') : args;
     const isSecond = text.indexOf('?') > 0 && is(SECOND_QUERY, text.slice(0, 500));
     const found = isSecond ? SECOND_QUERY.exec(text) : null;
     if (found === null || !isKey(found[2].toLowerCase())) return text;
@@ -69,12 +69,12 @@ const ENTITY = /^(?:[a-z]{2,8}\d{0,2}|#\d{1,7}|#x[\da-f]{1,6});/i;
 const PAIR = /^(?:amp;)*[\w.?]+=/i;
 const TITLED = texts.lazy('^(?:rft\\.)?(?:[abjs]?title|au|aulast|aufirst|aucorp|source|creator)=', 'i');
 function isText(piece) {
-    return piece.indexOf('=') < 0 && (piece.indexOf('+') >= 0 || piece.indexOf('%20') >= 0);
+    return !piece.includes('=') && (piece.includes('+') || piece.includes('%20'));
 }
 function piecesOf(args) {
-    const isOld = args.indexOf('&') < 0 && args.indexOf(';') >= 0;
+    const isOld = !args.includes('&') && args.includes(';');
     const pieces = (isOld ? args.replace(/;(?=[\w.]+=)/g, '&') : args).split('&');
-    const hasEntities = args.indexOf('&') >= 0 && args.indexOf(';') >= 0;
+    const hasEntities = args.includes('&') && args.includes(';');
     if (!hasEntities && !pieces.some(isText)) return pieces;
     const joined = [];
     let count = 0;
@@ -88,21 +88,31 @@ function piecesOf(args) {
     return joined;
 }
 
-// `args` is the request as it was sent, `pairs` its pairs, `given` their values by key, `added` the values that the
-// rules put before them, `addedKeys` the keys of these in their order, `isbns` all ISBNs. Each pair is read once.
+// All that is known of a request; no other file adds a field. Each pair is read once.
 function Query(args) {
-    this.args = args;
-    this.pairs = [];
-    this.given = Object.create(null);
-    this.added = Object.create(null);
-    this.addedKeys = [];
-    this.copied = Object.create(null);
-    this.encoded = Object.create(null);
-    this.isbns = NONE;
-    this.encoding = encodings.declaredIn(args);
-    this.decodedTexts = 0;
+    this.args = args;                             // the request as it was sent
+    this.encoding = encodings.declaredIn(args);   // the one that the request declares
+    this.decodedTexts = 0;                        // how many texts were in another encoding than UTF-8
+    this.pairs = [];                              // the pairs as they are sent on, each a key and a text
+    this.given = Object.create(null);             // their values by key
+    this.added = Object.create(null);             // the values that rules put before them, by key
+    this.addedKeys = [];                          // the keys of these in their order
+    this.copied = Object.create(null);            // the keys whose values a rule has put under another one
+    this.encoded = Object.create(null);           // the pairs of added values as text, by key
+    // What the rules of openurl.js have read:
+    this.pasted = NONE;                           // the identifiers in the fields of titles
+    this.issns = NONE;                            // the ISSNs, as the standard writes them, at most two
+    this.isbns = NONE;                            // the ISBNs, with thirteen digits
+    this.isRetracted = false;                     // whether a title had the remark that the article was retracted
+    // What completion.js knows by the index:
+    this.kind = '';                               // the kind of title that the request wants: `j`, `b`, '' for either
+    this.byTitle = null;                          // the title that gave the request its number
+    this.titles = NONE;                           // the titles of its numbers
+    this.further = NONE;                          // queries with other numbers of these titles
+    this.maybe = NONE;                            // the titles that it may mean
+    this.knowledge = 'nothing';                   // what is certain of it, as knowledgeOf says
     const pieces = piecesOf(withoutBase(args));
-    const isEscaped = args.indexOf(';') >= 0;
+    const isEscaped = args.includes(';');
     for (let i = 0, count = 0; i < pieces.length && count < MOST_PAIRS; i++) {
         let piece = pieces[i];
         while (isEscaped && piece.slice(0, 4).toLowerCase() === 'amp;') piece = piece.slice(4);
@@ -113,8 +123,8 @@ function Query(args) {
 // In the encoding that the request declares. A text that is not UTF-8, though it should be, is read as windows-1252; it
 // is '' if the encoding is unknown. A '%' of no escape is a '%'.
 Query.prototype.decode = function (raw) {
-    const text = raw.indexOf('+') < 0 ? raw : raw.split('+').join(' ');
-    if (text.indexOf('%') < 0) return text;
+    const text = raw.includes('+') ? raw.split('+').join(' ') : raw;
+    if (!text.includes('%')) return text;
     const isUnicode = this.encoding === '' || this.encoding === 'unicode' || this.encoding === 'unknown';
     if (isUnicode || !is(HIGH, raw)) {
         try {
@@ -128,7 +138,7 @@ Query.prototype.decode = function (raw) {
 
 // A key of OpenURL in small letters, however it is written.
 function nameOf(text) {
-    const name = text.charAt(0) === '?' ? text.replace(/^\?+/, '') : text;
+    const name = text.startsWith('?') ? text.replace(/^\?+/, '') : text;
     const small = name.toLowerCase();
     return small !== name && isKey(small) ? small : name;
 }
@@ -141,7 +151,7 @@ Query.prototype.read = function (raw) {
     if (at < 0 || at === raw.length - 1) return false;
     if (is(USUAL, raw)) {
         const text = raw.slice(at + 1);
-        this.keep(raw.slice(0, at), text.indexOf('+') < 0 ? text : text.split('+').join(' '), raw);
+        this.keep(raw.slice(0, at), text.includes('+') ? text.split('+').join(' ') : text, raw);
         return true;
     }
     const before = this.decodedTexts;
@@ -155,7 +165,7 @@ Query.prototype.read = function (raw) {
     return true;
 };
 Query.prototype.keep = function (key, value, text) {
-    this.pairs.push({ key: key, text: text });
+    this.pairs.push({ key, text });
     if (this.given[key] === undefined) this.given[key] = [value];
     else this.given[key].push(value);
 };
@@ -200,9 +210,9 @@ Query.prototype.set = function (key, value) {
 function encodedOf(q, key) {
     const known = q.encoded[key];
     if (known !== undefined && known.values === q.added[key]) return known.texts;
-    const texts = q.added[key].map((value) => key + '=' + encode(value));
-    q.encoded[key] = { values: q.added[key], texts: texts };
-    return texts;
+    const written = q.added[key].map((value) => key + '=' + encode(value));
+    q.encoded[key] = { values: q.added[key], texts: written };
+    return written;
 }
 
 // The query as text, with `first` before it and without the keys of `omitted`. If it is too long, those pairs are left
@@ -230,4 +240,4 @@ Query.prototype.parts = function (first, omitted, isShort) {
     return parts;
 };
 
-export default { Query: Query, OLD_KEYS: OLD_KEYS, NONE: NONE };
+export default { Query, OLD_KEYS, NONE };

@@ -123,4 +123,4 @@ function partsOf(value, isTitle) {
     return withYear(parts, text);
 }
 
-export default { partsOf: partsOf };
+export default { partsOf };

@@ -18,7 +18,7 @@ const LAST = texts.lazy('\\s{0,3}[.:;,\u2013\u2014-]\\s{0,3}RETRACTED(?: ARTICLE
 
 // The title without such a remark; the same text if it has none.
 function withoutRemark(title) {
-    if (title.indexOf('etracted') < 0 && title.indexOf('ETRACTED') < 0) return title;
+    if (!title.includes('etracted') && !title.includes('ETRACTED')) return title;
     let text = title;
     const first = text.slice(0, MOST_CHARACTERS);
     if (is(BEFORE(), first)) {
@@ -32,4 +32,4 @@ function withoutRemark(title) {
     if (is(form, last)) text = text.slice(0, text.length - form.exec(last)[0].length);
     return text.trim() === '' ? title : text;
 }
-export default { withoutRemark: withoutRemark };
+export default { withoutRemark };

@@ -17,12 +17,12 @@ const MOST_CHECKS = 2000;   // places of the rarest word
 function setOf(bytes, length, cells) {
     const count = Number(cells[1]);
     const at = length + Number(cells[2].slice(1));
-    if (cells[2].charAt(0) === '@') return { count: count, bytes: bytes.slice(at, at + 4 * count) };
-    return { count: count, bits: bytes.slice(at) };
+    if (cells[2].startsWith('@')) return { count, bytes: bytes.slice(at, at + 4 * count) };
+    return { count, bits: bytes.slice(at) };
 }
 async function placesOf(r, kind, word, digits) {
     const beginning = word.slice(0, 3);
-    const bytes = await index.bytesOf(r, 'words/' + kind + '/' + index.hashed(beginning, digits));
+    const bytes = await index.bytesOf(r, `words/${kind}/${index.hashed(beginning, digits)}`);
     if (bytes.length === 0) return { count: 0, list: NONE };
     const length = Number(bytes.slice(0, bytes.indexOf('\n')).toString());
     const lines = index.linesWith(bytes.slice(0, length), word.length < 3 ? word + '\t' : word, MOST_FEW);
@@ -30,7 +30,7 @@ async function placesOf(r, kind, word, digits) {
     const places = Object.create(null);
     lines.forEach((cells) => { cells[2].split(' ').forEach((place) => { places[place] = true; }); });
     const list = Object.keys(places).map(Number).sort((a, b) => a - b);
-    return { count: list.length, list: list, has: places };
+    return { count: list.length, list, has: places };
 }
 function hasPlace(set, place) {
     if (set.list) return set.has !== undefined && set.has[place] === true;
@@ -91,11 +91,11 @@ async function firstPlace(list, low, high, isBefore) {
 // has this key first, since each letter is in the order of its keys.
 async function placesWith(list, key, letters, most) {
     const name = is(/^[0-9]/, key) ? '0-9' : key.charAt(0);
-    const it = letters.filter((one) => one.letter === name)[0] || letters.filter((one) => one.letter === 'other')[0];
+    const it = letters.find((one) => one.letter === name) || letters.find((one) => one.letter === 'other');
     if (it === undefined) return NONE;
     const end = (it.page + it.pages) * PAGE;
     const first = await firstPlace(list, it.page * PAGE, end, (other) => other < key);
-    const isWith = (other) => other.slice(0, key.length) === key;
+    const isWith = (other) => other.startsWith(key);
     const last = await firstPlace(list, first, Math.min(first + most, end), isWith);
     const places = [];
     for (let place = first; place < last; place++) places.push(place);
@@ -106,7 +106,7 @@ async function placesWith(list, key, letters, most) {
 function partOf(all, asked) {
     const pages = Math.max(1, Math.ceil(all.length / PAGE));
     const page = Math.min(asked, pages);
-    return { page: page, pages: pages, its: all.slice((page - 1) * PAGE, page * PAGE) };
+    return { page, pages, its: all.slice((page - 1) * PAGE, page * PAGE) };
 }
 // A page of the titles that have all words of a text, or a number in it: at most fifty, and how many there are in all:
 // `isMore` if only the first of the rarest word's were looked at. Null if the text has neither.
@@ -114,9 +114,9 @@ async function search(r, kind, text, page) {
     const found = numbers.numbersIn([text], numbers.ISSN, 2).concat(numbers.numbersIn([text], numbers.ISBN, 2));
     if (found.length > 0) {
         const all = await index.titlesOfAll(r, found);
-        const list = all.filter((it) => it.kind === kind);
-        const part = partOf(list, page);
-        return { titles: part.its, page: part.page, pages: part.pages, count: list.length, isMore: false };
+        const ofKind = all.filter((it) => it.kind === kind);
+        const part = partOf(ofKind, page);
+        return { titles: part.its, page: part.page, pages: part.pages, count: ofKind.length, isMore: false };
     }
     const words = titles.wordsOf(text);
     const sought = words.filter((word, i) => word.length > 1 && words.indexOf(word) === i).slice(0, MOST_WORDS);
@@ -124,7 +124,7 @@ async function search(r, kind, text, page) {
     const letters = await index.lettersOf(r, kind);
     if (letters === null) return { titles: NONE, page: 1, pages: 1, count: 0, isMore: false };
     const sets = await Promise.all(sought.map((word) => placesOf(r, kind, word, letters.digits)));
-    const list = { r: r, kind: kind, known: Object.create(null) };
+    const list = { r, kind, known: Object.create(null) };
     return joined(list, words.join(' '), letters.letters, sets, page);
 }
 // The titles that begin with the text come first, and all others in the order of the list.
@@ -140,7 +140,7 @@ async function joined(list, key, letters, sets, page) {
     const its = await titlesAt(list, part.its);
     const isMore = others.length > 0 && rare.count > checked.length;
     const count = others.length === 0 ? rare.count : places.length;
-    return { titles: its, page: part.page, pages: part.pages, count: count, isMore: isMore };
+    return { titles: its, page: part.page, pages: part.pages, count, isMore };
 }
 
-export default { search: search };
+export default { search };

@@ -1,10 +1,18 @@
 // Text of requests and files: what every other file of the module takes from here.
 //
-// The module runs in njs 0.7.9 and later. That version lacks for-of, destructuring, spread, default parameters and
-// classes. It frees no memory before the reply is sent, and `test`, `exec`, `match` and `replace` take 5 KB where
-// nothing matches, but `search` takes none: so it goes first. A function expression in an array literal turns its
-// index into a text, and `await` in arguments is no syntax. A preloaded array has no methods. Each use of a regular
-// expression costs 10 microseconds, however short the text, so what every request passes has few.
+// The module runs in njs 0.7.9 and later. That version lacks for-of, destructuring, spread, default parameters,
+// classes, generators, `?.`, `??=`, `catch` without a name, the flags `s` and `u`, Set and Map, and of the methods
+// `at`, `flat`, `flatMap`, `from`, `fromEntries`, `matchAll`, `normalize` and `replaceAll`. It has `{ a, b }`, template
+// literals, rest parameters, `??`, `**`, `includes`, `startsWith`, `padStart`, `find` and `Object.entries`.
+//
+// It frees no memory before the reply is sent, and `test`, `exec`, `match` and `replace` take 5 KB where nothing
+// matches, but `search` takes none: so it goes first. A function expression in an array literal, or under a number in
+// an object, turns that number into a text in all files: after `[(x) => x]`, `0 + 1` is '01'. `await` in arguments is
+// no syntax. A preloaded array has no methods. Each use of a regular expression costs 10 microseconds, however short
+// the text, so what every request passes has few.
+//
+// HTML and other texts with several parts are template literals. `+` adds to one end of a text; it joins short texts of
+// which a request may have hundreds, such as keys, and the sources of regular expressions.
 
 // What a value of JSON has under a key, and nothing that every object inherits: functions, and `__proto__`.
 function own(object, key) {
@@ -33,7 +41,7 @@ const PLAIN = /^[!-~]+(?: [!-~]+)*$/;
 function clean(value) {
     if (value === '' || (value.length < 300 && is(PLAIN, value))) return value;
     const text = is(CONTROLS, value) ? replaced(value, CONTROLS, ' ') : value;
-    return (text.indexOf('  ') >= 0 ? replaced(text, /\s+/g, ' ') : text).trim();
+    return (text.includes('  ') ? replaced(text, /\s+/g, ' ') : text).trim();
 }
 // By `split`, since a long address may have thousands of them.
 const ENTITIES = [['&', '&amp;'], ['<', '&lt;'], ['>', '&gt;'], ['"', '&quot;'], ["'", '&#39;']];
@@ -41,13 +49,10 @@ function escape(text) {
     if (!is(/[&<>"']/, text)) return text;
     let all = text;
     for (let i = 0; i < ENTITIES.length; i++) {
-        if (all.indexOf(ENTITIES[i][0]) >= 0) all = all.split(ENTITIES[i][0]).join(ENTITIES[i][1]);
+        if (all.includes(ENTITIES[i][0])) all = all.split(ENTITIES[i][0]).join(ENTITIES[i][1]);
     }
     return all;
 }
 function isWeb(link) { return is(/^https?:\/\/[\x21-\x7e]+$/i, link); }
 
-export default {
-    own: own, is: is, isObject: isObject, lazy: lazy, padded: padded, replaced: replaced, clean: clean,
-    escape: escape, isWeb: isWeb, targetOf: targetOf
-};
+export default { own, is, isObject, lazy, padded, replaced, clean, escape, isWeb, targetOf };

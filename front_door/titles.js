@@ -35,8 +35,8 @@ function character(entity, decimal, hexadecimal, name) {
 // A title without markup; some sources escape it twice.
 function plain(title) {
     let text = title;
-    if (text.indexOf('&') >= 0) text = replaced(replaced(text, ENTITY, character), ENTITY, character);
-    if (text.indexOf('<') >= 0) text = replaced(text, TAG, '');
+    if (text.includes('&')) text = replaced(replaced(text, ENTITY, character), ENTITY, character);
+    if (text.includes('<')) text = replaced(text, TAG, '');
     return replaced(text, SPACES, ' ').trim();
 }
 
@@ -63,13 +63,13 @@ function wordsOf(title) {
     const elided = isAscii ? ASCII_ELIDED : ELIDED();
     if (is(elided, text)) return wordsIn(text.replace(elided, ''), isAscii);
     const words = wordsIn(text, isAscii);
-    return words.length > 1 && ARTICLES.indexOf(' ' + words[0] + ' ') >= 0 ? words.slice(1) : words;
+    return words.length > 1 && ARTICLES.includes(' ' + words[0] + ' ') ? words.slice(1) : words;
 }
 // Without an article that a catalogue has put behind the title, after a comma.
 function withoutLastArticle(text, isAscii) {
     const at = text.lastIndexOf(',');
     const words = wordsIn(text.slice(at + 1), isAscii);
-    return words.length === 1 && LAST_ARTICLES.indexOf(' ' + words[0] + ' ') >= 0 ? text.slice(0, at) : text;
+    return words.length === 1 && LAST_ARTICLES.includes(' ' + words[0] + ' ') ? text.slice(0, at) : text;
 }
 function keyOf(title) { return wordsOf(title).join(' '); }
 
@@ -84,4 +84,4 @@ function writtenOut(title) {
 // A title without its subtitle, or without brackets at its end.
 function shorter(title) { return plain(title.slice(0, MOST_CHARACTERS)).replace(END, ''); }
 
-export default { plain: plain, wordsOf: wordsOf, keyOf: keyOf, shorter: shorter, writtenOut: writtenOut };
+export default { plain, wordsOf, keyOf, shorter, writtenOut };

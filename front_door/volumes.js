@@ -76,7 +76,7 @@ function pagesIn(text) {
 }
 // `2344-55` ends at 2355, and `S12-20` at S20. What is before the first page is no last page.
 function lastPage(first, last) {
-    const parts = [first, last].map((page) => /^([a-z]*)(\d*)(.*)$/i.exec(page));
+    const parts = [first, last].map((one) => /^([a-z]*)(\d*)(.*)$/i.exec(one));
     const begins = parts[0][2];
     const ends = parts[1][2];
     if (begins === '' || ends === '') return last;
@@ -108,9 +108,8 @@ function page(q) {
     const first = pagesUnder(q, 'rft.spage');
     const found = first[0] || pagesUnder(q, 'rft.pages')[0] || articleIn(q.first('rft.artnum'));
     if (found !== '') q.lead('rft.spage', found);
-    if (q.has('rft.pages') && is(FOREIGN, q.first('rft.pages'))) {
-        q.lead('rft.pages', numbers.ascii(q.first('rft.pages')));
-    }
+    const pages = q.first('rft.pages');
+    if (pages !== '' && is(FOREIGN, pages)) q.lead('rft.pages', numbers.ascii(pages));
     if (!q.has('rft.epage')) {
         if (first[1] !== '') q.add('rft.epage', first[1]);
         return;
@@ -119,4 +118,4 @@ function page(q) {
     if (last[0] !== '') q.lead('rft.epage', last[1] || last[0]);
 }
 
-export default { COUNT: COUNT, OF_ISSUE: OF_ISSUE, OF_VOLUME: OF_VOLUME, volume: volume, page: page };
+export default { COUNT, OF_ISSUE, OF_VOLUME, volume, page };

@@ -17,13 +17,12 @@ import words from './words.js';
 const FOLDER = '/etc/openlink/current';  // that of openlink@.service
 const RULES = ['rules/', 'received/'];   // folders of rule files in it
 const own = texts.own;
-const is = texts.is;
 const escape = texts.escape;
 
 // ---------------------------------------------------------------- The registry
 function folderOf(site) { return typeof site.folder === 'string' ? site.folder.replace(/\/$/, '') : FOLDER; }
-function registryPath(site) { return folderOf(site) + '/registry.tsv'; }
-function inFolder(path, site) { return path.charAt(0) === '/' ? path : folderOf(site) + '/' + path; }
+function registryPath(site) { return `${folderOf(site)}/registry.tsv`; }
+function inFolder(path, site) { return path.startsWith('/') ? path : `${folderOf(site)}/${path}`; }
 
 // The paths of the code and of the table of each target, by its name.
 function registryOf(text) {
@@ -45,12 +44,12 @@ function readRegistry(site) {
 }
 
 // The rules of code/NAME.olk are NAME.rules in the first folder that has such a file, unless targets.json names them.
-function rulesOf(name, code, site, isFile) {
+function rulesOf(name, code, site, exists) {
     const path = own(own(own(site, 'targets'), name), 'rules');
     if (typeof path === 'string') return inFolder(path, site);
     const file = code.slice(code.lastIndexOf('/') + 1).replace(/\.[^.]*$/, '') + '.rules';
     const paths = RULES.map((folder) => inFolder(folder + file, site));
-    return paths.filter(isFile)[0] || paths[0];
+    return paths.find(exists) || paths[0];
 }
 function isFile(path) {
     try {
@@ -63,50 +62,52 @@ function isFile(path) {
 
 // ---------------------------------------------------------------- Commands
 // An argument for a shell. A query has no space and no control character, and `'` means the same there as %27.
-function quoted(path) { return "'" + path.split("'").join("'\\''") + "'"; }
-function quotedQuery(query) { return "'" + query.split("'").join('%27') + "'"; }
+function quoted(path) { return `'${path.split("'").join("'\\''")}'`; }
+function quotedQuery(query) { return `'${query.split("'").join('%27')}'`; }
 
 // The command for a target of the registry, without its last argument, the query.
-function commandOf(name, target, site, isFile) {
-    return ['openlink explain', quoted(rulesOf(name, target.code, site, isFile)), quoted(inFolder(target.table, site))]
+function commandOf(name, target, site, exists) {
+    return ['openlink explain', quoted(rulesOf(name, target.code, site, exists)), quoted(inFolder(target.table, site))]
         .join(' ');
 }
 
 // ---------------------------------------------------------------- HTML
-function heading(level, text) { return '<' + level + '>' + escape(text) + '</' + level + '>'; }
-function paragraph(text) { return text === '' ? '' : '<p>' + escape(text) + '</p>'; }
+function heading(level, text) { return `<${level}>${escape(text)}</${level}>`; }
+function paragraph(text) { return text === '' ? '' : `<p>${escape(text)}</p>`; }
 // What the program reads or writes is English, from left to right.
-function code(text) { return '<code lang="en" dir="ltr">' + escape(text) + '</code>'; }
+function codeHtml(text) { return `<code lang="en" dir="ltr">${escape(text)}</code>`; }
 
 function queryName(i, site) { return words.filled(site, 'query', String(i + 1)); }
 function queriesHtml(queries, site) {
     return queries.map((query, i) => {
         const note = i === 0 ? 'query1Note' : i < queries.length - 1 ? 'queryFurtherNote' : 'query2Note';
         return [heading('h2', queryName(i, site)), paragraph(words.word(site, note)),
-            '<pre dir="ltr">' + escape(query) + '</pre>'].filter(Boolean).join('\n');
+            `<pre dir="ltr">${escape(query)}</pre>`].filter(Boolean).join('\n');
     });
 }
 
 function rowHtml(it) {
     const name = escape(it.name);
-    const cells = it.reasons.map((reason, i) => i === it.used ? '<strong>' + code(reason) + '</strong>' : code(reason));
-    return '<tr><th scope="row"><a href="#target-' + name + '">' + name + '</a></th><td>' + cells.join('</td><td>')
-        + '</td></tr>';
+    const cells = it.reasons.map(codeHtml)
+        .map((reason, i) => i === it.used ? `<strong>${reason}</strong>` : reason);
+    const anchor = `<a href="#target-${name}">${name}</a>`;
+    return `<tr><th scope="row">${anchor}</th><td>${cells.join('</td><td>')}</td></tr>`;
 }
 function reportsHtml(reasons, queries, site) {
     const names = [words.word(site, 'target')].concat(queries.map((query, i) => queryName(i, site))).map(escape);
     return [heading('h2', words.word(site, 'reports')), paragraph(words.word(site, 'reportsNote')), '<table>',
-        '<thead><tr><th scope="col">' + names.join('</th><th scope="col">') + '</th></tr></thead>', '<tbody>']
+        `<thead><tr><th scope="col">${names.join('</th><th scope="col">')}</th></tr></thead>`, '<tbody>']
         .filter(Boolean).concat(reasons.map(rowHtml), ['</tbody>', '</table>']);
 }
 
 // `last` has the last argument for each query as HTML: to escape a long one for each target would take seconds.
 function targetHtml(it, registry, last, site) {
     const target = registry === null ? undefined : registry[it.name];
-    const report = escape(queryName(it.used, site)) + ': ' + code(it.reasons[it.used]);
-    const command = target ? escape(commandOf(it.name, target, site, isFile)) + ' ' + last[it.used] : '';
-    return ['<h3 id="target-' + escape(it.name) + '">' + escape(it.name) + '</h3>', '<p>' + report + '</p>',
-        target ? '<pre dir="ltr" class="command">' + command + '</pre>'
+    const name = escape(it.name);
+    const report = `${escape(queryName(it.used, site))}: ${codeHtml(it.reasons[it.used])}`;
+    const command = target ? `${escape(commandOf(it.name, target, site, isFile))} ${last[it.used]}` : '';
+    return [`<h3 id="target-${name}">${name}</h3>`, `<p>${report}</p>`,
+        target ? `<pre dir="ltr" class="command">${command}</pre>`
             : registry !== null ? paragraph(words.filled(site, 'notInRegistry', registryPath(site))) : '']
         .filter(Boolean).join('\n');
 }
@@ -138,7 +139,4 @@ async function why(r) {
     exchange.sendPage(r, replies.status === 200 ? 200 : program.faultStatus(replies), pageOf(q, replies, site), site);
 }
 
-export default {
-    registryOf: registryOf, commandOf: commandOf, quotedQuery: quotedQuery, folderOf: folderOf,
-    why: exchange.guarded(why)
-};
+export default { registryOf, commandOf, quotedQuery, folderOf, why: exchange.guarded(why) };

@@ -21,6 +21,4 @@ function labelOf(site, target) {
     return (site.labels[target] = languages.textOf(own(own(site.targets, target), 'label'), site) || target);
 }
 
-export default {
-    word: word, filled: filled, textAt: languages.textAt, inLanguage: languages.textOf, labelOf: labelOf
-};
+export default { word, filled, textAt: languages.textAt, inLanguage: languages.textOf, labelOf };

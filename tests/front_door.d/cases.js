@@ -344,6 +344,8 @@ const LATEX = [
     ['a formula', 'rft_val_fmt=x&rft.atitle=On+$%5Calpha_%7Bn%7D$', ''],
     ['a formula and an accent', 'rft_val_fmt=x&rft.atitle=$%5Ctilde%7Bo%7D$+by+G%5C%22odel',
         'rft.atitle=$\\tilde{o}$+by+G\u00f6del', 'rft_val_fmt=x'],
+    ['an accent in a formula, and another', 'rft_val_fmt=x&rft.atitle=$%5C%27%7Be%7D$+and+%5C%27e',
+        'rft.atitle=$\\\'{e}$+and+\u00e9', 'rft_val_fmt=x'],
     ['Wikipedia, tags in pages', 'rft_val_fmt=x&rft.pages=%3Cspan%3E1%26ndash%3B%3C/span%3E12',
         'rft.pages=1\u201312 rft.spage=1', 'rft_val_fmt=x'],
     ['another command', 'rft_val_fmt=x&rft.atitle=C:%5Ctemp%5C%22q', '']

@@ -91,25 +91,25 @@ function testLimits() {
 }
 
 function testMenus() {
-    const joined = program.joined(['a\tx\nb\ty\n', 'b\tz\nc\tw', 'd\tv\nc\tu\n']);
-    expect('menus are joined', joined.text, 'a\tx\nb\ty\nc\tw\nd\tv');
-    expect('the menu of each target', JSON.stringify(joined.sources), '{"a":0,"b":0,"c":1,"d":2}');
-    const parts = program.joined(['b.2\tx\nb.3\ty\nc\tz\nd.1\tw\n', 'b\tv\na.12.2\tu\n.2\tt\n']);
-    expect('parts of a table', parts.text, 'b\tx\nc\tz\nd.1\tw\na.12\tu\n.2\tt');
-    expect('the menu of their target', JSON.stringify(parts.sources), '{"b":0,"c":0,"d.1":0,"a.12":1,".2":1}');
+    const found = (texts) => program.joined(texts).map((it) => it.target + ' ' + it.url + ' ' + it.source).join(', ');
+    expect('menus are joined', found(['a\tx\nb\ty\n', 'b\tz\nc\tw', 'd\tv\nc\tu\n']), 'a x 0, b y 0, c w 1, d v 2');
+    expect('parts of a table', found(['b.2\tx\nb.3\ty\nc\tz\nd.1\tw\n', 'b\tv\na.12.2\tu\n.2\tt\n']),
+        'b x 0, c z 0, d.1 w 0, a.12 u 1, .2 t 1');
+    expect('names of every object, joined', found(['__proto__\tx\ntoString\ty\n\tz\nw\n', '__proto__\tv\n']),
+        '__proto__ x 0, toString y 0');
     const reports = ['a\tlink 0\nb\tno row\nc\tno link\nd\tno row\n', 'a\tno row\nb\tlink 2\nc\tlink 1\nd\tno row\n'];
     expect('reports are joined', program.joinedReports(reports),
         'a\tlink 0\nb\tlink 2\nc\tlink 1\nd\tno row\n');
     const site = { groups: [{ name: 'A' }, { name: 'B', onlyWithout: 'A' }],
         targets: { a: {}, b: { group: 'B', label: 'Bee', note: 'n' }, constructor: {} } };
     const listed = function (menu) {
-        return JSON.stringify(menus.shownGroups(menus.groupsOf(menu, languages.siteIn(site, ''))));
+        return JSON.stringify(menus.shownGroups(menus.groupsOf(program.joined([menu]), languages.siteIn(site, ''))));
     };
     expect('a group that another one hides', listed('b\thttp://b/\na\thttp://a/\n'),
         '[{"name":"A","links":[{"target":"a","label":"a","url":"http://a/"}]}]');
     expect('a group alone', listed('b\thttp://b/\n'),
         '[{"name":"B","links":[{"target":"b","label":"Bee","url":"http://b/","note":"n"}]}]');
-    expect('links that are none', listed('a\tjavascript:x\na\thttp://a/ b\na\thttp://\u00e9/\nx\n'), '[]');
+    expect('links that are none', listed('a\tjavascript:x\nb\thttp://a/ b\nc\thttp://\u00e9/\nx\n'), '[]');
     expect('names of every object', listed('toString\thttp://t/\n__proto__\thttp://p/\nconstructor\thttp://c/\n'),
         '[{"name":"A","links":[{"target":"constructor","label":"constructor","url":"http://c/"}]},'
         + '{"name":"More","links":[{"target":"toString","label":"toString","url":"http://t/"},'
@@ -137,10 +137,9 @@ function testNotices() {
     NOTICES.forEach(function (it) {
         const q = openurl.queryOf(it[0]);
         q.titles = [{ kind: 'j', title: 'x', numbers: [], standard: [], rows: [it[1]], related: [] }];
-        q.maybe = [];
         q.knowledge = 'number';
         const site = languages.siteIn(named, '');
-        const page = menus.pageOf(q, menus.groupsOf('', site), site);
+        const page = menus.pageOf(q, menus.groupsOf([], site), site);
         expect('the notice of ' + it[0] + ', ' + it[1], /NOTICE (\w+)|$/.exec(page)[1], it[2]);
     });
 }
@@ -161,18 +160,19 @@ function testRetractions() {
     RETRACTIONS.forEach(function (it) {
         ['atitle', 'rft.btitle', 'title'].forEach(function (key) {
             const q = openurl.queryOf(key + '=' + encodeURIComponent(it[0]) + '&issn=2901-0012');
-            q.titles = [];
-            q.maybe = [];
-            const page = menus.pageOf(q, menus.groupsOf('t\thttp://t/\n', site), site);
+            const groups = menus.groupsOf(program.joined(['t\thttp://t/\n']), site);
+            const page = menus.pageOf(q, groups, site);
+            expect('retracted in JSON: ' + key + '=' + it[0], menus.dataOf(q, groups, site).retracted,
+                it[1] ? true : undefined);
             const at = page.indexOf('RETRACTION &lt;');
             expect('retracted: ' + key + '=' + it[0], at > 0 && at < page.indexOf('http://t/'), it[1]);
             expect('the title ' + it[0], page.indexOf('<bdi>Silt</bdi>') > 0, it[1]);
         });
     });
-    const q = openurl.begun('issn=2901-0012');
-    q.put('rft.atitle', ['RETRACTED: Silt']);  // as a look-up does
-    openurl.finish(q);
-    expect('a title that was looked up', q.first('rft.atitle') + ' ' + q.isRetracted, 'Silt true');
+    const lookedUp = openurl.begun('issn=2901-0012');
+    lookedUp.put('rft.atitle', ['RETRACTED: Silt']);  // as a look-up does
+    openurl.finish(lookedUp);
+    expect('a title that was looked up', lookedUp.first('rft.atitle') + ' ' + lookedUp.isRetracted, 'Silt true');
 }
 
 // What a request says of its kind, and the type of RIS.
@@ -256,8 +256,8 @@ function testWords() {
         return site({ languages: [it] }, '').dir;
     }).join(' '), 'ltr ltr rtl');
     const heading = function (words, header) {
-        const menu = 'a\thttp://a/\n';  // no group is named, so there is one with the word `group`
-        return menus.groupsOf(menu, site({ languages: ['en', 'de'], words: words }, header))[0].name;
+        // No group is named, so there is one with the word `group`.
+        return menus.groupsOf([], site({ languages: ['en', 'de'], words }, header))[0].name;
     };
     expect('a word', heading({}, 'en'), 'Links');
     expect('a word that is no text', heading({}, 'de'), 'Links');
@@ -276,9 +276,9 @@ function testWords() {
             a: { label: { en: 'A', de: 'B' }, note: { de: 'n' } }, b: { label: { en: 'C' } }, c: { label: { fr: 'D' } }
         }
     };
-    const menu = 'a\thttp://a/\nb\thttp://b/\nc\thttp://c/\n';
+    const found = program.joined(['a\thttp://a/\nb\thttp://b/\nc\thttp://c/\n']);
     const listed = function (header) {
-        const group = menus.shownGroups(menus.groupsOf(menu, site(labels, header)))[0];
+        const group = menus.shownGroups(menus.groupsOf(found, site(labels, header)))[0];
         return group.name + ' ' + group.label + ': '
             + group.links.map(function (it) { return it.label + ' ' + it.note; }).join(', ');
     };
@@ -304,7 +304,7 @@ function testCommands() {
     expect('code in another folder', command({ folder: '/r' }, 'constructor', ''),
         "openlink explain '/r/rules/e.rules' '/r/f' ''");
     const named = function (rules) {
-        return command({ folder: '/r', targets: { a: { rules: rules } } }, 'a', '').split("'")[1];
+        return command({ folder: '/r', targets: { a: { rules } } }, 'a', '').split("'")[1];
     };
     expect('rules as they were received', command({ folder: '/r' }, 'b part', '').split("'")[1], '/r/received/a.rules');
     expect('rules that are named', [named('own/b.rules'), named('/o/b.rules'), named(3), named(undefined)].join(),
@@ -350,7 +350,7 @@ function requestWith(uri, statuses) {
         variables: { request_uri: uri }, rawVariables: { args: Buffer.from('issn=2901-0012') }, headersIn: {},
         headersOut: {}, method: 'GET', requested: 0, places: [],
         subrequest: function (place, options) {
-            if (place.slice(0, 7) === '/index/') return Promise.resolve({ status: 204 });  // there is no index
+            if (place.startsWith('/index/')) return Promise.resolve({ status: 204 });  // there is no index
             const status = statuses[this.requested++];
             this.places.push(place + ' ' + options.args);
             if (status < 0) throw new Error('no\nreply');
@@ -455,10 +455,10 @@ async function testReplies() {
 const ARABIC = '0123456789';
 const THREE_BYTES = '\u2460\u2461\u2462\u2463\u2464\u2465\u2466\u2467\u2468\u2469';
 function numeral(number, digits) { return String(number).split('').map((digit) => digits[Number(digit)]).join(''); }
-function madeLines(digits, count, longest) {
+function madeLines(digits, most, longest) {
     const lines = [];
     let number = 7;
-    for (let i = 0; lines.length < count; i++) {
+    for (let i = 0; lines.length < most; i++) {
         number = (number * 1103515245 + 12345) % 2147483648;
         const length = number % 9 === 0 ? number % longest : number % 150;
         const text = repeated(number % 2 === 0 ? '\u00e9' : number % 3 === 0 ? 'a\u20ac' : 'a', length);
@@ -477,7 +477,7 @@ function testLines() {
             sought.push(numeral(key, it[0]) + (key % 2 === 0 ? '\t' : ''), numeral(key, it[0]).slice(0, 4));
         }
         sought.forEach(function (beginning) {
-            const expected = lines.filter(function (line) { return line.slice(0, beginning.length) === beginning; });
+            const expected = lines.filter(function (line) { return line.startsWith(beginning); });
             const found = index.linesWith(bytes, beginning, 50).map(function (cells) { return cells.join('\t'); });
             if (found.join('\n') !== expected.slice(0, 50).join('\n')) wrong.push(beginning);
         });
