@@ -321,7 +321,15 @@ const DIGITS = [
         'rft.volume=3 rft.issue=2'],
     ['a month with its word', 'rft_val_fmt=x&rft.date=2013%E5%B9%B48%E6%9C%88',
         'rft.date=2013-08 x.from=20130801 x.to=20130831'],
-    ['an ISSN', 'rft_val_fmt=x&rft.issn=%D9%A2%D9%A9%D9%A0%D9%A1-%D9%A0%D9%A0%D9%A1%D9%A2', '']
+    ['an ISSN', 'rft_val_fmt=x&rft.issn=%D9%A2%D9%A9%D9%A0%D9%A1-%D9%A0%D9%A0%D9%A1%D9%A2',
+        'rft.issn=2901-0012 x.issn=2901-0012'],
+    ['an ISSN of full width',
+        'rft_val_fmt=x&rft.issn=%EF%BC%92%EF%BC%99%EF%BC%90%EF%BC%91-%EF%BC%90%EF%BC%90%EF%BC%91%EF%BC%92',
+        'rft.issn=2901-0012 x.issn=2901-0012'],
+    ['an ISBN',
+        'rft_val_fmt=x&rft.isbn=%E0%A5%AF%E0%A5%AD%E0%A5%AE%E0%A5%A7%E0%A5%A8%E0%A5%A9%E0%A5%AA'
+            + '%E0%A5%AB%E0%A5%AC%E0%A5%A6%E0%A5%A7%E0%A5%A6%E0%A5%A8',
+        'rft.isbn=9781234560102 x.isbn=9781234560102']
 ];
 
 const LATEX = [
