@@ -212,6 +212,7 @@ const RIS_FIELDS = [
         'AU  - Li, W|TI  - Harbours|SN  - 9781234560102'],
     ['jtitle=Tides&aucorp=Port&issn=2901-0012', 'AU  - Port|TI  - Tides|SN  - 2901-0012'],
     ['genre=article&atitle=Silt%0D%0AAU++-+x', 'TI  - Silt AU - x'],
+    ['genre=article&au=Li%0D%0AER++-+x&atitle=Silt', 'AU  - Li ER - x|TI  - Silt'],
     ['genre=article&atitle=' + repeated('a', 1100), 'TI  - ' + repeated('a', 1000)]
 ];
 // The citation as text.
