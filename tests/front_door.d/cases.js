@@ -391,6 +391,12 @@ const REFERENCES = [
         + ' rft.pages=101-118 rft.jtitle=Tides rft_val_fmt=J x.from=20040101 x.to=20041231 rft.spage=101'],
     ['a title with a volume and pages', 'title=Tides+497:491-494&date=2013', 'rft.date=2013 rft.volume=497'
         + ' rft.pages=491-494 rft.jtitle=Tides rft_val_fmt=J x.from=20130101 x.to=20131231 rft.spage=491'],
+    ['a source in the style of MLA', DC + 'Tides+12.3+(2003):+45-67', 'rft.jtitle=Tides rft.volume=12 rft.issue=3'
+        + ' rft.pages=45-67 rft.date=2003 x.from=20030101 x.to=20031231 rft.spage=45'],
+    ['a source with the year before the volume', DC + 'Tides,+2003,+12(3):45-67', 'rft.jtitle=Tides rft.volume=12'
+        + ' rft.issue=3 rft.pages=45-67 rft.date=2003 x.from=20030101 x.to=20031231 rft.spage=45'],
+    ['a title in the style of physics', 'title=Tides+12:45-67+(2003)', 'rft.volume=12 rft.pages=45-67 rft.date=2003'
+        + ' rft.jtitle=Tides rft_val_fmt=J x.from=20030101 x.to=20031231 rft.spage=45'],
     ['a chapter and verses', 'title=Genesis+1:1-3', 'rft.jtitle=Genesis+1:1-3 rft_val_fmt=J'],
     ['a volume of a book', 'title=Harbours,+Vol.+2&genre=book',
         'rft.genre=book rft.btitle=Harbours,+Vol.+2 rft_val_fmt=B'],

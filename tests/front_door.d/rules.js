@@ -150,6 +150,11 @@ const RETRACTIONS = [
     ['[Retracted] Silt', true], ['*RETRACTED* Silt', true], ['Retracted \u2013 Silt', true],
     ['Silt (Retracted article. See vol. 18, pg. 344, 2015)', true], ['Silt (Retracted in 2015)', true],
     ['Silt - RETRACTED', true], ['Silt [This article has been retracted]', true],
+    ['RETRACTED PAPER: Silt', true], ['Retracted publication: Silt', true], ['Retracted study: Silt', true],
+    ['Retracted version: Silt', true], ['Retracted manuscript: Silt', true], ['Retracted conference paper: Silt', true],
+    ['Retracted book: Silt', true], ['[This paper was retracted] Silt', true], ['[Retracted]: Silt', true],
+    ['Silt *Retracted*', true], ['Silt (Retracted 2015)', true], ['Silt - RETRACTED ARTICLE', true],
+    ['Silt. RETRACTED PAPER', true],
     ['Retraction: Silt', false], ['Retraction of: Silt', false], ['Retraction notice to Silt', false],
     ['Retraction Note: Silt', false], ['Silt (Retraction of vol 12, pg 3, 2013)', false],
     ['Retracted articles: a review', false], ['Why articles are retracted', false],
@@ -193,8 +198,54 @@ const RIS_TYPES = [
     ['rft_val_fmt=info:ofi/fmt:kev:mtx:dc&rft.type=preprint', 'UNPB'],
     ['genre=proceeding&isbn=9781234560102&atitle=Silt', 'CONF'], ['genre=conference&title=Dredging', 'CONF'],
     ['rft_val_fmt=info:ofi/fmt:kev:mtx:dc&rft.type=conferencePaper', 'CONF'],
-    ['genre=constructor', 'JOUR'], ['rft.genre=__proto__&rft.isbn=9781234560102', 'BOOK']
+    ['genre=constructor', 'JOUR'], ['rft.genre=__proto__&rft.isbn=9781234560102', 'BOOK'],
+    ['genre=issue&issn=2901-0012', 'JOUR'], ['genre=document&title=Silt', 'BOOK']
+].concat([
+    ['journalArticle', 'JOUR'], ['bookSection', 'CHAP'], ['bookPart', 'CHAP'], ['chapter', 'CHAP'], ['thesis', 'THES'],
+    ['bachelorThesis', 'THES'], ['masterThesis', 'THES'], ['workingPaper', 'RPRT'], ['proceedings', 'CONF'],
+    ['conferenceObject', 'CONF'], ['conferenceProceedings', 'CONF'], ['conferenceOrWorkshopItem', 'CONF'],
+    ['patent', 'PAT']
+].map((it) => ['rft_val_fmt=info:ofi/fmt:kev:mtx:dc&rft.type=' + it[0], it[1]]));
+// The lines of RIS after the type, without the end of the record.
+const RIS_FIELDS = [
+    ['genre=article&au=Li,+W&au=Berg&atitle=Silt&title=Tides&date=2003-05-01&volume=12&issue=3&spage=101&epage=118'
+        + '&issn=2901-0012&id=doi:10.5555/a&id=pmid:7', 'AU  - Li, W|AU  - Berg|TI  - Silt|T2  - Tides|PY  - 2003'
+        + '|VL  - 12|IS  - 3|SP  - 101|EP  - 118|SN  - 2901-0012|DO  - 10.5555/a|AN  - PMID 7'],
+    ['genre=book&title=Harbours&isbn=9781234560102&aulast=Li&auinit=W',
+        'AU  - Li, W|TI  - Harbours|SN  - 9781234560102'],
+    ['jtitle=Tides&aucorp=Port&issn=2901-0012', 'AU  - Port|TI  - Tides|SN  - 2901-0012'],
+    ['genre=article&atitle=Silt%0D%0AAU++-+x', 'TI  - Silt AU - x'],
+    ['genre=article&au=Li%0D%0AER++-+x&atitle=Silt', 'AU  - Li ER - x|TI  - Silt'],
+    ['genre=article&atitle=' + repeated('a', 1100), 'TI  - ' + repeated('a', 1000)]
 ];
+// The citation as text.
+const CITATIONS = [
+    ['genre=article&au=Li&atitle=Silt&title=Tides&date=2003-05-01&volume=12&issue=3&pages=101-118&issn=2901-0012'
+        + '&id=doi:10.5555/a&id=pmid:7', 'Li, Silt, Tides, 2003, v12, i3, p101-118, d10.5555/a, m7, n2901-0012'],
+    ['genre=book&btitle=Harbours&isbn=9781234560102&aulast=Li&aufirst=W', 'Li, W, Harbours, b9781234560102'],
+    ['genre=bookitem&atitle=Silt&btitle=Harbours&aulast=Li&auinit=W', 'Li, W, Silt, Harbours'],
+    ['genre=dissertation&title=On+Silt&aucorp=Port', 'Port, On Silt'],
+    ['rft.genre=dissertation&atitle=Silt&rft.title=Reports&aulast=Li&auinit1=J', 'Li, J, Silt, Reports'],
+    ['stitle=Ann+Tid&spage=7&aulast=Li', 'Li, Ann Tid, p7'], ['jtitle=Tides&stitle=Td&rft.title=Silt', 'Silt, Tides'],
+    ['genre=book&btitle=Harbours&rft.title=Silt', 'Harbours'],
+    ['au=A&au=B&au=C&jtitle=Tides', 'A; B; C, Tides'], ['au=A&au=B&au=C&au=D&jtitle=Tides', 'A; B; C and others, Tides']
+];
+const PLAIN_WORDS = {
+    volume: 'v{}', issue: 'i{}', pages: 'p{}', doi: 'd{}', pmid: 'm{}', issn: 'n{}', isbn: 'b{}',
+    others: '{} and others'
+};
+function testCitations() {
+    const site = languages.siteIn({ words: PLAIN_WORDS }, '');
+    RIS_FIELDS.forEach((it) => {
+        const q = openurl.queryOf(it[0]);
+        const lines = citation.risOf(q, openurl.kindOf(q), site).split('\r\n');
+        expect('fields of RIS of ' + it[0].slice(0, 60), lines.slice(1).join('|'), it[1] + '|ER  - |');
+    });
+    CITATIONS.forEach((it) => {
+        const html = citation.citationHtml(citation.citationOf(openurl.queryOf(it[0]), site), site);
+        expect('the citation of ' + it[0], html.replace(/<[^>]*>/g, ''), it[1]);
+    });
+}
 function testRis() {
     RIS_TYPES.forEach(function (it) {
         const q = openurl.queryOf(it[0]);
@@ -493,6 +544,7 @@ testMenus();
 testNotices();
 testRetractions();
 testRis();
+testCitations();
 testHeaders();
 testWords();
 testCases();
