@@ -1,8 +1,8 @@
 """Weeks in which all goes well, and going back by hand."""
 import datetime, json, os, re, stat, time
-from counting import expect, expect_lines
-from fixture import Library, Reader
-from weeks import MENUS, TITLE, tables
+from fixtures.cases import expect, expect_lines
+from fixtures.library import Library, Reader
+from fixtures.weeks import MENUS, TITLE, tables
 
 ALL = list(tables())
 

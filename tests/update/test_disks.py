@@ -1,7 +1,7 @@
 """Disks that are full or become full. The version before is served, and nothing is left."""
 import contextlib, os, re, resource, shutil, subprocess, sys
-from counting import expect
-from fixture import Library
+from fixtures.cases import expect
+from fixtures.library import Library
 
 
 @contextlib.contextmanager

@@ -1,9 +1,9 @@
 """What goes with a version beside its links: targets.json, if the operator keeps it in the input, and the holdings for
 others."""
 import json, os
-from counting import expect, expect_lines
-from fixture import Library, wait_until
-from weeks import QUERY
+from fixtures.cases import expect, expect_lines
+from fixtures.library import Library, wait_until
+from fixtures.weeks import QUERY
 
 
 def sample():

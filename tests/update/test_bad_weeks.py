@@ -1,8 +1,8 @@
 """Files that are rejected or doubtful, and probes, processes and commands that fail. The version before is served."""
 import os
-from counting import expect, expect_lines
-from fixture import PROGRAM, Library, ended, patience, whole
-from weeks import HTML
+from fixtures.cases import expect, expect_lines
+from fixtures.library import PROGRAM, Library, ended, patience, whole
+from fixtures.weeks import HTML
 
 # The program, but a command that is killed: `compile` after it has begun to write.
 KILLED = """#!/bin/sh

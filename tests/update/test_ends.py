@@ -1,7 +1,7 @@
 """Runs that are ended at any moment, and two at once."""
 import os, signal, subprocess, time
-from counting import expect
-from fixture import HERE, Library, Reader, ended, patience, wait_until
+from fixtures.cases import expect
+from fixtures.library import HERE, Library, Reader, ended, patience, wait_until
 
 OTHER = {"A": "B", "B": "A"}
 # The stages of a run, each of which begins as soon as there is something new in the library. In the last one a kill

@@ -1,9 +1,9 @@
 """The index of titles: it goes forward and back with the version, and changes with its format and the switch of the
 list."""
 import json, os, shutil
-from counting import expect, expect_lines
-from fixture import Library
-from weeks import TITLE
+from fixtures.cases import expect, expect_lines
+from fixtures.library import Library
+from fixtures.weeks import TITLE
 
 LIST = "js_var $openlink_list {};"
 BY_TITLE = "/find.json?title=papers+on+piers&volume=5&date=1994"

@@ -1,8 +1,8 @@
 """Runs that are killed directly before and after each rename."""
 import os, signal
-from counting import expect
-from ends import OTHER, served
-from fixture import HERE, PYTHON, Library, ended
+from fixtures.cases import expect
+from update.test_ends import OTHER, served
+from fixtures.library import HERE, PYTHON, Library, ended
 
 
 def killed_at(library, number, *options, **how):
