@@ -1,9 +1,9 @@
 """The chapter "Backup and restore" of OPERATING.md: its commands bring back what readers see if all else is lost."""
 import glob, os, shlex, shutil, stat, subprocess, sys, tempfile
-from counting import expect
-from machine import FEW, Machine, read, write
-from patience import patience
-from weeks import HTML, QUERY
+from fixtures.cases import expect
+from fixtures.machine_of_libraries import FEW, Machine, read, write
+from fixtures.patience import patience
+from fixtures.weeks import HTML, QUERY
 
 HOSTS = ("links.library.example.org", "east.example.org")
 PATHS = (f"/find?{QUERY}", "/find?issn=2901-0012&volume=12&issue=3", "/journals", "/books", "/find", "/menu.css")

@@ -1,8 +1,8 @@
 """Updates of several libraries, one after the other: which are updated, what each is told, and signals."""
 import os, re, signal, socket
-from counting import expect, expect_lines
-from machine import NAMES, Machine, deliver, ended, read, started, weeks, write
-from weeks import HTML
+from fixtures.cases import expect, expect_lines
+from fixtures.machine_of_libraries import NAMES, Machine, deliver, ended, read, started, weeks, write
+from fixtures.weeks import HTML
 
 
 def test_some(machine, libraries):

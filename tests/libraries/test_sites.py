@@ -1,9 +1,9 @@
 """Two libraries of one nginx: each gets its own host, targets.json, words, processes, index, logs, limits and local
 server. Then one is removed."""
 import glob, json, os, re, shutil, signal, socket
-from counting import expect
-from machine import Machine, ended, patience, read, wait_until, write
-from weeks import QUERY
+from fixtures.cases import expect
+from fixtures.machine_of_libraries import Machine, ended, patience, read, wait_until, write
+from fixtures.weeks import QUERY
 
 OLD, NEW = "https://coastal.example.com/journals/pp", "https://coastal.example.com/titles/pp"
 FORM = ("POST /find HTTP/1.1\r\nHost: {host}\r\nContent-Type: application/x-www-form-urlencoded\r\n"

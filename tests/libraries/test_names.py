@@ -1,7 +1,7 @@
 """What `openlink-library add` accepts and writes, and what it leaves if it fails."""
 import fcntl, glob, os, re, subprocess
-from counting import expect
-from machine import Machine, free_ports, read, write
+from fixtures.cases import expect
+from fixtures.machine_of_libraries import Machine, free_ports, read, write
 from openlink_update.machines import libraries, library_files
 
 GOOD = ("a", "east", "east-wanted", "a-1-b", "error", "lookup-rate", "l" * 32)

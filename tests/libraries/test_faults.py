@@ -1,9 +1,9 @@
 """A bad file, list or probe of one library, and updates that cannot begin: they stop no other library. And a
 library that was alone on its machine."""
 import fcntl, os
-from counting import expect, expect_lines
-from machine import FEW, SITE, Machine, deliver, read, started, wait_until, weeks
-from weeks import HTML
+from fixtures.cases import expect, expect_lines
+from fixtures.machine_of_libraries import FEW, SITE, Machine, deliver, read, started, wait_until, weeks
+from fixtures.weeks import HTML
 
 
 def test_bad_files():

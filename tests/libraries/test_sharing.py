@@ -1,8 +1,8 @@
 """Tables that several libraries serve: fetched and prepared once, and once on the disk."""
 import datetime, glob, http.server, os, shutil, tempfile, threading
-from counting import expect, expect_lines
-from machine import Machine, ended, free_ports, read, write
-from weeks import TITLE
+from fixtures.cases import expect, expect_lines
+from fixtures.machine_of_libraries import Machine, ended, free_ports, read, write
+from fixtures.weeks import TITLE
 from openlink_update.tables import preparation
 from openlink_update.versions import same_files, shared_tables
 from openlink_update.outcome import Refused
