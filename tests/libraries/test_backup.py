@@ -1,20 +1,35 @@
 """The chapter "Backup and restore" of OPERATING.md: its commands bring back what readers see if all else is lost."""
-import glob, os, shlex, shutil, stat, subprocess, sys, tempfile
-from fixtures.cases import expect
-from fixtures.machine_of_libraries import FEW, Machine, read, write
+from __future__ import annotations
+
+import glob
+import os
+import shlex
+import shutil
+import stat
+import subprocess
+import sys
+import tempfile
+
+from fixtures import needs
+from fixtures.cases import Case
+from fixtures.machine_of_libraries import FEW
+from fixtures.machine_of_libraries import Machine
+from fixtures.machine_of_libraries import read
+from fixtures.machine_of_libraries import write
 from fixtures.patience import patience
-from fixtures.weeks import HTML, QUERY
+from fixtures.weeks import HTML
+from fixtures.weeks import QUERY
 
 HOSTS = ("links.library.example.org", "east.example.org")
 PATHS = (f"/find?{QUERY}", "/find?issn=2901-0012&volume=12&issue=3", "/journals", "/books", "/find", "/menu.css")
 SECRET = "BOOKHOUSE\ta secret\n"
 
 
-def blocks():
+def blocks(case):
     """The commands of the chapter, by block."""
     section = read("docs/OPERATING.md").split("\n## Backup and restore\n")[1].split("\n## ")[0]
     found = [it.splitlines() for it in section.split("```\n")[1::2]]
-    expect("blocks of commands", [bool(it) for it in found], [True, True])
+    case.expect("blocks of commands", [bool(it) for it in found], [True, True])
     return found
 
 
@@ -61,40 +76,43 @@ def pages(machine):
     return {(host, path): machine.get(host, path) for host in HOSTS for path in PATHS}
 
 
-def test_restore():
-    """A library that is alone and another; one has a bad file, so that its old table is in the versions alone."""
-    with Machine() as machine, tempfile.TemporaryDirectory() as safe:
-        alone, ports = machine.add_alone()
-        east = machine.add("east", FEW)
-        expect("the first versions", machine.update("--all")[0], 0)
-        machine.start_nginx()
-        alone.deliver("B")
-        alone.write("secrets.tsv", SECRET.encode())
-        os.chmod(alone.path("secrets.tsv"), 0o600)
-        east.input.write("tidal-press.txt", HTML)
-        expect("an old table is kept", machine.update("--all")[0], 1)
-        enable(machine, [*ports, *east.ports()[1]])
-        before = pages(machine)
-        expect("pages", {it[0] for it in before.values()}, {200})
-        expect("links of the old table", "press.example.com" in before[HOSTS[1], PATHS[1]][1])
-        saving, restoring = blocks()
-        statuses, printed = ran(machine, safe, saving)
-        expect(f"the backup: {printed}", statuses, [0] * len(saving))
-        modes = {stat.S_IMODE(os.stat(path).st_mode) for path in glob.glob(f"{safe}/*")}
-        expect("only its owner reads it", modes, {0o600})
-        lose_all(machine)
-        statuses, printed = ran(machine, safe, restoring)
-        # The last command is the update, which meets the bad file again.
-        expect(f"the restoring: {printed}", statuses, [0] * (len(restoring) - 1) + [1])
-        machine.start_nginx()
-        expect("the same pages", [it for it, page in pages(machine).items() if page != before[it]], [])
-        expect("the same secrets, for their owner alone", (read(alone.path("secrets.tsv")), stat.S_IMODE(os.stat(
-            alone.path("secrets.tsv")).st_mode)), (SECRET, 0o600))
-        expect("the site of the package", os.path.exists(machine.path("etc/nginx/sites-enabled/default")), False)
-        expect("timers", sorted(os.path.basename(it) for it in glob.glob(machine.path("run", "*.started"))),
-               ["openlink-update.timer.started", "openlink-walls.timer.started"])
-        logs = glob.glob(machine.path("var/log/nginx/openlink*.log"))
-        expect("logs", (len(logs) > 3, {stat.S_IMODE(os.stat(path).st_mode) for path in logs}), (True, {0o640}))
-
-
-TESTS = [test_restore]
+@needs.nginx()
+@needs.program()
+class Backup(Case):
+    def test_restore(self) -> None:
+        """A library that is alone and another; one has a bad file, so that its old table is in the versions alone."""
+        with Machine() as machine, tempfile.TemporaryDirectory() as safe:
+            alone, ports = machine.add_alone()
+            east = machine.add("east", FEW)
+            self.expect("the first versions", machine.update("--all")[0], 0)
+            machine.start_nginx()
+            alone.deliver("B")
+            alone.write("secrets.tsv", SECRET.encode())
+            os.chmod(alone.path("secrets.tsv"), 0o600)
+            east.input.write("tidal-press.txt", HTML)
+            self.expect("an old table is kept", machine.update("--all")[0], 1)
+            enable(machine, [*ports, *east.ports()[1]])
+            before = pages(machine)
+            self.expect("pages", {it[0] for it in before.values()}, {200})
+            self.expect("links of the old table", "press.example.com" in before[HOSTS[1], PATHS[1]][1])
+            saving, restoring = blocks(self)
+            statuses, printed = ran(machine, safe, saving)
+            self.expect(f"the backup: {printed}", statuses, [0] * len(saving))
+            modes = {stat.S_IMODE(os.stat(path).st_mode) for path in glob.glob(f"{safe}/*")}
+            self.expect("only its owner reads it", modes, {0o600})
+            lose_all(machine)
+            statuses, printed = ran(machine, safe, restoring)
+            # The last command is the update, which meets the bad file again.
+            self.expect(f"the restoring: {printed}", statuses, [0] * (len(restoring) - 1) + [1])
+            machine.start_nginx()
+            self.expect("the same pages", [it for it, page in pages(machine).items() if page != before[it]], [])
+            self.expect("the same secrets, for their owner alone",
+                        (read(alone.path("secrets.tsv")), stat.S_IMODE(os.stat(alone.path("secrets.tsv")).st_mode)),
+                        (SECRET, 0o600))
+            self.expect("the site of the package", os.path.exists(machine.path("etc/nginx/sites-enabled/default")),
+                        False)
+            self.expect("timers", sorted(os.path.basename(it) for it in glob.glob(machine.path("run", "*.started"))),
+                        ["openlink-update.timer.started", "openlink-walls.timer.started"])
+            logs = glob.glob(machine.path("var/log/nginx/openlink*.log"))
+            self.expect("logs", (len(logs) > 3, {stat.S_IMODE(os.stat(path).st_mode) for path in logs}),
+                        (True, {0o640}))
