@@ -1,10 +1,10 @@
 """packaging/haproxy/haproxy.cfg: haproxy reads it, and it sends readers to the machines that should have some."""
 import http.client, re, shutil, subprocess, tempfile
 from openlink_update import children
-from counting import expect
-from haproxy_states import states_of
-from local_ports import free_ports
-from patience import patience, wait_until
+from fixtures.cases import expect
+from fixtures.site import states_of
+from fixtures.site import free_ports
+from fixtures.patience import patience, wait_until
 
 FILE = "packaging/haproxy/haproxy.cfg"
 MOST_SECONDS = 3  # until a machine that is down, or has an older version, gets no more readers

@@ -2,8 +2,9 @@
 another, in the site or in the container. The objects are those that `kubectl kustomize` prints, if it is installed, and
 otherwise those of the base as its files have them."""
 import copy, json, os, re, shutil, subprocess, tempfile
-import objects, yaml_files
-from counting import expect
+from fixtures import yaml_files
+from machines import objects
+from fixtures.cases import expect
 
 FOLDER, SITE = "packaging/kubernetes", "front_door/http.conf"
 CONTAINERFILE, START = "packaging/container/Containerfile", "packaging/container/start"

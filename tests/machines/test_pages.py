@@ -1,8 +1,8 @@
 """The health page that the balancer reads, and the addresses of readers that it passes on."""
 import http.client, http.server, os, shutil, threading
-from counting import expect
-from local_ports import free_ports
-from patience import patience, wait_until
+from fixtures.cases import expect
+from fixtures.site import free_ports
+from fixtures.patience import patience, wait_until
 
 BEFORE, NAMED, AFTER = "20261121T000000Z", "20261122T000000Z", "20261123T000000Z"
 MISSING = f"the delivery {AFTER} is missing: openlink-update --send brings it"

@@ -2,10 +2,10 @@
 import datetime, os, signal, shutil, tempfile
 from openlink_update.versions import library
 from openlink_update.machines import machines
-from counting import expect, expect_lines
-from fixture import ended
+from fixtures.cases import expect, expect_lines
+from fixtures.library import ended
 from openlink_update.versions.library import STAMP
-from patience import wait_until
+from fixtures.patience import wait_until
 
 HIDDEN = ('{"name": "Full text", ', '{"name": "Full text", "onlyWithout": "In the library", ')
 
