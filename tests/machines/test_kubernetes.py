@@ -1,10 +1,21 @@
 """The files of packaging/kubernetes: each object has the fields that Kubernetes requires, and what one names exists in
 another, in the site or in the container. The objects are those that `kubectl kustomize` prints, if it is installed, and
 otherwise those of the base as its files have them."""
-import copy, json, os, re, shutil, subprocess, tempfile
+from __future__ import annotations
+
+import copy
+import json
+import os
+import re
+import shutil
+import subprocess
+import tempfile
+import unittest
+
+from fixtures import needs
+from fixtures.cases import Case
 from fixtures import yaml_files
 from machines import objects
-from fixtures.cases import expect
 
 FOLDER, SITE = "packaging/kubernetes", "front_door/http.conf"
 CONTAINERFILE, START = "packaging/container/Containerfile", "packaging/container/start"
@@ -263,58 +274,54 @@ MISTAKES_OF_OVERLAY = [
 ]
 
 
-def test_base():
-    expect("the base", Set(base_of(f"{FOLDER}/base")).faults(), [])
-    expect("labels of the base", text_of(f"{FOLDER}/base/targets.json"), text_of("front_door/targets.json"))
-    for edit, wanted in MISTAKES:
-        folder = edited(*edit)
-        try:
-            lines = Set(base_of(f"{folder}/kubernetes/base")).faults()
-            expect(f"{edit[1].strip()}: {lines}", any(wanted in line for line in lines))
-        finally:
-            shutil.rmtree(folder)
+@needs.python_module("yaml", "python3-yaml")
+class Objects(Case):
+    def test_base(self) -> None:
+        self.expect("the base", Set(base_of(f"{FOLDER}/base")).faults(), [])
+        self.expect("labels of the base", text_of(f"{FOLDER}/base/targets.json"), text_of("front_door/targets.json"))
+        for edit, wanted in MISTAKES:
+            folder = edited(*edit)
+            try:
+                lines = Set(base_of(f"{folder}/kubernetes/base")).faults()
+                self.expect(f"{edit[1].strip()}: {lines}", any(wanted in line for line in lines))
+            finally:
+                shutil.rmtree(folder)
 
+    def test_reader(self) -> None:
+        """The reader of YAML reads what kubectl reads. It refuses what kubectl refuses, and words that mean another
+        value than they seem to."""
+        with tempfile.TemporaryDirectory() as folder:
+            path = os.path.join(folder, "a.yaml")
+            for text, wanted in (("a: 1\nb:\n- c: x # y\n  d: \"e # f\"\n- -g\n",
+                                  {"a": 1, "b": [{"c": "x", "d": "e # f"}, "-g"]}),
+                                 ("a:\n  b: true\nc:\n", {"a": {"b": True}, "c": None}),
+                                 ("a: {b: 1}\n", {"a": {"b": 1}}), ("a: 1\na: 2\n", None), ("a: 1\n   b: 2\n", None),
+                                 ("a: b: c\n", None), ("a: yes\n", None), ("a: |\n  b\n", {"a": "b\n"}),
+                                 ("a:\tb\n", None), ("a: 'b'\n", {"a": "b"})):
+                with open(path, "w") as file:
+                    file.write(text)
+                try:
+                    found = yaml_files.read(path)
+                except yaml_files.Unreadable:
+                    found = None
+                self.expect(f"YAML {text!r}", found, wanted)
 
-def test_reader():
-    """The reader of YAML reads what kubectl reads, and rejects the rest."""
-    folder = tempfile.mkdtemp(prefix="balancer.")
-    path = os.path.join(folder, "a.yaml")
-    for text, wanted in (("a: 1\nb:\n- c: x # y\n  d: \"e # f\"\n- -g\n",
-                          {"a": 1, "b": [{"c": "x", "d": "e # f"}, "-g"]}),
-                         ("a:\n  b: true\nc:\n", {"a": {"b": True}, "c": None}), ("a: {b: 1}\n", None),
-                         ("a: 1\na: 2\n", None), ("a: 1\n   b: 2\n", None), ("a: b: c\n", None), ("a: yes\n", None),
-                         ("a: |\n  b\n", None), ("a:\tb\n", None), ("a: 'b'\n", None)):
-        with open(path, "w") as file:
-            file.write(text)
-        try:
-            found = yaml_files.read(path)
-        except yaml_files.Unreadable:
-            found = None
-        expect(f"YAML {text!r}", found, wanted)
-    shutil.rmtree(folder)
-
-
-def test_built():
-    """What kubectl makes of the base and of the overlay, each alone and both together."""
-    if not shutil.which("kubectl"):
-        return "no kubectl, so the overlay was not built"
-    base, second = built(f"{FOLDER}/base"), built(f"{FOLDER}/second")
-    for name, found in (("base", base), ("second", second), ("base and second", base + second)):
-        expect(f"built: {name}", Set(copy.deepcopy(found)).faults(), [])
-    plain = Set(base_of(f"{FOLDER}/base"))
-    expect("the base is as its files have it", {it["kind"]: it["spec"] for it in plain.all if "spec" in it
-                                                 and it["kind"] != "Deployment"},
-           {it["kind"]: it["spec"] for it in base if "spec" in it and it["kind"] != "Deployment"})
-    hosts = [it["spec"]["rules"][0]["host"] for it in Set(base + second).of("Ingress")]
-    expect("hosts", len(set(hosts)), 2)
-    for edit, wanted in MISTAKES_OF_OVERLAY:
-        folder = edited(*edit)
-        try:
-            lines = Set(base + built(f"{folder}/kubernetes/second")).faults()
-            expect(f"{edit[1].strip()}: {lines}", any(wanted in line for line in lines))
-        finally:
-            shutil.rmtree(folder)
-    return None
-
-
-TESTS = [test_base, test_reader, test_built]
+    @unittest.skipUnless(shutil.which("kubectl"), "no kubectl on this machine, so the overlay is not built")
+    def test_built(self) -> None:
+        """What kubectl makes of the base and of the overlay, each alone and both together."""
+        base, second = built(f"{FOLDER}/base"), built(f"{FOLDER}/second")
+        for name, found in (("base", base), ("second", second), ("base and second", base + second)):
+            self.expect(f"built: {name}", Set(copy.deepcopy(found)).faults(), [])
+        plain = Set(base_of(f"{FOLDER}/base"))
+        self.expect("the base is as its files have it", {it["kind"]: it["spec"] for it in plain.all if "spec" in it
+                                                          and it["kind"] != "Deployment"},
+                    {it["kind"]: it["spec"] for it in base if "spec" in it and it["kind"] != "Deployment"})
+        hosts = [it["spec"]["rules"][0]["host"] for it in Set(base + second).of("Ingress")]
+        self.expect("hosts", len(set(hosts)), 2)
+        for edit, wanted in MISTAKES_OF_OVERLAY:
+            folder = edited(*edit)
+            try:
+                lines = Set(base + built(f"{folder}/kubernetes/second")).faults()
+                self.expect(f"{edit[1].strip()}: {lines}", any(wanted in line for line in lines))
+            finally:
+                shutil.rmtree(folder)
