@@ -6,14 +6,16 @@ import os
 import re
 from collections.abc import Callable
 from collections.abc import Iterator
+from typing import Any
 from typing import NamedTuple
+
+from fixtures import yaml_files
 
 # A line that an operator may take the # from; in a comment for people one space or two follow it.
 _COMMENTED = re.compile(r"(\s*)#(?=[^\s#]|    )(.*)")
 _TOKEN = re.compile(r"""\s+|\#.*|"(?:\\.|[^"\\])*"|'(?:\\.|[^'\\])*'|[;{}]|(?!["'])(?:\$\{\w+\}|\\.|[^\s;{}])+""")
 _PLACEHOLDER = re.compile(r"@[A-Z]+@")
 _FIELD = re.compile(r"([A-Z][\w-]*):(?: (.*))?")
-_KEY = re.compile(r"([\w./-]+):(?: +(.*))?", re.A)
 
 
 class Entry(NamedTuple):
@@ -123,62 +125,32 @@ def haproxy(text: str) -> list[Entry]:
 
 def yaml(text: str) -> list[Entry]:
     """The YAML of one object: blocks of names and lists. The blocks of a list are numbered from 1, and the items of one
-    that are no blocks are the value of its name, separated by commas."""
-    found: list[Entry] = []
-    blocks = [_Block(-1, "")]
-    for indent, name, value in _parts(text):
-        while blocks[-1].indent >= indent:
-            blocks.pop()
-        block = blocks[-1]
-        if block.value or block.below not in (-1, indent):
-            raise ValueError(f"{name or value} has another indent than what is beside it")
-        if block.below == -1 and block.name and not block.is_item:
-            found.pop()  # the name, which has this below it
-        block.below = indent
-        block.items += 1
-        if name == "-" and value is not None:
-            if block.items > 1:
-                value = f"{found.pop().value}, {value}"
-            found.append(Entry(_place(blocks[:-1]), block.name, value))
-        elif name != "-":
-            found.append(Entry(_place(blocks), name, value or ""))
-        blocks.append(_Block(indent, str(block.items) if name == "-" else name, value or "", name == "-"))
-    return found
+    that are no blocks are the value of its name, separated by commas. A test that calls this needs python3-yaml."""
+    try:
+        top = yaml_files.node(text)
+    except yaml_files.Unreadable as fault:
+        raise ValueError(str(fault)) from fault
+    if not isinstance(getattr(top, "value", None), list):
+        raise ValueError("it has no names")
+    return list(_below(top, text, ()))
 
 
-def _place(blocks: list[_Block]) -> str:
-    return " > ".join(it.name for it in blocks[1:])
+def _below(node: Any, text: str, place: tuple[str, ...]) -> Iterator[Entry]:
+    """The entries of a node of YAML at a place."""
+    items = node.value if isinstance(node.value, list) else []
+    if not items or all(isinstance(getattr(it, "value", None), str) for it in items):
+        yield Entry(" > ".join(place[:-1]), place[-1], ", ".join(_written(it, text) for it in items or [node]))
+        return
+    for number, it in enumerate(items, 1):
+        name, below = (it[0].value, it[1]) if isinstance(it, tuple) else (str(number), it)
+        yield from _below(below, text, (*place, name))
 
 
-class _Block:
-    """A name or an item of a list, with the indent of what is below it, and how many names or items that is up to
-    now."""
-
-    def __init__(self, indent: int, name: str, value: str = "", is_item: bool = False) -> None:
-        self.indent, self.name, self.value, self.is_item = indent, name, value, is_item
-        self.below, self.items = -1, 0
-
-
-def _parts(text: str) -> Iterator[tuple[int, str, str | None]]:
-    """Each name and each item with its indent and its value: "" for a block below it. An item whose first name is on
-    its line has the value None."""
-    for line in text.splitlines():
-        content = line if '"' in line else re.sub(r"(^|\s+)#.*", "", line)
-        indent, rest = len(content) - len(content.lstrip()), content.strip()
-        while rest.startswith("- "):
-            match = _KEY.fullmatch(rest[2:].strip())
-            if not match and not rest[2:].lstrip().startswith("- "):
-                yield indent, "-", rest[2:].strip()
-                rest = ""
-                break
-            yield indent, "-", None
-            indent += len(rest) - len(rest[2:].lstrip())
-            rest = rest[2:].strip()
-        if rest:
-            match = _KEY.fullmatch(rest)
-            if not match:
-                raise ValueError(f"no name: {line}")
-            yield indent, match[1], match[2] or ""
+def _written(node: Any, text: str) -> str:
+    """A text or a number as it is written, with its quotes."""
+    if node.start_mark.line != node.end_mark.line:
+        raise ValueError(f"line {node.start_mark.line + 1}: a value of several lines")
+    return text[node.start_mark.index : node.end_mark.index]
 
 
 def control(text: str) -> list[Entry]:

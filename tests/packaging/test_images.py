@@ -5,6 +5,7 @@ from __future__ import annotations
 import glob
 import re
 
+from fixtures import needs
 from fixtures.cases import Case
 from packaging import declarations
 from packaging import spoiling
@@ -34,6 +35,7 @@ class Images(Case):
         self.expect("logs of the site", len(named) >= 3)
         self.expect("logs that the image does not have", [it for it in sorted(named) if it not in text], [])
 
+    @needs.python_module("yaml", "python3-yaml")
     def test_the_command_of_an_operator_gives_the_rights_of_the_pods(self) -> None:
         with open("packaging/kubernetes/base/deployment.yaml", encoding="utf-8") as file:
             entries = declarations.yaml(file.read())

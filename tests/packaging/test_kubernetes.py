@@ -2,9 +2,9 @@
 from __future__ import annotations
 
 import glob
-import importlib.util
-import unittest
 
+from fixtures import needs
+from fixtures import yaml_files
 from fixtures.cases import Case
 from packaging import declarations
 from packaging import spoiling
@@ -36,6 +36,7 @@ def flat(value: object, place: tuple[str, ...] = ()) -> list[tuple[str, str, str
     return [(" > ".join(place[:-1]), place[-1], str(value))]
 
 
+@needs.python_module("yaml", "python3-yaml")
 class Objects(Case):
     """What the files declare."""
 
@@ -59,10 +60,7 @@ class Objects(Case):
                 declarations.yaml(text)
             self.compared += 1
 
-    @unittest.skipUnless(importlib.util.find_spec("yaml"), "no python3-yaml: apt-get install python3-yaml")
-    def test_the_reader_reads_what_yaml_means(self) -> None:
-        import yaml  # type: ignore[import]
-
+    def test_the_entries_are_what_yaml_means(self) -> None:
         for path in files():
             with open(path, encoding="utf-8") as file:
                 text = file.read()
@@ -71,4 +69,4 @@ class Objects(Case):
                 (place, name, words.get(value, value.replace('"', "")))
                 for place, name, value in declarations.yaml(text)
             ]
-            self.expect(path, read, flat(yaml.safe_load(text)))
+            self.expect(path, read, flat(yaml_files.read(path)))

@@ -7,8 +7,8 @@ import json, os, shlex, shutil, sys
 
 TOP = os.path.dirname(os.path.dirname(os.path.dirname(os.path.dirname(os.path.abspath(__file__)))))
 sys.dont_write_bytecode = True
-sys.path.insert(0, os.path.join(TOP, "tests", "balancer.d"))
-import kubernetes
+sys.path.insert(0, os.path.join(TOP, "tests"))
+from machines import test_kubernetes as kubernetes
 
 WORKERS, PROBES = "OPENLINK_WORKERS", ("startupProbe", "readinessProbe", "livenessProbe")
 PLAYED = ("ConfigMap", "Deployment")  # the others are the cluster's

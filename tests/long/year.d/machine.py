@@ -1,7 +1,7 @@
 """The library's machine: its folders, the processes under a supervisor, nginx with the front door, the providers'
 server, and runs of update/fetch and update/update on it."""
 import json, os, shutil, signal, subprocess, tempfile, threading
-import fixture
+from fixtures.library import HERE as FIXTURES, FrontDoor, Library
 from input import PYTHON
 from links import FULL, LOAN, LOANS
 from patience import patience, wait_until
@@ -113,7 +113,7 @@ class Input:
             file.write(data if isinstance(data, bytes) else data.encode())
 
 
-class Door(fixture.FrontDoor):
+class Door(FrontDoor):
     def write_registry(self):
         """The update makes the registry, and the input has the targets.json that is in use from the first one on."""
         with open(self.path("openlink/targets.json"), "w") as file:
@@ -134,7 +134,7 @@ def names_of(labels):
                                    LOAN: {"label": "Loan", "group": LOANS}}})
 
 
-class Machine(fixture.Library):
+class Machine(Library):
     """With two disks, of the library and of its input."""
 
     def __init__(self, processes, authority, names):
@@ -149,7 +149,7 @@ class Machine(fixture.Library):
                            check=True)
         self.input = Input(self.aside("input/week"))
         self.site = Door(self, processes)
-        self.restart = f"{fixture.HERE}/restart {self.room} PORT"
+        self.restart = f"{FIXTURES}/restart {self.room} PORT"
 
     def __exit__(self, *_):
         self.site.stop()

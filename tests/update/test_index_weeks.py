@@ -1,0 +1,100 @@
+"""The index of titles: it goes forward and back with the version, and changes with its format and the switch of the
+list."""
+from __future__ import annotations
+
+import json
+import os
+import shutil
+
+from fixtures import needs
+from fixtures.cases import Case
+from fixtures.library import Library
+from fixtures.weeks import TITLE
+
+LIST = "js_var $openlink_list {};"
+BY_TITLE = "/find.json?title=papers+on+piers&volume=5&date=1994"
+
+
+def names_of(library, *folder):
+    path = library.path("current", "index", *folder)
+    return sorted(os.listdir(path)) if os.path.isdir(path) else []
+
+
+def targets(library, query=BY_TITLE):
+    """The targets that the front door shows for a request without a number."""
+    reply = json.loads(library.site.get(query).text)
+    return [link["target"] for group in reply["groups"] for link in group["links"]]
+
+
+@needs.nginx()
+@needs.program()
+class IndexWeeks(Case):
+    def test_weeks(self) -> None:
+        """A title that is known from one table, then from another, in the version in use and in the one before."""
+        with Library() as library:
+            library.input.write("probes.tsv", b"title=papers+on+piers&volume=5&date=1994\tcoastal-law\n")
+            self.expect("a probe by title", library.run()[0], 0)
+            self.expect("the index of the first week", targets(library), ["coastal-law"])
+            first = library.current()
+            library.input.replace("coastal-law.txt", "Papers on Piers", "Papers on Quays")
+            status, printed = library.run()
+            self.expect("a probe whose title has gone", (status, library.current(), targets(library)),
+                        (3, first, ["coastal-law"]))
+            self.expect_lines("a probe whose title has gone", printed, "  missing coastal-law: no row")
+            library.input.write("probes.tsv", b"title=papers+on+quays&volume=5&date=1994\tcoastal-law\n")
+            status, printed = library.run()
+            self.expect(f"the title of the second week: {printed}", (status, targets(library)), (0, []))
+            self.expect("by its new name", targets(library, BY_TITLE.replace("piers", "quays")), ["coastal-law"])
+            self.expect("the links of both versions are known",
+                        [line for line in printed.splitlines() if " gains " in line],
+                        ["  gains coastal-law https://coastal.example.com/journals/pp"])
+            self.expect("back", (library.run("--back")[0], targets(library)), (0, ["coastal-law"]))
+
+    def test_format(self) -> None:
+        """A version whose index has another format, or none, is not the same, although its tables are."""
+        with Library() as library:
+            first = library.current()
+            with open(library.path("current", "index", "format")) as file:
+                text = file.read()
+            self.expect("the format", text, "3 list\n")
+            with open(library.path("current", "index", "format"), "w") as file:
+                file.write("0 list\n")
+            status, printed = library.run()
+            self.expect(f"an older format: {printed}", (status, library.current() != first, targets(library)),
+                        (0, True, ["coastal-law"]))
+            second = library.current()
+            self.expect("nothing new", library.run(), (0, f"nothing new: {second} stays in use\n"))
+            shutil.rmtree(library.path("current", "index"))
+            self.expect("a version without an index", targets(library), [])
+            status, printed = library.run()
+            self.expect(f"then one with it: {printed}", (status, library.current() != second, targets(library)),
+                        (0, True, ["coastal-law"]))
+
+    def test_switch(self) -> None:
+        """The list of titles is in the index unless the site is without it."""
+        with Library() as library:
+            path = library.site.path("openlink.conf")
+            with open(path) as file:
+                site = file.read()
+            assert site.count(LIST.format("on")) == 1, "openlink.conf has no switch of the list"
+            folders = ["format", "keys", "list", "words"]
+            self.expect("with the list", (names_of(library), names_of(library, "list")), (folders, ["b", "j"]))
+            for state, expected in (("off", folders[:2]), ("on", folders)):
+                with open(path, "w") as file:
+                    file.write(site.replace(LIST.format("on"), LIST.format(state)))
+                before = library.current()
+                status, printed = library.run()
+                self.expect(f"{state}: {printed}", (status, library.current() != before, names_of(library)),
+                            (0, True, expected))
+                self.expect(f"titles are found, {state}", targets(library), ["coastal-law"])
+                self.expect(f"nothing new, {state}", library.run()[0], 0)
+
+    def test_many_titles(self) -> None:
+        """As many titles as make a file in most places of keys/: all are there once the version is in use."""
+        with Library() as library:
+            rows = [TITLE.replace("Papers on Piers", f"Papers {number}").replace("3030-0009", f"{4000000 + number}X")
+                    .replace("3030-0017", "").encode() for number in range(3000)]
+            library.input.add_row("coastal-law", b"\n".join(rows))
+            status, printed = library.run()
+            self.expect(f"3000 more titles: {printed}", (status, len(names_of(library, "keys")) > 3000), (0, True))
+            self.expect("one of them", targets(library, "/find.json?title=papers+1234&date=1994"), ["coastal-law"])
