@@ -10,6 +10,7 @@ import os, runpy, signal, subprocess, sys
 expected, file, script = int(sys.argv[1]), sys.argv[2], sys.argv[3]
 sys.argv = sys.argv[3:]
 sys.dont_write_bytecode = True
+sys.path[0] = os.path.dirname(os.path.realpath(script))  # as Python does for a script
 moments = 0
 
 
