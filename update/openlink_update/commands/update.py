@@ -7,7 +7,8 @@ from openlink_update.fetch import fetching, sources
 from openlink_update.input_files import InputFolder
 from openlink_update.machines.libraries import Libraries
 from openlink_update.machines.library_updates import ALONE, Updates
-from openlink_update.machines.machines import Receiver, deliver
+from openlink_update.machines.machines import deliver
+from openlink_update.machines.receiving import Receiver
 from openlink_update.outcome import ALL_NEW, DEVICE, KEPT, USAGE, WENT_BACK, Failure, Interrupted
 from openlink_update.report import prepare_streams, report
 from openlink_update.site.front_door import Site

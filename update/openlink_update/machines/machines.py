@@ -39,14 +39,12 @@ from openlink_update.site.front_door import FrontDoor, Site
 from openlink_update.site.names_file import NamesFile
 from openlink_update.site.probing import Probes
 from openlink_update.update_options import Options
-from openlink_update.versions import same_files
 from openlink_update.versions.library import Library, is_stamp, stamp_after
-from openlink_update.weekly_run import Run
 
 _ALONE = "."  # the library of a machine with one alone, by its place in the folder
 SECONDS_TO_ASK, _SECONDS_TO_SEND, _SECONDS_TO_RECEIVE = 60, 3600, 3600
 MOST_BYTES = 4 * 2**20  # that another machine may print
-_PROBES, _OF = "probes.tsv", "# hold in "
+PROBES, _OF = "probes.tsv", "# hold in "
 # Commands for another machine, in its folder. A file gets its name by a rename, so that the health page sees it whole.
 # A library whose last run was killed has no version. Draining ends by itself, if the run is killed; an empty file is
 # the operator's.
@@ -103,7 +101,7 @@ def _read(child: "subprocess.Popen[Any]", streams: list[IO[bytes]], seconds: flo
     return [text.decode("utf-8", "replace") for text in texts.values()]
 
 
-def _text_in(path: Path) -> str:
+def text_in(path: Path) -> str:
     try:
         return path.read_text(encoding="utf-8", errors="replace")
     except FileNotFoundError:
@@ -131,12 +129,12 @@ class _Sendable:
     def keep_probes(self, options: Options) -> None:
         """Writes the probes that hold in the version in use: the input may have some for files that are not yet in
         use."""
-        path, head = self.library.path(_PROBES), f"{_OF}{self.stamp}\n"
-        if _text_in(path).startswith(head):
+        path, head = self.library.path(PROBES), f"{_OF}{self.stamp}\n"
+        if text_in(path).startswith(head):
             return
         current = self.library.path("current")
         names_file = NamesFile(self.site, current)
-        probes = Probes(InputFolder(self.input), _PROBES)
+        probes = Probes(InputFolder(self.input), PROBES)
         if probes.list:
             folder = self.library.path("sending")
             shutil.rmtree(folder, ignore_errors=True)
@@ -233,7 +231,7 @@ class Machine:
         options = [f"--link-dest={self._place(name, 'versions', base)}" for base in bases]
         to = self._place(name, "versions", stamp)
         self._copy(f"{sendable.library.version(stamp)}/", f"{to}.sent/", *options)
-        self._copy(str(sendable.library.path(_PROBES)), f"{to}.probes")
+        self._copy(str(sendable.library.path(PROBES)), f"{to}.probes")
 
     def _receive(self, sendable: _Sendable) -> None:
         """Has it put a version in use, and then sends the input, from which it could make versions itself."""
@@ -280,7 +278,7 @@ class Delivery:
     def _name(self, machines: list[Machine], versions: str) -> list[Machine]:
         """Tells the machines that have all versions the name of the delivery, a new one if the versions are new. Then
         this machine has it, whose health page tells the balancer. Returns the machines that have it."""
-        named, _, before = _text_in(self._path).partition("\n")
+        named, _, before = text_in(self._path).partition("\n")
         is_old = before == versions and is_stamp(named)
         older = filter(is_stamp, [named, *(machine.delivery for machine in machines)])
         stamp = named if is_old else stamp_after(older)
@@ -317,57 +315,3 @@ def deliver(options: Options, status: int) -> int:
         report(f"nothing was sent: {failure}", "stderr")
         sent = failure.status
     return max(status, sent)
-
-
-class Receiver(Run):
-    """A run that puts in use what another machine has sent."""
-
-    def receive(self, stamp: str, most: int) -> int:
-        """Returns the exit status."""
-        library = self.library
-        old, sent = library.current(), library.version(f"{stamp}.probes")
-        library.forget_updates()
-        if stamp == old:
-            self._remove_sent()
-            report(f"{stamp} is in use already")
-            return ALL_NEW
-        path = self._place_of(stamp)
-        name = sent.name if "\t" in _text_in(sent) else "no probes"
-        probes = Probes(InputFolder(sent.parent), name)
-        with self.front_door(probes) as door:
-            trials = self.try_version(probes, door, path, old, tries_all=True)
-            if path != library.version(stamp):
-                library.complete(stamp)
-            self.put_in_use(stamp, old)
-            self.try_again(probes, trials)
-        interrupts.are_ignored()
-        library.settle()
-        if sent.exists():
-            os.rename(sent, library.path(_PROBES))
-        library.remove_old(most)
-        self._remove_sent()
-        report(f"{stamp} is in use")
-        return ALL_NEW
-
-    def _place_of(self, stamp: str) -> Path:
-        """The folder of the version: the one that was sent, or one that this machine had before."""
-        library = self.library
-        if stamp in library.versions():
-            return library.version(stamp)
-        sent, old = library.version(f"{stamp}.sent"), library.current()
-        if not sent.is_dir():
-            raise Failure(f"{sent}: nothing was sent")
-        library.remove_newer()
-        unfinished = library.version(f"{stamp}.new")
-        os.rename(sent, unfinished)
-        if self.others is not None:
-            same_files.link(unfinished, library.version(old) if old else None, self.others)
-        return unfinished
-
-    def _remove_sent(self) -> None:
-        """Removes what was sent and is not used."""
-        for path in self.library.path("versions").iterdir():
-            if path.suffix == ".sent":
-                shutil.rmtree(path)
-            elif path.suffix == ".probes":
-                path.unlink()
