@@ -1,7 +1,7 @@
 """A process that takes five seconds for a menu. Readers get no page of it, and so no probe of an update may hold there:
 both ask the processes by the same file of front_door."""
 import contextlib, select, socket, threading
-from openlink_update.site import front_door, probing
+from openlink_update.site import front_door, probes
 from cut_short import ARTICLE, WHOLE
 
 SECONDS = 5  # nginx leaves a process after three
@@ -38,17 +38,16 @@ class Process(threading.Thread):
         self.join()
 
 
-def links_at(probe, address):
+def links_at(address):
     """The names of the links that a probe finds there, or why there are none."""
     try:
-        return [name for name, _ in probe.links(address, ARTICLE)]
-    except probe.Unreachable as fault:
+        return list(probes.links(address, ARTICLE))
+    except probes.Unreachable as fault:
         return str(fault).removeprefix(f"{address}: ")
 
 
 def test(site, expect):
     """All processes have ended."""
-    probe = probing.load_probe("update")
     with front_door.FrontDoor(front_door.Site(site.path("openlink.conf")), site.path("trial")) as doors:
         door = doors.add_door(site.ports[:1], site.version(), "")
         doors.start()
@@ -57,7 +56,7 @@ def test(site, expect):
             processes = [Process(port, seconds) for port in site.ports]
             try:
                 for name, address in (("readers", f"http://127.0.0.1:{site.port}"), ("probes", door)):
-                    expect(f"{name}, of processes that take {seconds} s", links_at(probe, address), expected)
+                    expect(f"{name}, of processes that take {seconds} s", links_at(address), expected)
             finally:
                 for process in processes:
                     process.stop()

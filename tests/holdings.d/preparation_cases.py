@@ -2,6 +2,7 @@
 for a tab, and a table of two lines has the header COLUMNS."""
 import gzip, io, os, tempfile, zipfile
 from counting import expect
+from openlink_update.input_files import InputFolder
 from openlink_update.tables import file_patterns, preparation
 from openlink_update.outcome import Refused
 
@@ -269,8 +270,8 @@ def test_patterns():
                  "*.txt": "a1_2026-03-01.txt", "d*.txt": "d*.txt", "e*": "e*", "a[1]_2026-01-01.txt":
                  "a[1]_2026-01-01.txt", "a?_2026-03-01.txt": "a?_2026-03-01.txt"}
         for pattern, path in cases.items():
-            expect(f"the pattern {pattern}", file_patterns.path_of(os.path.join(folder, pattern)),
-                   os.path.join(folder, path))
+            got = file_patterns.path_of(os.path.join(folder, pattern), InputFolder(folder).matches)
+            expect(f"the pattern {pattern}", got, os.path.join(folder, path))
 
 
 def test_newest_files():

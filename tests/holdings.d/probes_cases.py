@@ -1,6 +1,6 @@
 """Tests of the source by which the log tells probes from readers."""
-import importlib.machinery, importlib.util
 from counting import expect
+from openlink_update.site import probes
 
 MARK = "&rfr_id=info:sid/openlink:probe"
 CASES = [
@@ -12,11 +12,8 @@ CASES = [
 
 
 def test_marks():
-    loader = importlib.machinery.SourceFileLoader("probe", "update/probe")
-    probe = importlib.util.module_from_spec(importlib.util.spec_from_loader("probe", loader))
-    loader.exec_module(probe)
     for query, is_marked in CASES:
-        expect(f"the source of {query}", probe.marked(query), query + MARK if is_marked else query)
+        expect(f"the source of {query}", probes.marked(query), query + MARK if is_marked else query)
 
 
 TESTS = [test_marks]

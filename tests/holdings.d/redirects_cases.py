@@ -65,7 +65,7 @@ def test_pins():
     """curl takes the addresses that were judged."""
     with Stand(HOSTS[2]):
         ended, done = download("/to-name")
-        expect("to a name with a public address", (ended, done.transfer.remote), ((None, True), HOSTS[2]))
+        expect("to a name with a public address", (ended, done.transfer.reply.remote), ((None, True), HOSTS[2]))
         expect("its name", [host for host, _, _, _ in PROVIDERS.requests("/table.txt?name")], [NAME])
 
 

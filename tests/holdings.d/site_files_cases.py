@@ -2,7 +2,9 @@
 before they are put in a version. And a port that is free, or none."""
 import contextlib, json, os, random, shutil, socket, subprocess, tempfile, types
 from counting import expect
+from pathlib import Path
 from openlink_update import children
+from openlink_update.input_files import InputFolder
 from openlink_update.site import names_file, targets_file
 from openlink_update.outcome import Failure
 
@@ -115,9 +117,11 @@ def test_versions():
         for name, data in (("old", json.dumps(GOOD).encode()), ("input", REFUSED[0][0])):
             with open(os.path.join(paths[name], "targets.json"), "wb") as file:
                 file.write(data)
-        added = names_file.NamesFile(site, paths["old"]).add(paths["new"], paths["input"], paths["old"])
-        expect("what is said", added, (["targets.json: the old one is kept", f"  {paths['input']}/targets.json: "
-                                        '"folder": NaN is no value of JSON'], True))
+        old, new = Path(paths["old"]), Path(paths["new"])
+        added = names_file.NamesFile(site, old).add(new, InputFolder(paths["input"]), old)
+        expect("what is said", (added.lines, added.is_older), ([
+            "targets.json: the old one is kept",
+            f"  {paths['input']}/targets.json: \"folder\": NaN is no value of JSON"], True))
         with open(os.path.join(paths["new"], "targets.json"), "rb") as file:
             expect("the old one", json.load(file), GOOD)
 

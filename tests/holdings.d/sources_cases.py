@@ -3,6 +3,7 @@ import datetime, json, os, signal, threading, time
 from openlink_update.fetch import downloads, fetching, sources
 from counting import expect, expect_lines
 from input import OLD, TABLE, Input, ended
+from openlink_update.input_files import InputFolder
 from openlink_update.outcome import Interrupted
 from patience import wait_until
 from providers import HOSTS, SENT, WHOLE, Providers
@@ -152,7 +153,7 @@ def test_examples():
     for path in ("docs/LIBRARIANS.md", "docs/man/openlink-fetch.8"):
         with open(path, encoding="utf-8") as file, Input() as folder:
             folder.write_sources(*(line.rstrip("\n") for line in file if "\thttps://" in line))
-            found, faults = sources.read(folder.path("sources.tsv"))
+            found, faults = sources.read(InputFolder(folder.folder))
         expect(f"the examples of {path}", ([source.file for source in found], faults),
                (["tidal-press.txt", "book-house.txt", "archive/journals.txt"], []))
 

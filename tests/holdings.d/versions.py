@@ -1,5 +1,6 @@
 """Versions of a library, made one after the other from files, without processes and without a front door."""
 import datetime, os, shutil, subprocess, tempfile
+from openlink_update.input_files import InputFolder
 from openlink_update.versions import target_list
 from openlink_update.versions.making import Maker
 from openlink_update.outcome import Failure
@@ -54,7 +55,7 @@ class Weeks:
             if walls:
                 self.maker.move_walls(True)
             else:
-                self.maker.make(target_list.read(self.path("input", "targets.tsv")), True)
+                self.maker.make(target_list.read(InputFolder(self.path("input"))), True)
         except Failure as failure:
             return [*self.said, str(failure)]
         self.version = folder

@@ -12,7 +12,7 @@ import sys
 # Tests in this package of tests/ need neither proofs nor the program; those of this one compile without proofs.
 EARLY, UNPROVED = "sources", "unproved"
 # The same of scripts directly in tests/. All others run the program.
-EARLY_SCRIPTS = ("names", "proofs", "scripts")
+EARLY_SCRIPTS = ("names", "proofs", "python", "scripts")
 MODULE = "tools/run_tests/module.py"
 
 

@@ -1,20 +1,31 @@
 """Processes that end with this one, even if it is killed; and free ports for them."""
-import ctypes, os, random, resource, signal, socket, subprocess, time
+import ctypes
+import os
+import random
+import resource
+import signal
+import socket
+import subprocess
+import time
+from collections.abc import Callable, Sequence
+from pathlib import Path
+from typing import Any
+
 from openlink_update.outcome import DEVICE, Failure
 
-DEATH_SIGNAL = 1  # PR_SET_PDEATHSIG of prctl
-LIBC = ctypes.CDLL(None)
-PORTS = range(20000, 32000)  # below those that the system gives to clients, from 32768 on
-claimed = []  # the sockets whose names are those of ports that this process took
+_DEATH_SIGNAL = 1  # PR_SET_PDEATHSIG of prctl
+_LIBC = ctypes.CDLL(None)
+_PORTS = range(20000, 32000)  # below those that the system gives to clients, from 32768 on
+claimed: list[socket.socket] = []  # the sockets whose names are those of ports that this process took
 
 
-def tied(most_bytes=None):
+def tied(most_bytes: int | None = None) -> Callable[[], None]:
     """What a child calls before its command starts: it gets SIGTERM when this process ends, and writes no longer
     files."""
     parent = os.getpid()
 
-    def tie():
-        LIBC.prctl(DEATH_SIGNAL, signal.SIGTERM)
+    def tie() -> None:
+        _LIBC.prctl(_DEATH_SIGNAL, signal.SIGTERM)
         if os.getppid() != parent:
             os._exit(1)
         if most_bytes is not None:
@@ -25,13 +36,25 @@ def tied(most_bytes=None):
     return tie
 
 
-def start(words, folder, most_bytes=None, **how):
+def start(
+    words: Sequence[str | Path], folder: str | Path, most_bytes: int | None = None, **how: Any
+) -> "subprocess.Popen[Any]":
     """Starts a command that ends with this process."""
     how = {"stdin": subprocess.DEVNULL, "start_new_session": True, **how}
     return subprocess.Popen(words, cwd=folder, preexec_fn=tied(most_bytes), **how)
 
 
-def stop(child):
+def write(child: "subprocess.Popen[bytes]", data: bytes) -> None:
+    """Gives a child all of its standard input. That it has ended already is seen by its status."""
+    if child.stdin:
+        try:
+            child.stdin.write(data)
+            child.stdin.close()
+        except BrokenPipeError:
+            pass
+
+
+def stop(child: "subprocess.Popen[Any]") -> None:
     if child.poll() is None:
         child.terminate()
         try:
@@ -41,7 +64,7 @@ def stop(child):
             child.wait()
 
 
-def is_open(port):
+def is_open(port: int) -> bool:
     """Whether something listens at a port of this machine."""
     try:
         socket.create_connection(("127.0.0.1", port), 1).close()
@@ -50,10 +73,10 @@ def is_open(port):
         return False
 
 
-def free_port():
+def free_port() -> int:
     """A port at which nothing listens. No process gets it from here again until this one ends: for so long it holds the
     name openlink-port-N of an abstract socket. A Failure says that there is none: any user can take these names."""
-    for port in random.sample(PORTS, len(PORTS)):
+    for port in random.sample(_PORTS, len(_PORTS)):
         claim = socket.socket(socket.AF_UNIX)
         try:
             claim.bind(f"\0openlink-port-{port}")
@@ -62,11 +85,14 @@ def free_port():
             return port
         except OSError:
             claim.close()
-    raise Failure(f"no free port from {PORTS[0]} to {PORTS[-1]}: their names openlink-port-N are taken, as `ss -xl` "
-                  "shows, or something listens at each", DEVICE)
+    raise Failure(
+        f"no free port from {_PORTS[0]} to {_PORTS[-1]}: their names openlink-port-N are taken, as `ss -xl` "
+        "shows, or something listens at each",
+        DEVICE,
+    )
 
 
-def wait_for(port, child, seconds):
+def wait_for(port: int, child: "subprocess.Popen[Any]", seconds: float) -> bool:
     """Whether a child listens at a port before it ends and before the time is over."""
     end = time.monotonic() + seconds
     while time.monotonic() < end and child.poll() is None:

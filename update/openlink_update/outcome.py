@@ -6,7 +6,7 @@ ALL_NEW, KEPT, USAGE, WENT_BACK, DEVICE = 0, 1, 2, 3, 4
 class Failure(Exception):
     """The run cannot continue. Its text says what is wrong and where."""
 
-    def __init__(self, text, status=WENT_BACK):
+    def __init__(self, text: str, status: int = WENT_BACK) -> None:
         super().__init__(text)
         self.status = status
 
@@ -14,7 +14,7 @@ class Failure(Exception):
 class Refused(Exception):
     """New files of one target cannot be used; each line of `reasons` names the file and says why."""
 
-    def __init__(self, reasons):
+    def __init__(self, reasons: list[str]) -> None:
         super().__init__("; ".join(reasons))
         self.reasons = reasons
 

@@ -1,7 +1,7 @@
-"""Where the files of the front door are: in the folder `nginx` beside the scripts as they are installed, and in
-`front_door` of the repository."""
-import os
+"""Where the commands and the front door are. The front door is in the folder `nginx` beside the commands as they are
+installed, and in `front_door` of the repository."""
+from pathlib import Path
 
-_BESIDE = os.path.dirname(os.path.dirname(os.path.realpath(__file__)))
-_INSTALLED = os.path.join(_BESIDE, "nginx")
-FRONT_DOOR = _INSTALLED if os.path.isdir(_INSTALLED) else os.path.join(os.path.dirname(_BESIDE), "front_door")
+COMMANDS = Path(__file__).resolve().parent.parent
+_INSTALLED = COMMANDS / "nginx"
+FRONT_DOOR = _INSTALLED if _INSTALLED.is_dir() else COMMANDS.parent / "front_door"

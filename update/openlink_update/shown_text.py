@@ -1,31 +1,34 @@
 """Texts as a person reads them, in a mail, on a terminal or in a spreadsheet. Tables, servers and other machines send
 any characters: some are commands of a terminal, reverse the order of what follows, or begin a formula."""
-import csv, io, re
+import csv
+import io
+import re
+from collections.abc import Iterable
 
 # Controls of ASCII but the end of a line, those of Latin-1, and those that end a line or set its direction.
-UNSAFE = re.compile("[\x00-\x09\x0b-\x1f\x7f-\x9f\u061c\u200e\u200f\u2028-\u202e\u2066-\u2069]")
-FORMULA = tuple("=+-@＝＋－＠")  # how a cell begins that some spreadsheets run as a formula
+_UNSAFE = re.compile("[\x00-\x09\x0b-\x1f\x7f-\x9f\u061c\u200e\u200f\u2028-\u202e\u2066-\u2069]")
+_FORMULA = tuple("=+-@＝＋－＠")  # how a cell begins that some spreadsheets run as a formula
 
 
-def printable(text):
+def printable(text: str) -> str:
     """A text that is safe to print: a tab is a space, and other characters that are not safe are question marks."""
-    return UNSAFE.sub("?", text.replace("\t", " "))
+    return _UNSAFE.sub("?", text.replace("\t", " "))
 
 
-def line_of(text, most=500):
-    """A text of another machine or of the disk as one line, cut after so many characters."""
+def line_of(text: str, most: int = 500) -> str:
+    """A text of another machine or of the disk as one line, cut after this number of characters."""
     text = printable(text.replace("\n", " "))
     return text if len(text) <= most else f"{text[:most]}.."
 
 
-def cell(text):
+def cell(text: str) -> str:
     """A cell that no spreadsheet runs as a formula, and that has one line."""
     text = printable(text.replace("\n", " "))
     start = text.strip()
-    return f"'{text}" if start.startswith(FORMULA) and len(start) > 1 else text
+    return f"'{text}" if start.startswith(_FORMULA) and len(start) > 1 else text
 
 
-def row(texts):
+def row(texts: Iterable[str]) -> str:
     """A line of a table for a spreadsheet, without its end. A cell with a quotation mark is quoted, so that it hides no
     cell after it."""
     buffer = io.StringIO()

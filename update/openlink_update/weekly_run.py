@@ -1,187 +1,224 @@
 """One run: makes the next version, tries it, puts it in use, and goes back to the version before if something fails."""
-import contextlib, datetime, os, sys
+import contextlib
+import dataclasses
+import datetime
+import functools
+from collections.abc import Callable, Sequence
+from pathlib import Path
+
 from openlink_update import children, interrupts
-from openlink_update.tables import coverage
 from openlink_update.exports import export_files
-from openlink_update.fetch import fetching
-from openlink_update.versions import making, same_files, target_list
-from openlink_update.site.front_door import FrontDoor
-from openlink_update.versions.making import Maker
-from openlink_update.site.names_file import NAME, NamesFile
+from openlink_update.fetch import sources
+from openlink_update.input_files import InputFolder
 from openlink_update.outcome import ALL_NEW, KEPT, Failure
-from openlink_update.site.probing import Trial
+from openlink_update.report import report
+from openlink_update.site.front_door import FrontDoor, Site
+from openlink_update.site.names_file import NAME, NamesFile
+from openlink_update.site.probing import Difference, Probes, Trial
+from openlink_update.site.processes import Processes
+from openlink_update.tables import archives, coverage
+from openlink_update.update_options import Options
+from openlink_update.versions import making, same_files, target_list
+from openlink_update.versions.library import Library
+from openlink_update.versions.making import Maker
 from openlink_update.versions.program import Program
 from openlink_update.versions.served import names_in, path_of
-from openlink_update.shown_text import printable
+from openlink_update.versions.target_list import Target
 
 
-def report(line, stream="stdout"):
-    """Prints a line, without the controls that a table or a server may have put in it. That nobody reads it, or that it
-    cannot be written, does not end a run."""
-    try:
-        print(printable(line), file=getattr(sys, stream), flush=True)
-    except OSError:
-        setattr(sys, stream, open(os.devnull, "w"))
+@dataclasses.dataclass(frozen=True)
+class _Trials:
+    """What the new version showed: its links for each probe; and the door by which the ports are asked for the same."""
+
+    running: str
+    links: list[dict[str, str]]
 
 
 class Run:
-    def __init__(self, library, processes, program, site, probes_of, others=None):
-        """`probes_of` reads the library's probes; see Probes. `others` has the versions in use of the machine's other
-        libraries, if it has several."""
-        self.library, self.processes, self.program, self.site = library, processes, program, site
-        self.probes_of, self.others = probes_of, others
+    def __init__(self, library: Library, site: Site, options: Options, others: Sequence[Path] | None = None) -> None:
+        """`others` has the versions in use of the machine's other libraries, if it has several."""
+        self.library, self.others = library, others
+        self.processes = Processes(site.ports, options.restart, options.reload, options.seconds)
+        self._program, self._site = options.program, site
         self.names_file = NamesFile(site, library.path("current"))
 
-    def update(self, folder, most, is_trial):
+    def update(self, folder: InputFolder, most: int, is_trial: bool) -> int:
         """Makes a version from a folder and, unless it is only a trial, puts it in use. Returns the exit status."""
-        targets = target_list.read(os.path.join(folder, "targets.tsv"))
-        for line in (*self.site.differences([target.name for target in targets], self.names_file.path_of_next(folder)),
-                     *fetching.unused(folder, [path for it in targets for path in (*it.tables, it.rules)])):
+        targets = target_list.read(folder)
+        names = [target.name for target in targets]
+        for line in (*self._site.differences(names, self.names_file.path_of_next(folder)), *_unused(folder, targets)):
             report(line)
-        return self.next_version(folder, is_trial, lambda maker: maker.make(targets, self.site.has_list),
-                                 lambda _: self.library.remove_old(most), tries_all=True)
+        return self._next_version(
+            folder,
+            lambda maker: maker.make(targets, self._site.has_list),
+            lambda: self.library.remove_old(most),
+            is_trial,
+            tries_all=True,
+        )
 
-    def move_walls(self, folder):
+    def move_walls(self, folder: InputFolder) -> int:
         """Makes a version from the files of the one in use, whose walls have moved, and puts it in its place, or four
         days would push out the versions of the weeks before. Probes that may be for new files, since they do not hold
         now, are not tried. Returns the exit status."""
         old = self.library.current()
         if old is None:
             raise Failure("there is no version in use")
-        if not self.has_walls(self.library.version(old)):
+        if not self._has_walls(self.library.version(old)):
             report(f"no walls of months or days: {old} stays in use")
             return ALL_NEW
-        return self.next_version(folder, False, lambda maker: maker.move_walls(self.site.has_list),
-                                 self.library.remove, tries_all=False)
+        return self._next_version(
+            folder,
+            lambda maker: maker.move_walls(self._site.has_list),
+            functools.partial(self.library.remove, old),
+            is_trial=False,
+            tries_all=False,
+        )
 
-    def has_walls(self, version):
-        for name in names_in(version):
-            with open(os.path.join(version, path_of(name)), "rb") as file:
-                if coverage.has_walls(file.read()):
-                    return True
-        return False
+    @staticmethod
+    def _has_walls(version: Path) -> bool:
+        return any(coverage.has_walls((version / path_of(name)).read_bytes()) for name in names_in(version))
 
-    def next_version(self, folder, is_trial, make, remove, tries_all):
-        """Makes a version, tries the probes of a folder, and puts it in use. Then `remove` gets the version that was in
-        use. If it does not try all probes, it tries those that hold in the version in use. Returns the exit status."""
+    def _next_version(
+        self,
+        folder: InputFolder,
+        make: Callable[[Maker], object],
+        remove: Callable[[], None],
+        is_trial: bool,
+        tries_all: bool,
+    ) -> int:
+        """Makes a version, tries the probes of a folder, and puts it in use. Then it calls `remove`. If it does not try
+        all probes, it tries those that hold in the version in use. Returns the exit status."""
         library = self.library
         old = library.current()
-        probes = self.probes_of(os.path.join(folder, "probes.tsv"))
+        probes = Probes(folder, "probes.tsv")
         new = library.begin()
-        unfinished = library.version(f"{new}.new")
-        older, program = old and library.version(old), Program(self.program, unfinished)
+        unfinished, older = library.version(f"{new}.new"), library.version(old) if old else None
+        program = Program(self._program, unfinished)
         maker = Maker(unfinished, older, program, datetime.date.today(), report)
         make(maker)
-        self.add_names(maker, folder if tries_all else None, unfinished, older)
-        if old and making.is_same(unfinished, older) and self.names_file.is_same(unfinished, older):
-            return self.say_end(maker, f"nothing new: {old} stays in use")
-        maker.make_index(self.site.has_list)
-        self.export(unfinished)
+        self._add_names(maker, folder if tries_all else None, unfinished, older)
+        if older and making.is_same(unfinished, older) and self.names_file.is_same(unfinished, older):
+            return self._say_end(maker, f"nothing new: {old} stays in use")
+        maker.make_index(self._site.has_list)
+        self._export(unfinished)
         if self.others is not None:
             same_files.link(unfinished, older, self.others)
         with self.front_door(probes) as door:
-            links = self.try_version(probes, door, unfinished, old, tries_all)
+            trials = self.try_version(probes, door, unfinished, old, tries_all)
             if is_trial:
-                return self.say_end(maker, "a trial: nothing was put in use")
+                return self._say_end(maker, "a trial: nothing was put in use")
             library.complete(new)
-            library.remember(old)
-            library.move(new)
-            self.processes.restart_all(names_in(library.version(new)))
-            self.reload_site()
-            self.try_again(probes, door, links)
+            self.put_in_use(new, old)
+            self.try_again(probes, trials)
         interrupts.are_ignored()
         library.settle()
-        remove(old)
-        return self.say_end(maker, f"{new} is in use")
+        remove()
+        return self._say_end(maker, f"{new} is in use")
 
-    def add_names(self, maker, folder, unfinished, older):
+    def put_in_use(self, new: str, old: str | None) -> None:
+        """Moves the link from the old version to a complete one, and restarts the processes."""
+        self.library.remember(old)
+        self.library.move(new)
+        self.processes.restart_all(names_in(self.library.version(new)))
+        self.reload_site()
+
+    def _add_names(self, maker: Maker, folder: InputFolder | None, unfinished: Path, older: Path | None) -> None:
         """Puts targets.json in the version, if the input has one."""
-        lines, is_kept = self.names_file.add(unfinished, folder, older)
-        for line in lines:
+        addition = self.names_file.add(unfinished, folder, older)
+        for line in addition.lines:
             report(line)
-        if is_kept:
+        if addition.is_older:
             maker.kept.append(NAME)
 
-    def export(self, version):
+    def _export(self, version: Path) -> None:
         """Writes the version's holdings for others."""
-        fault = export_files.make(version, self.site, self.names_file.path_in(version))
+        fault = export_files.make(version, self._site, self.names_file.path_in(version))
         if fault:
             report(f"the lists for others name targets without labels: {fault}")
 
-    def reload_site(self):
+    def reload_site(self) -> None:
         """Has nginx read targets.json again, if it is that of the version in use."""
         if self.names_file.is_served():
             self.processes.reload_site()
 
-    def front_door(self, probes):
+    def front_door(self, probes: Probes) -> "contextlib.AbstractContextManager[FrontDoor | None]":
         """The front door for the probes; none is needed if there are no probes."""
         if not probes.list:
             report(f"{probes.path}: no probes, so no link was tried")
             return contextlib.nullcontext()
-        return FrontDoor(self.site, self.library.path("trial"))
+        return FrontDoor(self._site, self.library.path("trial"))
 
-    def try_version(self, probes, door, unfinished, old, tries_all):
-        """Loads the new version and resolves the probes. A Failure says which differ. Returns the links of each
-        probe."""
-        port, version_before = children.free_port(), old and self.library.version(old)
-        if not probes.list:
-            with Trial(self.program, unfinished, port):
+    def try_version(
+        self, probes: Probes, door: FrontDoor | None, unfinished: Path, old: str | None, tries_all: bool
+    ) -> _Trials | None:
+        """Loads the new version and resolves the probes, if there are some. A Failure says which differ."""
+        port = children.free_port()
+        if not door:
+            with Trial(self._program, unfinished, port):
                 return None
         targets = self.names_file.path_in(unfinished)
         trial = door.add_door([port], unfinished, targets)
-        door.running = door.add_door(self.processes.ports, self.library.path("current"), targets)
-        older = door.add_door([port], version_before, self.names_file.path_in(version_before)) if old else None
+        running = door.add_door(self.processes.ports, self.library.path("current"), targets)
+        older = None
+        if old:
+            version = self.library.version(old)
+            older = door.add_door([port], version, self.names_file.path_in(version))
         door.start()
-        before = self.links_before(probes, older, port, old)
+        before = self._links_before(probes, older, port, old)
         if before is not None and not tries_all:
-            before, left_out = probes.keep_those_that_hold(before)
-            if left_out:
-                report(f"not tried, since they differ with the version in use too: probes {', '.join(left_out)}")
-        with Trial(self.program, unfinished, port):
+            before, others = probes.keep_those_that_hold(before)
+            if others:
+                report(f"not tried, since they differ with the version in use too: probes {', '.join(others)}")
+        with Trial(self._program, unfinished, port):
             differing = probes.differences(trial)
             links = probes.links(trial)
         if before is not None:
             for line in probes.changes(before, links):
                 report(line)
         if differing:
-            self.say_differences(probes, differing, before)
+            self._say_differences(probes, differing, before)
             raise Failure(f"{len(differing)} of {len(probes.list)} probes differ with the new version")
-        return links
+        return _Trials(running, links)
 
-    def links_before(self, probes, older, port, old):
+    def _links_before(
+        self, probes: Probes, door: str | None, port: int, old: str | None
+    ) -> list[dict[str, str]] | None:
         """The links that the version in use has for each probe, or None if it cannot be served."""
-        if old is None:
+        if old is None or door is None:
             return None
         try:
-            with Trial(self.program, self.library.version(old), port):
-                return probes.links(older)
+            with Trial(self._program, self.library.version(old), port):
+                return probes.links(door)
         except Failure as failure:
             report(f"the links of the version in use are not known: {failure}")
             return None
 
-    def say_differences(self, probes, differing, before):
-        numbers = [number for number, _, _ in probes.list]
-        for number, query, lines in differing:
-            report(f"{probes.path}:{number}: {query}")
-            for line in lines:
+    @staticmethod
+    def _say_differences(
+        probes: Probes, differing: list[Difference], before: list[dict[str, str]] | None = None
+    ) -> None:
+        for difference in differing:
+            probe = difference.probe
+            report(f"{probes.path}:{probe.number}: {probe.query}")
+            for line in difference.lines:
                 report(line)
-            at = numbers.index(number)
-            if before is not None and set(before[at]) != set(probes.list[at][2]):
+            if before is not None and set(before[probes.list.index(probe)]) != set(probe.targets):
                 report("  the version in use differs too")
 
-    def try_again(self, probes, door, links):
+    def try_again(self, probes: Probes, trials: _Trials | None) -> None:
         """Resolves the probes through the ports. A Failure says which differ now."""
-        if not probes.list:
+        if not probes.list or not trials:
             return
-        differing = probes.differences(door.running)
+        differing = probes.differences(trials.running)
         if differing:
-            self.say_differences(probes, differing, None)
+            self._say_differences(probes, differing)
             raise Failure(f"{len(differing)} of {len(probes.list)} probes differ at the ports")
-        if probes.links(door.running) != links:
+        if probes.links(trials.running) != trials.links:
             raise Failure("the processes at the ports have other links than the new version")
         report(f"{len(probes.list)} probes hold" if len(probes.list) != 1 else "1 probe holds")
 
-    def say_end(self, maker, text):
+    @staticmethod
+    def _say_end(maker: Maker, text: str) -> int:
         parts = [text]
         if maker.kept:
             parts.append(f"old files of {', '.join(maker.kept)} kept")
@@ -190,15 +227,29 @@ class Run:
         report("; ".join(parts))
         return KEPT if maker.kept or maker.left_out else ALL_NEW
 
-    def go_back(self, ports):
+    def go_back(self, ports: list[int]) -> None:
         """Serves the version that `before` names, at these ports, and then at the others: a process that has ended in
         the meantime may have started with the new version. What fails is said, and does not stop it, nor do signals."""
         interrupts.are_ignored()
         stamp = self.library.version_of("before")
         self.library.move_back(stamp)
         is_well = True
+        if stamp:
+            is_well = self._restart(stamp, ports)
+            try:
+                self.reload_site()
+            except Failure as failure:
+                is_well = False
+                report(f"{stamp} again: {failure}")
+        if is_well:
+            self.library.settle()
+            report(f"{stamp} is in use again" if stamp else "no version is in use")
+
+    def _restart(self, stamp: str, ports: list[int]) -> bool:
+        """Whether all processes serve a version again: those at these ports first, and then the others."""
+        is_well = True
         others = [port for port in self.processes.ports if port not in ports] if ports else []
-        for port in [*ports, *others] if stamp else []:
+        for port in [*ports, *others]:
             if port in others and not is_well:
                 break  # if restarts fail, the other processes are left as they are
             try:
@@ -206,12 +257,13 @@ class Run:
             except Failure as failure:
                 is_well = False
                 report(f"{stamp} again: {failure}")
-        try:
-            if stamp:
-                self.reload_site()
-        except Failure as failure:
-            is_well = False
-            report(f"{stamp} again: {failure}")
-        if is_well:
-            self.library.settle()
-            report(f"{stamp} is in use again" if stamp else "no version is in use")
+        return is_well
+
+
+def _unused(folder: InputFolder, targets: list[Target]) -> list[str]:
+    """A line for files that a folder's list fetches and no target has, as after a slip in a name."""
+    fetched = sources.read(folder)[0] if folder.exists(sources.LIST) else []
+    patterns = [path for target in targets for path in (*target.tables, target.rules)]
+    files = [source.file for source in fetched]
+    unused = [file for file in files if not any(archives.fits(str(folder.place(file)), each) for each in patterns)]
+    return [f"{folder.place(sources.LIST)}: fetched, and no target has it: {', '.join(unused)}"] if unused else []

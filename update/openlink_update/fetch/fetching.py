@@ -1,185 +1,239 @@
-"""Fetches the files of sources.tsv. A file is replaced by a rename, and only by a whole reply that can be a table.
+"""Fetches the files of sources.tsv. A file is replaced by a rename, and only by a whole reply that can be a table. The
+work of openlink-fetch.
 
     .fetch/state.json   what is remembered of each file
     .fetch/N            the body of a reply; the next run removes it
     .fetch/lock         locked by a run as long as it lives
 """
-import contextlib, datetime, fcntl, hashlib, os, shutil
-from openlink_update.tables import archives, headers, received_text
-from openlink_update.fetch import downloads, sources
-from openlink_update.fetch.fetch_state import State, sum_of
-from openlink_update.versions.library import sync
-from openlink_update.outcome import ALL_NEW, DEVICE, KEPT, USAGE, Failure, Interrupted, Unreadable
+import argparse
+import contextlib
+import datetime
+import fcntl
+import hashlib
+import os
+import shutil
+from collections.abc import Callable, Sequence
+from pathlib import Path
+from typing import IO
 
-FOLDER, STATE = ".fetch", "state.json"
-MOST_DAYS = 90  # that a file may go without a change
+from openlink_update import interrupts
+from openlink_update.fetch import downloads, sources
+from openlink_update.fetch.downloads import Download
+from openlink_update.fetch.fetch_state import State
+from openlink_update.fetch.sources import Source
+from openlink_update.input_files import InputFolder
+from openlink_update.outcome import ALL_NEW, DEVICE, KEPT, USAGE, Failure, Interrupted, Unreadable
+from openlink_update.report import prepare_streams, report
+
+_INPUT = "/etc/openlink/input"
+_FOLDER, _LOCK, _STATE = ".fetch", "lock", "state.json"
+_MOST_DAYS = 90  # that a file may go without a change
 SECONDS, PAUSE = 600, 10  # for a file, all tries together, and before the second try
 
 
-def rows_in(text):
-    """How many lines come after the header, or after the first line if there is no header of the standard."""
+def main(words: list[str] | None = None) -> int:
+    parser = argparse.ArgumentParser(prog="openlink-fetch", description="fetches the tables of providers")
+    parser.add_argument("files", nargs="*", metavar="FILE", help="a file of sources.tsv (all that are due)")
+    parser.add_argument("--input", default=_INPUT, metavar="FOLDER", help=f"the folder with sources.tsv ({_INPUT})")
+    parser.add_argument(
+        "--seconds", type=float, default=SECONDS, metavar="N", help=f"for a file, all tries together ({SECONDS})"
+    )
+    parser.add_argument(
+        "--pause",
+        type=float,
+        default=PAUSE,
+        metavar="N",
+        help=f"seconds before the second try, and twice as many before the third ({PAUSE})",
+    )
+    options = parser.parse_args(words)
+    if not options.seconds > 0 or not options.pause >= 0:
+        parser.error("--seconds is above 0, and --pause at least 0")
+    os.umask(0o022)
+    prepare_streams()
+    interrupts.end_the_run()
+    try:
+        return fetch(options.input, report, options.seconds, options.pause, options.files)
+    except Interrupted as ending:
+        fault, status = f"ended by {ending}", DEVICE
+    except Failure as failure:
+        fault, status = str(failure), failure.status
+    except OSError as error:
+        fault, status = f"{error.filename or options.input}: {error.strerror}", DEVICE
+    report(f"openlink-fetch: {fault}", "stderr")
+    return status
+
+
+def fetch(
+    folder: str | Path, report: Callable[[str], None], seconds: float, pause: float, files: Sequence[str] = ()
+) -> int:
+    """Fetches the files of a folder's list. Returns the exit status; a Failure or OSError ends it early."""
+    if shutil.which("curl") is None:
+        raise Failure("no curl on this machine", DEVICE)
+    return _Fetch(InputFolder(os.path.abspath(folder)), report, seconds, pause).fetch(files)
+
+
+def _rows_in(text: str) -> int:
+    """The number of lines after the header, or after the first line if there is no header of the standard."""
+    from openlink_update.tables import headers
+
     lines = text.split("\n")
-    return max(sum(1 for line in lines[headers.find(lines)[0] or 0:] if line.strip()) - 1, 0)
+    return max(sum(bool(line.strip()) for line in lines[headers.find(lines)[0] or 0 :]) - 1, 0)
 
 
-def table_in(data, source):
+def table_in(data: bytes, source: Source) -> bytes:
     """What a reply brings to the file of a source: its bytes, or those of a member. Unreadable if it is no table."""
-    inner = archives.unpacked(data, source.member or "*")
+    # Loaded here, since a run that gets no file needs no reader of tables.
+    from openlink_update.tables import archives, received_text
+
+    inner: bytes = archives.unpacked(data, source.member or "*")
     text = received_text.text_of(inner)[0]
     if not text.strip():
         raise Unreadable("empty")
     if received_text.is_web_page(text):
         raise Unreadable("a web page, not a table: the address may want a login")
-    rows = rows_in(text)
+    rows = _rows_in(text)
     if rows < source.least:
-        raise Unreadable(f"{headers.number(rows, 'row')}, and at least {source.least} must be there")
+        raise Unreadable(f"{_number(rows, 'row')}, and at least {source.least} must be there")
     return inner if source.member else data
 
 
-class Fetch:
+def _number(count: int, noun: str) -> str:
+    return f"{count} {noun}" if count == 1 else f"{count} {noun}s"
+
+
+class _Fetch:
     """One run, in the folder of the list. `report` prints a line."""
 
-    def __init__(self, folder, report, seconds, pause):
-        self.folder, self.report, self.seconds, self.pause = os.path.abspath(folder), report, seconds, pause
-        self.faults, self.changes = [], []  # pairs of a file and a line
-        self.has_failed, self.state = False, None  # whether a file could not be written
+    def __init__(self, folder: InputFolder, report: Callable[[str], None], seconds: float, pause: float) -> None:
+        self._folder, self._report, self._seconds, self._pause = folder, report, seconds, pause
+        self._place = folder.place(_FOLDER)
+        self._faults: list[tuple[str | None, str]] = []  # pairs of a file and a line
+        self._changes: list[tuple[str | None, str]] = []
+        self._has_failed = False  # whether a file could not be written
 
-    def path(self, *names):
-        return os.path.join(self.folder, *names)
-
-    def fetch(self, files):
+    def fetch(self, files: Sequence[str]) -> int:
         """Fetches the files that are due, or those that are named. Returns the exit status."""
-        listed, wrong = sources.read(self.path("sources.tsv"))
-        self.faults = [(None, line) for line in wrong]
+        listed, wrong = sources.read(self._folder)
+        self._faults = [(None, line) for line in wrong]
         unknown = [file for file in files if file not in [source.file for source in listed]]
         if unknown:
-            raise Failure(f"{self.path('sources.tsv')} has no {', '.join(unknown)}", USAGE)
-        os.makedirs(self.path(FOLDER), mode=0o700, exist_ok=True)
-        with open(self.path(FOLDER, "lock"), "a") as lock:
-            self.lock(lock)
-            self.clear()
-            self.state = State(self.path(FOLDER, STATE), self.folder, self.time_of_secrets(), datetime.date.today())
-            chosen = [source for source in listed if source.file in files or not files and self.state.is_due(source)]
-            self.run(chosen)
-        self.say(listed, len(chosen))
-        return DEVICE if self.has_failed else KEPT if self.faults else ALL_NEW
+            raise Failure(f"{self._folder.place(sources.LIST)} has no {', '.join(unknown)}", USAGE)
+        self._folder.make(_FOLDER)
+        with open(self._place / _LOCK, "a") as lock:
+            self._lock(lock)
+            self._clear()
+            state = f"{_FOLDER}/{_STATE}"
+            self._state = State(self._folder, state, self._time_of_secrets(), datetime.date.today())
+            chosen = [source for source in listed if source.file in files or not files and self._state.is_due(source)]
+            self._run(chosen)
+        self._say(listed, len(chosen))
+        return DEVICE if self._has_failed else KEPT if self._faults else ALL_NEW
 
-    def lock(self, file):
+    @staticmethod
+    def _lock(file: IO[str]) -> None:
         try:
             fcntl.flock(file, fcntl.LOCK_EX | fcntl.LOCK_NB)
         except BlockingIOError as fault:
             raise Failure(f"{file.name}: another run has not ended", DEVICE) from fault
 
-    def clear(self):
+    def _clear(self) -> None:
         """Removes what a run that was ended or killed has left."""
-        for name in os.listdir(self.path(FOLDER)):
-            if name not in ("lock", STATE):
-                os.unlink(self.path(FOLDER, name))
+        for path in self._place.iterdir():
+            if path.name not in (_LOCK, _STATE):
+                path.unlink()
 
-    def run(self, chosen):
+    def _run(self, chosen: list[Source]) -> None:
         """Downloads files side by side. A file whose secrets are missing is not fetched."""
+        secrets, fault = dict[str, str](), None
         try:
-            secrets, fault = sources.read_secrets(self.path("secrets.tsv")), None
+            secrets = sources.read_secrets(self._folder)
         except (sources.Wrong, OSError) as wrong:
-            secrets, fault = {}, str(wrong)
+            fault = str(wrong)
         of_download = {}
         for number, source in enumerate(chosen):
             missing = sorted(source.names() - secrets.keys())
             if missing:
-                self.keep(source, fault or f"secrets.tsv has no {', '.join(missing)}")
+                self._keep(source, fault or f"secrets.tsv has no {', '.join(missing)}")
             else:
-                of_download[self.download(source, secrets, number)] = source
-        with contextlib.closing(downloads.run(of_download)) as done:
-            for download in done:
+                of_download[self._download(source, secrets, number)] = source
+        with contextlib.closing(downloads.run(of_download)) as ready:
+            for download in ready:
                 try:
-                    self.take(of_download[download], download)
+                    self._take(of_download[download], download)
                 except Interrupted:
                     raise
                 except Exception as error:
-                    self.has_failed |= isinstance(error, OSError)
-                    self.keep(of_download[download], downloads.fault_of(error))
-                self.write_state()
+                    self._has_failed |= isinstance(error, OSError)
+                    self._keep(of_download[download], downloads.fault_of(error))
+                self._write_state()
 
-    def write_state(self):
+    def _write_state(self) -> None:
         try:
-            self.state.write()
+            self._state.write()
         except OSError as error:
-            self.has_failed = True
-            self.faults.append((None, downloads.fault_of(error)))
+            self._has_failed = True
+            self._faults.append((None, downloads.fault_of(error)))
 
-    def download(self, source, secrets, number):
-        return downloads.Download(sources.address_of(source, secrets), sources.headers_of(source, secrets),
-                                  self.state.conditions(source), self.path(FOLDER, str(number)), self.seconds,
-                                  self.pause)
+    def _download(self, source: Source, secrets: dict[str, str], number: int) -> Download:
+        return Download(
+            source.address_with(secrets),
+            source.headers_with(secrets),
+            self._state.conditions(source),
+            self._place / str(number),
+            self._seconds,
+            self._pause,
+        )
 
-    def time_of_secrets(self):
+    def _time_of_secrets(self) -> int | None:
         try:
-            return os.stat(self.path("secrets.tsv")).st_mtime_ns
+            return self._folder.status(sources.SECRETS).st_mtime_ns
         except OSError:
             return None
 
-    def take(self, source, download):
+    def _take(self, source: Source, download: Download) -> None:
         """Takes a download that is done, and remembers it."""
         if download.is_unchanged:
-            self.state.set_date(source, "checked")
-        elif download.is_whole:
+            self._state.set_date(source, "checked")
+        elif download.is_whole and download.transfer:
             try:
-                with open(download.body, "rb") as file:
-                    data = table_in(file.read(), source)
+                data = table_in(download.body.read_bytes(), source)
             except Unreadable as fault:
-                self.keep(source, str(fault))
+                self._keep(source, str(fault))
             else:
-                self.replace(source, data, download)
-                self.state.remember(source, download.transfer.headers)
+                self._replace(source, data, download)
+                self._state.remember(source, download.transfer.reply.headers)
         else:
-            self.has_failed |= download.has_failed
-            self.keep(source, download.fault)
+            self._has_failed |= download.has_failed
+            self._keep(source, download.fault or "")
         if os.path.lexists(download.body):
             os.unlink(download.body)
 
-    def replace(self, source, data, download):
+    def _replace(self, source: Source, data: bytes, download: Download) -> None:
         """Gives the file of a source these bytes, unless it has them."""
-        path, is_new = self.path(source.file), not os.path.exists(self.path(source.file))
-        if sum_of(path) == hashlib.sha256(data).hexdigest():
+        is_new = not self._folder.exists(source.file)
+        if self._state.sum_of(source) == hashlib.sha256(data).hexdigest():
             return
-        os.makedirs(os.path.dirname(path), exist_ok=True)
-        with open(download.body, "wb") as file:
-            file.write(data)
-        os.chmod(download.body, 0o644)
-        sync(download.body)
-        os.rename(download.body, path)
-        sync(os.path.dirname(path))
-        self.state.set_date(source, "changed")
-        self.changes.append((source.file, f"{'new' if is_new else 'changed'}, {len(data):,} bytes"))
+        self._folder.replace(source.file, data, download.body)
+        self._state.set_date(source, "changed")
+        self._changes.append((source.file, f"{'new' if is_new else 'changed'}, {len(data):,} bytes"))
 
-    def keep(self, source, reason):
-        is_there = os.path.exists(self.path(source.file))
-        what = "kept the old file" if is_there else "not fetched, and there is no old file"
-        self.faults.append((source.file, f"{what}: {reason}"))
+    def _keep(self, source: Source, reason: str) -> None:
+        exists = self._folder.exists(source.file)
+        what = "kept the old file" if exists else "not fetched, and there is no old file"
+        self._faults.append((source.file, f"{what}: {reason}"))
 
-    def say(self, listed, count):
+    def _say(self, listed: list[Source], count: int) -> None:
         """What could not be fetched comes first."""
-        old = [(source.file, f"not changed for {days} days") for source in listed
-               for days in [self.state.days_since(source, "changed")] if days and days > max(MOST_DAYS, source.every)]
-        order = [None] + [source.file for source in listed]
-        for lines in (self.faults, old, self.changes):
-            for file, line in sorted(lines, key=lambda it: order.index(it[0])):
-                self.report(line if file is None else f"{file}: {line}")
-        self.report(f"{headers.number(count, 'file')} asked for, {len(self.changes)} new or changed, "
-                    f"{sum(file is not None for file, _ in self.faults)} not fetched")
-
-
-def unused(folder, patterns):
-    """A line for files that a folder's list fetches and none of these paths means, as after a slip in a name."""
-    path = os.path.join(folder, "sources.tsv")
-    listed = sources.read(path)[0] if os.path.exists(path) else []
-    found = [source.file for source in listed
-             if not any(archives.fits(os.path.join(folder, source.file), pattern) for pattern in patterns)]
-    return [f"{path}: fetched, and no target has it: {', '.join(found)}"] if found else []
-
-
-def fetch(folder, report, seconds, pause, files=()):
-    """Fetches the files of a folder's list. Returns the exit status; a Failure or OSError ends it early."""
-    if shutil.which("curl") is None:
-        raise Failure("no curl on this machine", DEVICE)
-    return Fetch(folder, report, seconds, pause).fetch(files)
+        old: list[tuple[str | None, str]] = []
+        for source in listed:
+            days = self._state.days_since(source, "changed")
+            if days and days > max(_MOST_DAYS, source.every):
+                old.append((source.file, f"not changed for {days} days"))
+        order = [None, *(source.file for source in listed)]
+        groups = [self._faults, old, self._changes]
+        for lines in groups:
+            for file, line in sorted(lines, key=lambda pair: order.index(pair[0])):
+                self._report(line if file is None else f"{file}: {line}")
+        failures = sum(file is not None for file, _ in self._faults)
+        number = f"{_number(count, 'file')} asked for"
+        self._report(f"{number}, {len(self._changes)} new or changed, {failures} not fetched")

@@ -9,14 +9,21 @@ tab, its address, a tab, and options separated by semicolons; the last cell may 
 
 {NAME} in an address or a header stands for a value of secrets.tsv, whose lines have a name, a tab and the value. Empty
 lines and lines that begin with # are skipped in both."""
-import dataclasses, os, re, stat
+import dataclasses
+import re
+import stat
+from collections.abc import Iterable
+from typing import Any
 from urllib.parse import quote, urlsplit
 
-LISTS = ("targets.tsv", "probes.tsv", "sources.tsv", "secrets.tsv")
-SECRET = re.compile(r"\{([A-Za-z0-9_.-]{1,64})\}")
-HEADER = re.compile(r"header +([A-Za-z0-9-]+): *(.*\S)")
-NUMBER = {"every": re.compile(r"every (\d{1,5}) days?"), "least": re.compile(r"least (\d{1,9}) rows?")}
-PRINTABLE = re.compile(r"[!-~]+")
+from openlink_update.input_files import InputFolder, Line
+
+LIST, SECRETS = "sources.tsv", "secrets.tsv"
+_LISTS = ("targets.tsv", "probes.tsv", LIST, SECRETS)
+_SECRET = re.compile(r"\{([A-Za-z0-9_.-]{1,64})\}")
+_HEADER = re.compile(r"header +([A-Za-z0-9-]+): *(.*\S)")
+_NUMBER = {"every": re.compile(r"every (\d{1,5}) days?"), "least": re.compile(r"least (\d{1,9}) rows?")}
+_PRINTABLE = re.compile(r"[!-~]+")
 
 
 class Wrong(Exception):
@@ -24,75 +31,91 @@ class Wrong(Exception):
 
 
 @dataclasses.dataclass(frozen=True)
+class _Header:
+    """A line of a request. {NAME} in its value stands for a secret."""
+
+    name: str
+    value: str
+
+
+@dataclasses.dataclass(frozen=True)
 class Source:
-    file: str        # below the folder of the list
-    address: str     # {NAME} stands for a secret, here and in the headers
-    headers: tuple = ()  # pairs of a name and a value
+    file: str  # below the folder of the list
+    address: str  # {NAME} stands for a secret
+    headers: tuple[_Header, ...] = ()
     member: str = ""
-    every: int = 0   # days
-    least: int = 1   # rows
+    every: int = 0  # days
+    least: int = 1  # rows
     is_plain: bool = False
 
-    def text(self):
+    def text(self) -> str:
         """What the reply depends on, without secrets."""
-        return "\t".join([self.address, self.member, *(": ".join(it) for it in self.headers)])
+        return "\t".join([self.address, self.member, *(f"{header.name}: {header.value}" for header in self.headers)])
 
-    def names(self):
+    def names(self) -> set[str]:
         """The names of the secrets that it needs."""
-        return {name for text in (self.address, *(value for _, value in self.headers)) for name in SECRET.findall(text)}
+        texts = (self.address, *(header.value for header in self.headers))
+        return {name for text in texts for name in _SECRET.findall(text)}
+
+    def address_with(self, secrets: dict[str, str]) -> str:
+        """Its address. The characters of a secret cannot change what the other parts of it mean."""
+        return _SECRET.sub(lambda match: quote(secrets[match[1]], safe=""), self.address)
+
+    def headers_with(self, secrets: dict[str, str]) -> list[str]:
+        return [
+            f"{header.name}: {_SECRET.sub(lambda match: secrets[match[1]], header.value)}" for header in self.headers
+        ]
 
 
-def lines_of(path):
-    """Yields the number and the text of each line that is not skipped. OSError or Wrong if there are none to read."""
+def _lines(folder: InputFolder, name: str) -> list[Line]:
+    """The lines of a list. OSError or Wrong if it cannot be read."""
     try:
-        with open(path, encoding="utf-8-sig") as file:
-            lines = file.read().split("\n")
+        return list(folder.lines(name))
     except UnicodeDecodeError as fault:
-        raise Wrong(f"{path}: not UTF-8") from fault
-    for number, line in enumerate(lines, 1):
-        if line.strip() and not line.startswith("#"):
-            yield number, line.rstrip("\r")
+        raise Wrong(f"{folder.place(name)}: not UTF-8") from fault
 
 
-def read(path):
-    """The sources of a list, and a line for each line of it that is wrong."""
-    sources, faults = {}, []
+def read(folder: InputFolder) -> tuple[list[Source], list[str]]:
+    """The sources of a folder's list, and a line for each line of it that is wrong."""
+    sources: dict[str, Source] = {}
+    faults = []
     try:
-        lines = list(lines_of(path))
+        lines = _lines(folder, LIST)
     except Wrong as fault:
         return [], [str(fault)]
-    for number, line in lines:
+    for line in lines:
         try:
-            source = source_of([cell.strip() for cell in line.split("\t")])
+            source = _source_of([cell.strip() for cell in line.cells])
             if source.file in sources:
                 raise Wrong(f"a second source of {source.file}")
             sources[source.file] = source
         except Wrong as fault:
-            faults.append(f"{path}: line {number}: {fault}")
+            faults.append(f"{folder.place(LIST)}: line {line.number}: {fault}")
     return list(sources.values()), faults
 
 
-def source_of(cells):
+def _source_of(cells: list[str]) -> Source:
     if len(cells) not in (2, 3) or not all(cells[:2]):
         raise Wrong("not a file, an address and options, with tabs between them")
     file, address = cells[:2]
     parts = file.split("/")
-    if "" in parts or any(part.startswith(".") for part in parts) or file in LISTS:
+    if "" in parts or any(part.startswith(".") for part in parts) or file in _LISTS:
         raise Wrong(f"{file} cannot be fetched: not a path below the folder, or a list")
-    options = options_of([it.strip() for it in cells[2].split(";")] if len(cells) == 3 else ())
-    check_address(address, options.get("is_plain", False))
-    return Source(file, address, **options)
+    options = _options_of(text.strip() for text in (cells[2].split(";") if len(cells) == 3 else ()))
+    source = Source(file, address, **options)
+    _check_address(address, source.is_plain)
+    return source
 
 
-def options_of(texts):
-    options = {"headers": ()}
+def _options_of(texts: Iterable[str]) -> dict[str, Any]:
+    options: dict[str, Any] = {"headers": ()}
     for text in filter(None, texts):
-        header = HEADER.fullmatch(text)
-        numbers = [(name, found) for name, form in NUMBER.items() for found in [form.fullmatch(text)] if found]
+        header = _HEADER.fullmatch(text)
+        numbers = {name: int(match[1]) for name, form in _NUMBER.items() for match in [form.fullmatch(text)] if match}
         if header:
-            options["headers"] += (header.groups(),)
+            options["headers"] += (_Header(header[1], header[2]),)
         elif numbers:
-            options[numbers[0][0]] = int(numbers[0][1][1])
+            options.update(numbers)
         elif text.startswith("member "):
             options["member"] = text[7:].strip()
         elif text == "plain http":
@@ -102,14 +125,13 @@ def options_of(texts):
     return options
 
 
-def check_address(address, is_plain):
+def _check_address(address: str, is_plain: bool) -> None:
     try:
         parts = urlsplit(address)
-        host = parts.hostname
-        port = parts.port
+        has_place = bool(parts.hostname) and parts.port != 0
     except ValueError:
-        host = port = None
-    if not host or not PRINTABLE.fullmatch(address) or port == 0:
+        has_place = False
+    if not has_place or not _PRINTABLE.fullmatch(address):
         raise Wrong("not an address")
     if parts.scheme not in (("https", "http") if is_plain else ("https",)):
         raise Wrong("not an address that begins with https:" + (" or http:" if is_plain else ""))
@@ -117,27 +139,19 @@ def check_address(address, is_plain):
         raise Wrong("an address with a name or a secret in its host")
 
 
-def read_secrets(path):
-    """The secrets of a file, none if there is no file. Wrong if others than its owner may read it."""
+def read_secrets(folder: InputFolder) -> dict[str, str]:
+    """The secrets of a folder, none if there is no file of them. Wrong if others than its owner may read it."""
+    path = folder.place(SECRETS)
     try:
-        mode = stat.S_IMODE(os.stat(path).st_mode)
+        mode = stat.S_IMODE(folder.status(SECRETS).st_mode)
     except FileNotFoundError:
         return {}
     if mode & 0o077:
         raise Wrong(f"{path}: others than its owner may read it: chmod 600")
     secrets = {}
-    for number, line in lines_of(path):
-        name, tab, value = line.partition("\t")
-        if not tab or not SECRET.fullmatch(f"{{{name}}}") or not value.strip() or not value.isprintable():
-            raise Wrong(f"{path}: line {number}: not a name, a tab and a value")
+    for line in _lines(folder, SECRETS):
+        name, value = line.cells if len(line.cells) == 2 else ("", "")
+        if not _SECRET.fullmatch(f"{{{name}}}") or not value.strip() or not value.isprintable():
+            raise Wrong(f"{path}: line {line.number}: not a name, a tab and a value")
         secrets[name] = value.strip()
     return secrets
-
-
-def address_of(source, secrets):
-    """The address of a source. The characters of a secret cannot change what its other parts mean."""
-    return SECRET.sub(lambda found: quote(secrets[found[1]], safe=""), source.address)
-
-
-def headers_of(source, secrets):
-    return [f"{name}: {SECRET.sub(lambda found: secrets[found[1]], value)}" for name, value in source.headers]

@@ -9,45 +9,61 @@
     shared/          files that several libraries use, with their sources.tsv
 
 The library of one machine alone is /etc/openlink itself, and its site is openlink.conf. It may stay beside others."""
-import os, re
+import os
+import re
+from collections.abc import Iterable
+from pathlib import Path
+
 from openlink_update.outcome import USAGE, Failure
 
-MOST = 32  # bytes of a name, which is part of names of nginx, files and folders
-NAME = re.compile(r"[a-z](?:-?[a-z0-9])*")
-RESERVED = ("before", "current", "delivery", "drain", "input", "lock", "sending", "shared", "ssh", "trial", "updated",
-            "versions")
+_MOST = 32  # bytes of a name, which is part of names of nginx, files and folders
+_NAME = re.compile(r"[a-z](?:-?[a-z0-9])*")
+_RESERVED = (
+    "before",
+    "current",
+    "delivery",
+    "drain",
+    "input",
+    "lock",
+    "sending",
+    "shared",
+    "ssh",
+    "trial",
+    "updated",
+    "versions",
+)
 SITE, LOCAL, MAIL, REPORT, SHARED = "site.conf", "local.conf", "mail", "report", "shared"
 
 
-def is_name(text):
-    return len(text) <= MOST and NAME.fullmatch(text) is not None and text not in RESERVED
+def is_name(text: str) -> bool:
+    return len(text) <= _MOST and _NAME.fullmatch(text) is not None and text not in _RESERVED
 
 
 class Libraries:
-    def __init__(self, folder, machine):
+    def __init__(self, folder: str | Path, machine: str | Path) -> None:
         """Those in a folder. `machine` is the site that has what all of them have once, openlink.conf."""
-        self.folder, self.machine = os.path.abspath(folder), os.path.abspath(machine)
+        self.folder, self.machine = Path(os.path.abspath(folder)), Path(os.path.abspath(machine))
 
-    def path(self, *names):
-        return os.path.join(self.folder, *names)
+    def path(self, *names: str) -> Path:
+        return self.folder.joinpath(*names)
 
-    def names(self):
+    def names(self) -> list[str]:
         """The names of all libraries in their order."""
-        found = sorted(os.listdir(self.folder)) if os.path.isdir(self.folder) else []
-        return [name for name in found if is_name(name) and os.path.isfile(self.path(name, SITE))]
+        names = sorted(os.listdir(self.folder)) if self.folder.is_dir() else []
+        return [name for name in names if is_name(name) and self.path(name, SITE).is_file()]
 
-    def check(self, names):
+    def check(self, names: Iterable[str]) -> None:
         """A Failure says which of these is no library."""
         known = self.names()
         for name in names:
             if name not in known:
                 raise Failure(f"{self.path(name)}: no such library: openlink-library list", USAGE)
 
-    def versions(self, but=None):
+    def versions(self, but: str | None = None) -> list[Path]:
         """The folders of the versions in use of all libraries but one."""
         links = [self.path(name, "current") for name in self.names() if name != but]
-        return [os.path.realpath(link) for link in links if os.path.isdir(link)]
+        return [Path(os.path.realpath(link)) for link in links if link.is_dir()]
 
-    def has_one_alone(self):
+    def has_one_alone(self) -> bool:
         """Whether the folder itself is a library."""
-        return os.path.isdir(self.path("input"))
+        return self.path("input").is_dir()

@@ -1,105 +1,118 @@
 """The updates of several libraries, one after the other, each by a process of its own. So a bad file, a full disk or a
-bug in these scripts stops only the library that it concerns. Each leaves a report in its folder."""
-import contextlib, os, signal, subprocess, sys, tempfile
+bug in the update stops only the library that it concerns. Each leaves a report in its folder."""
+import contextlib
+import os
+import signal
+import subprocess
+import sys
+import tempfile
+from pathlib import Path
+from typing import Any
+
 from openlink_update import children, interrupts
-from openlink_update.versions import shared_tables
-from openlink_update.machines.libraries import REPORT, SHARED, SITE
+from openlink_update.machines.libraries import REPORT, SHARED, SITE, Libraries
 from openlink_update.outcome import ALL_NEW, DEVICE, WENT_BACK, Interrupted
-from openlink_update.weekly_run import report
+from openlink_update.places import COMMANDS
+from openlink_update.report import report
 from openlink_update.shown_text import printable
+from openlink_update.versions import shared_tables
 
 ALONE = ""  # the library of a machine alone, in the list of names
-KILLED = "KILL"
+_KILLED = "KILL"
 
 
 class Updates:
-    def __init__(self, libraries, scripts, options):
-        """`scripts` is the folder that has `update` and `fetch`; the options are those of each update."""
-        self.libraries, self.scripts, self.options = libraries, scripts, options
-        self.ending = None  # what interrupted a script of this run
+    def __init__(self, libraries: Libraries, options: list[str]) -> None:
+        """The options are those of each update."""
+        self._libraries, self._options = libraries, options
+        self._ending: Interrupted | None = None  # what interrupted a command of this run
 
-    def run(self, names, are_fetched):
+    def run(self, names: list[str], with_fetch: bool) -> int:
         """Updates these libraries. Returns the greatest of their exit statuses."""
         interrupts.end_the_run()
+        statuses = []
         try:
-            for path in (self.libraries.path(name, REPORT) for name in names if name != ALONE):
+            for path in (self._libraries.path(name, REPORT) for name in names if name != ALONE):
                 if os.path.lexists(path):
                     os.unlink(path)
-            statuses = [self.fetch()] if are_fetched else []
+            if with_fetch:
+                statuses.append(self._fetch())
             with contextlib.ExitStack() as stack:
-                options = self.options_of_sharing(stack)
+                options = self._options_of_sharing(stack)
                 for name in names:
-                    statuses += [] if self.ending else [self.update(name, options)]
+                    statuses += [] if self._ending else [self._update(name, options)]
         except Interrupted as ending:
-            self.ending = ending
-        if self.ending:
-            report(f"openlink-update: ended by {self.ending}", "stderr")
+            self._ending = ending
+        if self._ending:
+            report(f"openlink-update: ended by {self._ending}", "stderr")
             return WENT_BACK
         return max(statuses)
 
-    def options_of_sharing(self, stack):
+    def _options_of_sharing(self, stack: contextlib.ExitStack) -> list[str]:
         """Those by which the updates share what they prepare; none if there is no room for it."""
         try:
             folder = stack.enter_context(tempfile.TemporaryDirectory(prefix="openlink."))
-            shared_tables.mark(folder, self.libraries.path(SHARED), self.libraries.versions())
+            shared_tables.mark(folder, self._libraries.path(SHARED), self._libraries.versions())
             return ["--prepared", folder]
         except OSError as fault:
             report(f"shared tables are prepared for each library: {fault.strerror}")
             return []
 
-    def fetch(self):
+    def _fetch(self) -> int:
         """Fetches the files that several libraries use."""
-        folder = self.libraries.path(SHARED)
-        if not os.path.exists(os.path.join(folder, "sources.tsv")):
+        folder = self._libraries.path(SHARED)
+        if not (folder / "sources.tsv").exists():
             return ALL_NEW
         report(f"{folder}:")
-        return self.child(["fetch", "--input", folder])[0]
+        return self._child(["fetch", "--input", str(folder)], [])[0]
 
-    def update(self, name, options):
+    def _update(self, name: str, options: list[str]) -> int:
+        libraries, lines = self._libraries, list[str]()
         if name == ALONE:
             report("the library of openlink.conf:")
-            return self.child(["update", *self.options, "--library", self.libraries.folder, "--site",
-                               self.libraries.machine])[0]
+            words = ["--library", str(libraries.folder), "--site", str(libraries.machine)]
+            return self._child(["update", *self._options, *words], lines)[0]
         report(f"{name}:")
-        self.write_report(name, KILLED, [])
-        folder, lines = self.libraries.path(name), []
-        status, text = self.child(["update", *self.options, "--library", folder, "--site", os.path.join(folder, SITE),
-                                   "--machine", self.libraries.machine, "--among", self.libraries.folder, *options],
-                                  lines)
-        self.write_report(name, text, lines)
+        self._write_report(name, _KILLED, [])
+        folder = libraries.path(name)
+        words = ["--library", str(folder), "--site", str(folder / SITE)]
+        words += ["--machine", str(libraries.machine), "--among", str(libraries.folder)]
+        status, text = self._child(["update", *self._options, *words, *options], lines)
+        self._write_report(name, text, lines)
         return status
 
-    def child(self, words, lines=None):
-        """Runs a script, and prints what it says. Returns its exit status, 4 if a signal ended it, and that as a text.
-        If this run is interrupted, so is the script, which goes back first."""
+    def _child(self, words: list[str], lines: list[str]) -> tuple[int, str]:
+        """Runs a command, and prints what it says. Returns its exit status, 4 if a signal ended it, and that as a text.
+        If this run is interrupted, so is the command, which goes back first."""
+        command: list[str | Path] = [sys.executable, COMMANDS / words[0], *words[1:]]
         try:
-            child = children.start([sys.executable, os.path.join(self.scripts, words[0]), *words[1:]], "/",
-                                   stdout=subprocess.PIPE, stderr=subprocess.STDOUT, text=True, errors="replace")
+            child = children.start(
+                command, "/", stdout=subprocess.PIPE, stderr=subprocess.STDOUT, text=True, errors="replace"
+            )
         except OSError as fault:
             report(f"openlink-update: {words[0]}: {fault.strerror}", "stderr")
             return DEVICE, str(DEVICE)
-        lines = [] if lines is None else lines
         try:
-            self.tell(child, lines)
+            self._print(child, lines)
         except Interrupted as ending:
-            self.ending = ending
+            self._ending = ending
             child.terminate()
-            self.tell(child, lines)
+            self._print(child, lines)
         status = child.wait()
         if status >= 0:
             return status, str(status)
         return DEVICE, signal.Signals(-status).name.removeprefix("SIG")
 
     @staticmethod
-    def tell(child, lines):
-        for line in child.stdout:
+    def _print(child: "subprocess.Popen[Any]", lines: list[str]) -> None:
+        for line in child.stdout or ():
             line = printable(line.rstrip("\n"))
             lines.append(f"{line}\n")
             report(line)
 
-    def write_report(self, name, status, lines):
+    def _write_report(self, name: str, status: str, lines: list[str]) -> None:
         """Replaces the report of a library. That it cannot be written does not end the run."""
-        path = self.libraries.path(name, REPORT)
+        path = self._libraries.path(name, REPORT)
         try:
             with open(f"{path}.new", "w", encoding="utf-8", errors="replace") as file:
                 file.writelines([f"{status}\n", *lines])

@@ -1,12 +1,22 @@
 """A front door of its own for probes: nginx with the module and the texts that the site has, which asks the processes
 as that of readers does, on free ports of this machine. It has a door for each list of processes."""
-import json, os, re, shutil, subprocess, time
+import dataclasses
+import json
+import os
+import re
+import shutil
+import subprocess
+import time
+from collections.abc import Iterable
+from pathlib import Path
+from typing import Any
+
 from openlink_update import children
 from openlink_update.outcome import DEVICE, Failure
 
-SECONDS = 30  # until nginx listens
-TARGETS = r"js_preload_object\s+targets(?:__\w+)?\s"  # each door has its own
-CONFIGURATION = """load_module {module};
+_SECONDS = 30  # until nginx listens
+_TARGETS = r"js_preload_object\s+targets(?:__\w+)?\s"  # each door has its own
+_CONFIGURATION = """load_module {module};
 pid {folder}/nginx.pid;
 daemon off;
 worker_processes 1;
@@ -23,7 +33,7 @@ http {{
     {module_lines}
 {doors}}}
 """
-DOOR = """    upstream door{port} {{
+_DOOR = """    upstream door{port} {{
 {servers}    }}
     server {{
         listen 127.0.0.1:{port};
@@ -37,7 +47,7 @@ DOOR = """    upstream door{port} {{
 """
 
 
-def text_with_includes(path):
+def _text_with_includes(path: str | Path) -> str:
     """The text of a site, and after it that of the files that it includes; nothing if there is no such file."""
     try:
         with open(path, encoding="utf-8") as file:
@@ -46,7 +56,7 @@ def text_with_includes(path):
         return ""
     for included in re.findall(r"^\s*include\s+([^\s;*?]+)\s*;", text, re.M):
         if os.path.isfile(included):
-            text += "\n" + text_with_includes(included)
+            text += "\n" + _text_with_includes(included)
     return text
 
 
@@ -56,104 +66,119 @@ class Site:
     is a list of titles. For a library of several, `machine` is the openlink.conf that has the module and the languages
     of all."""
 
-    def __init__(self, path, machine=None):
-        self.path, text = path, text_with_includes(path)
+    def __init__(self, path: str | Path, machine: str | Path | None = None) -> None:
+        self.path, text = path, _text_with_includes(path)
         self.ports = [int(port) for port in re.findall(r"^\s*server\s+127\.0\.0\.1:(\d+)", text, re.M)]
-        every = text if machine is None else text_with_includes(machine) + "\n" + text
+        every = text if machine is None else _text_with_includes(machine) + "\n" + text
         self.module_lines = re.findall(r"^\s*(js_(?:path|import|preload_object|var)\s[^;]*;)", every, re.M)
         module = re.search(r"^\s*js_path\s+[\"']?([^;\s\"']+)", every, re.M)
         self.processes = os.path.join(module[1], "processes.conf") if module else ""
-        self.targets = re.findall(rf"^\s*{TARGETS}\s*from\s+([^;\s]+)\s*;", text, re.M)
+        self.targets = re.findall(rf"^\s*{_TARGETS}\s*from\s+([^;\s]+)\s*;", text, re.M)
         words = re.findall(r"^\s*js_preload_object\s+words_(\w+)\s", every, re.M)
-        self.languages = [it.partition("__")[0].replace("_", "-") for it in words]
+        self.languages = [word.partition("__")[0].replace("_", "-") for word in words]
         self.has_list = not re.search(r"^\s*(?:js_var|set)\s+\$openlink_list\s+off\s*;", text, re.M)
         name = re.search(r"^\s*server_name\s+([^\s;]+)", text, re.M)
         has_tls = re.search(r"^\s*listen\s[^;#]*\bssl\b", text, re.M)
         self.base = f"{'https' if has_tls else 'http'}://{name[1] if name else 'localhost'}"
 
-    def targets_path(self):
+    def targets_path(self) -> str:
         """The targets.json that readers see; '' if the site names none."""
-        return self.targets[0].strip("\"'") if self.targets else ""
+        return str(self.targets[0]).strip("\"'") if self.targets else ""
 
     @staticmethod
-    def differences(names, path):
+    def differences(names: list[str], path: str | Path) -> list[str]:
         """Lines about the targets of a version that this targets.json does not name, and the other way round."""
         try:
             with open(path, encoding="utf-8") as file:
                 known = json.load(file)["targets"].keys()
         except (OSError, ValueError, LookupError, TypeError, AttributeError):
             return []  # nginx says what is wrong with it
-        lines = [("not named, so they are shown last and not as full text", [it for it in names if it not in known]),
-                 ("named, and no target", [it for it in known if it not in names])]
-        return [f"{path}: {text}: {', '.join(found)}" for text, found in lines if found]
+        unnamed, unused = [name for name in names if name not in known], [name for name in known if name not in names]
+        lines = {"not named, so they are shown last and not as full text": unnamed, "named, and no target": unused}
+        return [f"{path}: {text}: {', '.join(members)}" for text, members in lines.items() if members]
 
 
-def modules_of(nginx):
+def _module_of(nginx: str) -> Path | None:
     """The path of nginx's JavaScript module, or None if there is none."""
-    printed = subprocess.run([nginx, "-V"], capture_output=True, text=True).stderr
-    found = re.search(r"--modules-path=(\S+)", printed)
-    path = f"{found[1] if found else '/usr/lib/nginx/modules'}/ngx_http_js_module.so"
-    return path if os.path.exists(path) else None
+    options = subprocess.run([nginx, "-V"], capture_output=True, text=True).stderr
+    folder = re.search(r"--modules-path=(\S+)", options)
+    path = Path(folder[1] if folder else "/usr/lib/nginx/modules", "ngx_http_js_module.so")
+    return path if path.exists() else None
+
+
+@dataclasses.dataclass(frozen=True)
+class _Door:
+    port: int
+    servers: str
+    version: Path
+    targets_line: str
+    processes: str
 
 
 class FrontDoor:
-    def __init__(self, site, folder):
+    def __init__(self, site: Site, folder: Path) -> None:
         """With the module of a site, in a folder that does not exist."""
-        self.site, self.folder, self.doors, self.child = site, folder, [], None
-        self.nginx = shutil.which("nginx", path=os.environ.get("PATH", os.defpath) + ":/usr/sbin")
-        self.module = modules_of(self.nginx) if self.nginx else None
-        if not self.module:
+        self._site, self._folder = site, folder
+        self._doors: list[_Door] = []
+        self._child: "subprocess.Popen[Any] | None" = None
+        nginx = shutil.which("nginx", path=os.environ.get("PATH", os.defpath) + ":/usr/sbin")
+        module = _module_of(nginx) if nginx else None
+        if not nginx or not module:
             raise Failure("probes need nginx with its JavaScript module", DEVICE)
         if not site.processes:
             raise Failure(f"{site.path}: no front door, and probes need one", DEVICE)
+        self._nginx, self._module = nginx, module
 
-    def __enter__(self):
+    def __enter__(self) -> "FrontDoor":
         return self
 
-    def __exit__(self, *_):
-        if self.child:
-            children.stop(self.child)
-        shutil.rmtree(self.folder, ignore_errors=True)
+    def __exit__(self, *_: object) -> None:
+        if self._child:
+            children.stop(self._child)
+        shutil.rmtree(self._folder, ignore_errors=True)
 
-    def add_door(self, ports, version, targets):
+    def add_door(self, ports: Iterable[int], version: Path, targets: str) -> str:
         """The address of a door to the processes at these ports, which serve the version in a folder; its targets.json
         is at a path, or '' if there is none."""
         port = children.free_port()
-        servers = "".join(f"        server 127.0.0.1:{it} max_fails=0;\n" for it in ports)
+        servers = "".join(f"        server 127.0.0.1:{each} max_fails=0;\n" for each in ports)
         line = f'js_preload_object targets from "{targets}";' if targets else ""
-        self.doors.append({"port": port, "servers": servers, "version": version, "targets_line": line,
-                           "processes": self.site.processes})
+        self._doors.append(_Door(port, servers, version, line, self._site.processes))
         return f"http://127.0.0.1:{port}"
 
-    def start(self):
-        os.mkdir(self.folder)
-        os.chmod(self.folder, 0o755)
-        path, log = f"{self.folder}/nginx.conf", f"{self.folder}/start.log"
-        doors = "".join(DOOR.format(**door) for door in self.doors)
-        lines = [line for line in self.site.module_lines if not re.match(TARGETS, line)]
-        with open(path, "w", encoding="utf-8") as file:
-            file.write(CONFIGURATION.format(module=self.module, folder=self.folder, doors=doors,
-                                            module_lines="\n    ".join(lines)))
-        self.child = children.start([self.nginx, "-e", log, "-p", self.folder, "-c", path], self.folder,
-                                    stdout=subprocess.DEVNULL, stderr=subprocess.DEVNULL)
-        if not all(children.wait_for(door["port"], self.child, SECONDS) for door in self.doors) or not self.has_begun():
-            printed = " ".join(text for text in map(read, (log, f"{self.folder}/error.log")) if text)
-            raise Failure(f"the front door for probes does not start: {printed or 'nginx gives no reason'}", DEVICE)
+    def start(self) -> None:
+        os.mkdir(self._folder)
+        os.chmod(self._folder, 0o755)
+        path, log = self._folder / "nginx.conf", self._folder / "start.log"
+        doors = "".join(_DOOR.format(**vars(door)) for door in self._doors)
+        lines = "\n    ".join(line for line in self._site.module_lines if not re.match(_TARGETS, line))
+        text = _CONFIGURATION.format(module=self._module, folder=self._folder, doors=doors, module_lines=lines)
+        path.write_text(text, encoding="utf-8")
+        self._child = children.start(
+            [self._nginx, "-e", log, "-p", self._folder, "-c", path],
+            self._folder,
+            stdout=subprocess.DEVNULL,
+            stderr=subprocess.DEVNULL,
+        )
+        if not self._has_begun(self._child):
+            reasons = " ".join(text for text in map(_read, (log, self._folder / "error.log")) if text)
+            raise Failure(f"the front door for probes does not start: {reasons or 'nginx gives no reason'}", DEVICE)
 
-    def has_begun(self):
+    def _has_begun(self, child: "subprocess.Popen[Any]") -> bool:
         """Whether nginx serves: it listens before it writes its number, and ends if it cannot write it."""
-        end = time.monotonic() + SECONDS
-        while time.monotonic() < end and self.child.poll() is None:
-            if read(f"{self.folder}/nginx.pid"):
+        if not all(children.wait_for(door.port, child, _SECONDS) for door in self._doors):
+            return False
+        end = time.monotonic() + _SECONDS
+        while time.monotonic() < end and child.poll() is None:
+            if _read(self._folder / "nginx.pid"):
                 return True
             time.sleep(0.02)
         return False
 
 
-def read(path):
+def _read(path: Path) -> str:
     """The text of a log, or nothing."""
     try:
-        with open(path, encoding="utf-8", errors="replace") as file:
-            return file.read().strip()
+        return path.read_text(encoding="utf-8", errors="replace").strip()
     except OSError:
         return ""

@@ -1,62 +1,72 @@
 """targets.json, if the operator keeps it in the input: then it goes forward and back with the version, and
 openlink.conf names the one of the version in use. Otherwise it stays where it is: nginx reads it when it starts, so
 each change costs a reload."""
-import filecmp, os, shutil
+import dataclasses
+import filecmp
+import os
+import shutil
+from pathlib import Path
+
+from openlink_update.input_files import InputFolder
 from openlink_update.site import targets_file
+from openlink_update.site.front_door import Site
 
 NAME = "targets.json"
 
 
+@dataclasses.dataclass(frozen=True)
+class _Addition:
+    """What became of the file of an input: lines to report, and whether the older version's was used in its place."""
+
+    lines: list[str]
+    is_older: bool = False
+
+
 class NamesFile:
-    def __init__(self, site, current):
+    def __init__(self, site: Site, current: Path) -> None:
         """For a site and the link to the version in use."""
-        self.site, self.current = site, current
+        self._site, self._current = site, current
 
-    def is_served(self):
+    def is_served(self) -> bool:
         """Whether readers see the one of the version in use."""
-        return os.path.abspath(self.site.targets_path() or "/") == os.path.abspath(os.path.join(self.current, NAME))
+        return os.path.abspath(self._site.targets_path() or "/") == os.path.abspath(self._current / NAME)
 
-    def add(self, version, folder, older):
-        """Puts that of the input in a version, or keeps the older version's, as it does without a folder. Returns lines
-        to report, and whether it was kept."""
-        path = os.path.join(folder or "", NAME)
-        if not folder or not os.path.isfile(path):
+    def add(self, version: Path, folder: InputFolder | None, older: Path | None) -> _Addition:
+        """Puts that of the input in a version, or keeps the older version's, as it does without a folder."""
+        if not folder or not folder.is_file(NAME):
             if older and self.is_served():
-                self.copy(older, version)
-            return [], False
-        with open(path, "rb") as file:
-            data = file.read(targets_file.MOST_BYTES + 1)
-        faults = targets_file.faults_of(data, self.site.languages)
+                self._copy(older, version)
+            return _Addition([])
+        path, data = folder.place(NAME), folder.read(NAME, targets_file.MOST_BYTES + 1)
+        faults = targets_file.faults_of(data, self._site.languages)
         if faults:
-            lines = [f"{NAME}: the old one is kept", *(f"  {path}: {fault}" for fault in faults)]
             if older:
-                self.copy(older, version)
-            return lines, True
-        with open(os.path.join(version, NAME), "wb") as file:
-            file.write(data)
-        other = f"{path} is not in use: {self.site.path} names {self.site.targets_path()}"
-        return [] if self.is_served() else [other], False
+                self._copy(older, version)
+            return _Addition([f"{NAME}: the old one is kept", *(f"  {path}: {fault}" for fault in faults)], True)
+        (version / NAME).write_bytes(data)
+        other = f"{path} is not in use: {self._site.path} names {self._site.targets_path()}"
+        return _Addition([] if self.is_served() else [other])
 
     @staticmethod
-    def copy(older, version):
-        path = os.path.join(older, NAME)
-        if os.path.isfile(path):
-            shutil.copyfile(path, os.path.join(version, NAME))
+    def _copy(older: Path, version: Path) -> None:
+        if (older / NAME).is_file():
+            shutil.copyfile(older / NAME, version / NAME)
 
     @staticmethod
-    def is_same(one, other):
+    def is_same(one: Path, other: Path) -> bool:
         """Whether two versions have the same one, or none."""
-        paths = [os.path.join(version, NAME) for version in (one, other)]
-        if not all(map(os.path.isfile, paths)):
-            return not any(map(os.path.isfile, paths))
-        return filecmp.cmp(*paths, shallow=False)
+        paths = [version / NAME for version in (one, other)]
+        if not all(path.is_file() for path in paths):
+            return not any(path.is_file() for path in paths)
+        return filecmp.cmp(paths[0], paths[1], shallow=False)
 
-    def path_of_next(self, folder):
+    def path_of_next(self, folder: InputFolder) -> str:
         """The one by which the next version of an input is shown."""
-        own = os.path.join(folder, NAME)
-        return own if self.is_served() and os.path.isfile(own) else self.site.targets_path()
+        return self._path_in(folder.place(NAME))
 
-    def path_in(self, version):
+    def path_in(self, version: Path) -> str:
         """The one by which a version is shown."""
-        own = os.path.join(version, NAME)
-        return own if self.is_served() and os.path.isfile(own) else self.site.targets_path()
+        return self._path_in(version / NAME)
+
+    def _path_in(self, own: Path) -> str:
+        return str(own) if self.is_served() and own.is_file() else self._site.targets_path()

@@ -19,31 +19,40 @@ missing language has the default language's text. A replacement that is one stri
 A file has at most MOST_BYTES, each name occurs once in its object, and the values are those of JSON alone, nested no
 deeper than njs reads them.
 """
-import collections, glob, itertools, json, os, re
-from openlink_update.places import FRONT_DOOR
-from openlink_update.shown_text import printable
+import collections
+import itertools
+import json
+import re
+import sys
+from collections.abc import Collection, Iterator
+from pathlib import Path
+from typing import Any
 
-WORDS = os.path.join(FRONT_DOOR, "words")
-SAMPLE = os.path.join(WORDS, "en.json")
+from openlink_update.places import FRONT_DOOR
+from openlink_update.report import report
+
+_WORDS = FRONT_DOOR / "words"
+_SAMPLE = _WORDS / "en.json"
 # Texts that depend on the library, so no file of a language has them.
 OF_THE_LIBRARY = ("library", "help", "helpLink", "problemLink", "logo")
-LOGO = r"[\w-]{1,60}\.(svg|png|jpg|gif|webp)"
+_LOGO = r"[\w-]{1,60}\.(svg|png|jpg|gif|webp)"
 # Names of groups, and paths, which are the same in all languages.
-PLAIN = ("name", "group", "onlyWithout", "rules")
-SCHOLAR = ("label", "otherLabel", "keywords", "contact", "addresses", "base")
-TAG = r"[A-Za-z]{2,8}(-[A-Za-z0-9]{1,8})*"
+_PLAIN = ("name", "group", "onlyWithout", "rules")
+_SCHOLAR = ("label", "otherLabel", "keywords", "contact", "addresses", "base")
+_TAG = r"[A-Za-z]{2,8}(-[A-Za-z0-9]{1,8})*"
 MOST_BYTES = 1_048_576  # each page of the library needs memory for its texts
-MOST_DEPTH = 31  # objects and lists in each other; njs 0.7.9 reads no more
-MOST_FAULTS, MOST_CHARACTERS = 10, 40  # of those that `values` finds, and of a name in them
+_MOST_DEPTH = 31  # objects and lists in each other; njs 0.7.9 reads no more
+_MOST_FAULTS, _MOST_CHARACTERS = 10, 40  # of those in the values, and of a name in them
 
 
-def words():
+def _names_of_words() -> set[str]:
     """Returns the names that `words` may have."""
-    with open(SAMPLE) as file:
-        return {*json.load(file), *OF_THE_LIBRARY}
+    return {*json.loads(_SAMPLE.read_text(encoding="utf-8")), *OF_THE_LIBRARY}
 
 
-def texts(place, value, names, languages, faults):
+def _texts(
+    place: str, value: Any, names: Collection[str], languages: Collection[str] | None, faults: list[str]
+) -> None:
     """Errors of an object whose members are texts under known names, some of them by language if there are
     languages."""
     if not isinstance(value, dict):
@@ -52,13 +61,13 @@ def texts(place, value, names, languages, faults):
     for name, text in value.items():
         if name not in names:
             faults.append(f"{place}: unknown name {json.dumps(name)}")
-        elif isinstance(text, dict) and languages is not None and name not in PLAIN:
-            by_language(f"{place}: {name}", text, languages, faults)
+        elif isinstance(text, dict) and languages is not None and name not in _PLAIN:
+            _by_language(f"{place}: {name}", text, languages, faults)
         elif not isinstance(text, str):
             faults.append(f"{place}: {name} is not a text")
 
 
-def by_language(place, value, languages, faults):
+def _by_language(place: str, value: dict[str, Any], languages: Collection[str], faults: list[str]) -> None:
     for language, text in value.items():
         if language not in languages:
             faults.append(f"{place}: {json.dumps(language)} is none of the languages")
@@ -66,40 +75,40 @@ def by_language(place, value, languages, faults):
             faults.append(f"{place}: {language} is not a text")
 
 
-class Members(dict):
+class _Members(dict[str, Any]):
     """An object, which knows the names that it has more than once."""
 
-    def __init__(self, pairs):
+    def __init__(self, pairs: list[tuple[str, Any]]) -> None:
         super().__init__(pairs)
-        counts = collections.Counter(name for name, _ in pairs) if len(self) < len(pairs) else {}
+        counts = collections.Counter(name for name, _ in pairs)
         self.repeated = [name for name, count in counts.items() if count > 1]
 
 
-class Constant(str):
+class _Constant(str):
     """NaN, Infinity or -Infinity, which Python reads and JSON does not have."""
 
 
-def values(value):
+def _values(value: Any) -> Iterator[str]:
     """Yields an error for each value that nginx refuses or reads in another way, after the names that lead to it."""
     stack = [(value, "", 1)]
     while stack:
         value, place, depth = stack.pop()
-        if isinstance(value, Constant):
+        if isinstance(value, _Constant):
             yield f"{place}{value} is no value of JSON"
-        elif isinstance(value, (dict, list)) and depth > MOST_DEPTH:
-            yield f"{place[:MOST_CHARACTERS]}..: more than {MOST_DEPTH} objects and lists in each other"
-        elif isinstance(value, dict):
-            yield from (f"{place}{quoted(name)} occurs more than once" for name in value.repeated)
-            stack += [(it, f"{place}{quoted(name)}: ", depth + 1) for name, it in reversed(value.items())]
+        elif isinstance(value, (dict, list)) and depth > _MOST_DEPTH:
+            yield f"{place[:_MOST_CHARACTERS]}..: more than {_MOST_DEPTH} objects and lists in each other"
+        elif isinstance(value, _Members):
+            yield from (f"{place}{_quoted(name)} occurs more than once" for name in value.repeated)
+            stack += [(member, f"{place}{_quoted(name)}: ", depth + 1) for name, member in reversed(value.items())]
         elif isinstance(value, list):
-            stack += [(it, f"{place}{number}: ", depth + 1) for number, it in reversed([*enumerate(value, 1)])]
+            stack += [(member, f"{place}{number}: ", depth + 1) for number, member in reversed([*enumerate(value, 1)])]
 
 
-def quoted(name):
-    return json.dumps(name[:MOST_CHARACTERS])
+def _quoted(name: str) -> str:
+    return json.dumps(name[:_MOST_CHARACTERS])
 
 
-def parsed(data, faults):
+def parsed(data: bytes, faults: list[str]) -> dict[str, Any] | None:
     """The JSON of a file that nginx preloads; None, and an error, if it refuses it."""
     if len(data) > MOST_BYTES:
         faults.append(f"more than {MOST_BYTES:,} bytes")
@@ -108,7 +117,7 @@ def parsed(data, faults):
         faults.append("line 1: begins with a byte order mark")
         return None
     try:
-        value = json.loads(data.decode("utf-8"), parse_constant=Constant, object_pairs_hook=Members)
+        value = json.loads(data.decode("utf-8"), parse_constant=_Constant, object_pairs_hook=_Members)
     except UnicodeDecodeError as fault:
         faults.append(f"line {data[:fault.start].count(10) + 1}: not UTF-8")
         return None
@@ -116,14 +125,14 @@ def parsed(data, faults):
         faults.append(f"line {fault.lineno}, column {fault.colno}: {fault.msg}")
         return None
     except RecursionError:
-        faults.append(f"more than {MOST_DEPTH} objects and lists in each other")
+        faults.append(f"more than {_MOST_DEPTH} objects and lists in each other")
         return None
     except ValueError:
         faults.append("a number with thousands of digits")
         return None
-    found = list(itertools.islice(values(value), MOST_FAULTS))
-    if found:
-        faults += found
+    wrong = list(itertools.islice(_values(value), _MOST_FAULTS))
+    if wrong:
+        faults += wrong
         return None
     if not isinstance(value, dict):
         faults.append("not an object")
@@ -131,35 +140,36 @@ def parsed(data, faults):
     return value
 
 
-def faults_of_words(data):
+def faults_of_words(data: bytes) -> list[str]:
     """Errors of a file of words: it has the names of the English one, and the same places for values."""
-    faults = []
-    found = parsed(data, faults)
-    if found is None:
+    faults: list[str] = []
+    words = parsed(data, faults)
+    if words is None:
         return faults
-    with open(SAMPLE) as file:
-        expected = json.load(file)
-    texts("words", found, expected, None, faults)
-    faults += [f"words: no {name}" for name in expected if name not in found]
-    return faults + [f"words: {name} has not {expected[name].count('{}')} of {{}}" for name in expected
-                     if isinstance(found.get(name), str) and found[name].count("{}") != expected[name].count("{}")]
+    expected = json.loads(_SAMPLE.read_text(encoding="utf-8"))
+    _texts("words", words, expected, None, faults)
+    faults += [f"words: no {name}" for name in expected if name not in words]
+    for name, text in expected.items():
+        if isinstance(words.get(name), str) and words[name].count("{}") != text.count("{}"):
+            faults.append(f"words: {name} has not {text.count('{}')} of {{}}")
+    return faults
 
 
-def languages_of(site, loaded, faults):
+def _languages_of(site: dict[str, Any], loaded: Collection[str] | None, faults: list[str]) -> list[str]:
     """The languages that a targets.json offers, the default first."""
     languages = site.get("languages", ["en"])
-    if not isinstance(languages, list) or not languages or not all(isinstance(it, str) for it in languages):
+    if not isinstance(languages, list) or not languages or not all(isinstance(each, str) for each in languages):
         faults.append("languages is not a list of languages")
         return ["en"]
     for language in languages:
-        if not re.fullmatch(TAG, language):
+        if not re.fullmatch(_TAG, language):
             faults.append(f"languages: {json.dumps(language)} is no tag of a language")
         elif loaded is not None and language not in loaded:
             faults.append(f"languages: no words/{language}.json")
     return languages
 
 
-def problem_link(site, faults):
+def _problem_link(site: dict[str, Any], faults: list[str]) -> None:
     """Adds an error if the page would leave out the link "Report a problem"."""
     words_of_site = site.get("words")
     link = words_of_site.get("problemLink") if isinstance(words_of_site, dict) else None
@@ -168,19 +178,20 @@ def problem_link(site, faults):
             faults.append("words: problemLink is no address of http, https or mailto with {} for the request")
 
 
-def logo_and_links(site, languages, faults):
+def _logo_and_links(site: dict[str, Any], languages: list[str], faults: list[str]) -> None:
     """Removes `links` from the texts, and adds an error for each link or logo that the page would leave out."""
-    found = site.get("words") if isinstance(site.get("words"), dict) else {}
-    logo = found.get("logo")
+    words = site.get("words")
+    words = words if isinstance(words, dict) else {}
+    logo = words.get("logo")
     for text in logo.values() if isinstance(logo, dict) else [logo]:
-        if isinstance(text, str) and not re.fullmatch(LOGO, text, re.ASCII):
+        if isinstance(text, str) and not re.fullmatch(_LOGO, text, re.ASCII):
             faults.append("words: logo is no file name that ends with .svg, .png, .jpg, .gif or .webp")
-    links = found.pop("links", [])
+    links = words.pop("links", [])
     if not isinstance(links, list):
         faults.append("words: links is not a list of links")
         return
     for number, link in enumerate(links, 1):
-        texts(f"link {number}", link, ("label", "url"), languages, faults)
+        _texts(f"link {number}", link, ("label", "url"), languages, faults)
         for name in ("label", "url") if isinstance(link, dict) else ():
             if name not in link:
                 faults.append(f"link {number} has no {name}")
@@ -190,59 +201,76 @@ def logo_and_links(site, languages, faults):
                 faults.append(f"link {number}: url is no address of http or https")
 
 
-def faults_of(data, loaded=None):
-    """Errors of a targets.json; `loaded` has the languages that have a file of words."""
-    faults = []
-    site = parsed(data, faults)
-    if site is None:
-        return faults
-    faults += [f"unknown name {json.dumps(name)}" for name in site
-               if name not in ("languages", "words", "groups", "targets", "folder", "scholar")]
-    languages = languages_of(site, loaded, faults)
-    logo_and_links(site, languages, faults)
-    texts("words", site.get("words", {}), words(), languages, faults)
-    problem_link(site, faults)
-    texts("scholar", site.get("scholar", {}), SCHOLAR, languages, faults)
-    if not str(site.get("folder", "/")).startswith("/"):
-        faults.append("folder is not an absolute path")
+def _groups(site: dict[str, Any], languages: list[str], faults: list[str]) -> list[Any]:
+    """The names of the groups; none, and an error, if it has no list of them."""
     groups = site.get("groups", [])
-    targets = site.get("targets", {})
     if not isinstance(groups, list) or not groups:
-        return faults + ["groups is not a list of groups"]
+        faults.append("groups is not a list of groups")
+        return []
     names = [group.get("name") if isinstance(group, dict) else None for group in groups]
     for number, group in enumerate(groups, 1):
-        texts(f"group {number}", group, ("name", "label", "onlyWithout"), languages, faults)
+        _texts(f"group {number}", group, ("name", "label", "onlyWithout"), languages, faults)
         if names[number - 1] is None:
             faults.append(f"group {number} has no name")
         elif "onlyWithout" in group and group["onlyWithout"] not in names:
             faults.append(f"group {number}: onlyWithout is no group")
+    return names
+
+
+def _targets(site: dict[str, Any], groups: list[Any], languages: list[str], faults: list[str]) -> None:
+    targets = site.get("targets", {})
     if not isinstance(targets, dict):
-        return faults + ["targets is not an object"]
+        faults.append("targets is not an object")
+        return
     for name, target in targets.items():
         place = f"target {json.dumps(name)}"
-        texts(place, target, ("label", "group", "note", "rules"), languages, faults)
+        _texts(place, target, ("label", "group", "note", "rules"), languages, faults)
         if not re.fullmatch(r"[A-Za-z0-9_.-]{1,64}", name):
             faults.append(f"{place}: no target can have this name")
-        if isinstance(target, dict) and target.get("group", names[0]) not in names:
+        if isinstance(target, dict) and target.get("group", groups[0]) not in groups:
             faults.append(f"{place}: no group {json.dumps(target['group'])}")
+
+
+def faults_of(data: bytes, loaded: Collection[str] | None = None) -> list[str]:
+    """Errors of a targets.json; `loaded` has the languages that have a file of words."""
+    faults: list[str] = []
+    site = parsed(data, faults)
+    if site is None:
+        return faults
+    known = ("languages", "words", "groups", "targets", "folder", "scholar")
+    faults += [f"unknown name {json.dumps(name)}" for name in site if name not in known]
+    languages = _languages_of(site, loaded, faults)
+    _logo_and_links(site, languages, faults)
+    _texts("words", site.get("words", {}), _names_of_words(), languages, faults)
+    _problem_link(site, faults)
+    _texts("scholar", site.get("scholar", {}), _SCHOLAR, languages, faults)
+    if not str(site.get("folder", "/")).startswith("/"):
+        faults.append("folder is not an absolute path")
+    groups = _groups(site, languages, faults)
+    if groups:
+        _targets(site, groups, languages, faults)
     return faults
 
 
-def faults_in(path):
+def faults_in(path: str | Path) -> list[str]:
     """Returns the errors in a targets.json and in the files of texts in words/ next to it, which are the library's
     own."""
-    files = sorted(glob.glob(os.path.join(glob.escape(os.path.dirname(path)), "words", "*.json")))
-    loaded = {os.path.basename(file)[:-len(".json")] for file in [*files, *os.listdir(WORDS)]}
-    with open(path, "rb") as file:
-        faults = [f"{path}: {fault}" for fault in faults_of(file.read(MOST_BYTES + 1), loaded)]
-    for name in files:
-        with open(name, "rb") as file:
-            faults += [f"{name}: {fault}" for fault in faults_of_words(file.read(MOST_BYTES + 1))]
+    path = Path(path)
+    files = sorted((path.parent / "words").glob("*.json"))
+    loaded = {path.stem for path in (*files, *_WORDS.glob("*.json"))}
+    faults = [f"{path}: {fault}" for fault in faults_of(_start_of(path), loaded)]
+    for file in files:
+        faults += [f"{file}: {fault}" for fault in faults_of_words(_start_of(file))]
     return faults
 
 
-def main(paths):
-    faults = [fault for path in paths for fault in faults_in(path)]
-    print(printable("\n".join(faults)) or "ok")
-    return 1 if faults else 0
+def _start_of(path: Path) -> bytes:
+    with open(path, "rb") as file:
+        return file.read(MOST_BYTES + 1)
 
+
+def main(words: list[str] | None = None) -> int:
+    words = sys.argv[1:] if words is None else words
+    faults = [fault for path in words for fault in faults_in(path)]
+    report("\n".join(faults) or "ok")
+    return 1 if faults else 0

@@ -1,5 +1,5 @@
 """Paths that may have * for any text: of several files the newest counts, by the date in its name, then by its name."""
-import datetime, glob, os, re
+import datetime, os, re
 
 DATE = re.compile(r"(?<!\d)(\d{4})(?:-(\d\d)-(\d\d)|(\d\d)(\d\d))(?!\d)", re.A)
 
@@ -22,12 +22,7 @@ def newest(paths):
     return max(paths, key=lambda path: (date_in(os.path.basename(path)), os.path.basename(path), path))
 
 
-def matches(pattern):
-    """The files that a path with * names."""
-    return [path for path in glob.glob("*".join(map(glob.escape, pattern.split("*")))) if os.path.isfile(path)]
-
-
-def path_of(pattern):
-    """The file that a path means; the path itself if it has no * or no file matches."""
+def path_of(pattern, matches):
+    """The file that a path means; the path itself if it has no * or no file matches. `matches` finds files."""
     found = matches(pattern) if "*" in pattern else []
     return newest(found) if found else pattern

@@ -8,70 +8,59 @@
     trial/                 files of the front door that tries a version; the next run removes it
     lock                   locked by a run as long as it lives
 """
-import ctypes, datetime, fcntl, os, re, shutil
+import datetime
+import fcntl
+import os
+import re
+import shutil
+from collections.abc import Iterable
+from pathlib import Path
+from typing import IO
+
+from openlink_update.disk import sync, sync_disk
 from openlink_update.outcome import DEVICE, Failure
 from openlink_update.shown_text import line_of
 
 STAMP = "%Y%m%dT%H%M%SZ"
-VERSION = re.compile(r"versions/([0-9]{8}T[0-9]{6}Z)")
-SECOND, DAY = datetime.timedelta(seconds=1), datetime.timedelta(days=1)
-NONE = "none"
-LIBC = ctypes.CDLL(None, use_errno=True)
+_VERSION = re.compile(r"versions/([0-9]{8}T[0-9]{6}Z)")
+_SECOND, _DAY = datetime.timedelta(seconds=1), datetime.timedelta(days=1)
+_NONE = "none"
 
 
-def now():
+def _now() -> datetime.datetime:
     return datetime.datetime.now(datetime.timezone.utc)
 
 
-def moment_of(stamp):
+def _moment_of(stamp: str) -> datetime.datetime | None:
     """The moment that a stamp names, or None if it names none."""
     try:
-        moment = datetime.datetime.strptime(stamp, STAMP) if VERSION.fullmatch(f"versions/{stamp}") else None
+        moment = datetime.datetime.strptime(stamp, STAMP) if _VERSION.fullmatch(f"versions/{stamp}") else None
     except ValueError:
         moment = None
     return moment and moment.replace(tzinfo=datetime.timezone.utc)
 
 
-def is_stamp(text):
+def is_stamp(text: str) -> bool:
     """Whether a text is a stamp of at most a day ahead. Beyond that a clock was wrong, or the text is forged: the names
     after it would have no end."""
-    moment = moment_of(text)
-    return moment is not None and moment <= now() + DAY
+    moment = _moment_of(text)
+    return moment is not None and moment <= _now() + _DAY
 
 
-def stamp_after(stamps):
+def stamp_after(stamps: Iterable[str]) -> str:
     """The stamp of this moment, or the one after all of these."""
-    return max([now(), *(moment_of(it) + SECOND for it in stamps)]).strftime(STAMP)
-
-
-def sync(path):
-    handle = os.open(path, os.O_RDONLY)
-    try:
-        os.fsync(handle)
-    finally:
-        os.close(handle)
-
-
-def sync_disk(path):
-    """Waits until all that was written to the file system of a path is on the disk. A version has thousands of files,
-    and to wait for each takes a hundred times as long."""
-    handle = os.open(path, os.O_RDONLY)
-    try:
-        if LIBC.syncfs(handle) != 0:
-            number = ctypes.get_errno()
-            raise OSError(number, os.strerror(number), path)
-    finally:
-        os.close(handle)
+    moments = [moment + _SECOND for moment in map(_moment_of, stamps) if moment]
+    return max([_now(), *moments]).strftime(STAMP)
 
 
 class Library:
-    def __init__(self, folder):
-        self.folder = os.path.abspath(folder)
+    def __init__(self, folder: str | Path) -> None:
+        self.folder = Path(os.path.abspath(folder))
 
-    def path(self, *names):
-        return os.path.join(self.folder, *names)
+    def path(self, *names: str) -> Path:
+        return self.folder.joinpath(*names)
 
-    def lock(self):
+    def lock(self) -> IO[str]:
         """Locks the library until this process ends; a Failure if another run has done so."""
         file = open(self.path("lock"), "a+")
         try:
@@ -80,76 +69,76 @@ class Library:
             raise Failure(f"{self.path('lock')}: another run has not ended", DEVICE) from fault
         return file
 
-    def version_of(self, link):
+    def version_of(self, link: str) -> str | None:
         """The version that a link names, or None if there is no such link, or no version for it."""
         try:
             text = os.readlink(self.path(link))
         except FileNotFoundError:
             return None
-        if text == NONE:
+        if text == _NONE:
             return None
         stamp = text.removeprefix("versions/")
-        if stamp == text or not moment_of(stamp) or not os.path.isdir(self.path(text)):
+        if stamp == text or not _moment_of(stamp) or not self.path(text).is_dir():
             raise Failure(f"{self.path(link)} is a link to {line_of(text)}, which is no folder versions/STAMP")
         return stamp
 
-    def current(self):
+    def current(self) -> str | None:
         return self.version_of("current")
 
-    def version(self, stamp):
+    def version(self, stamp: str) -> Path:
         return self.path("versions", stamp)
 
-    def versions(self):
+    def versions(self) -> list[str]:
         """The stamps of all versions, the oldest first."""
         os.makedirs(self.path("versions"), exist_ok=True)
         return sorted(filter(is_stamp, os.listdir(self.path("versions"))))
 
-    def clear(self):
+    def clear(self) -> None:
         """Removes what a killed run left unfinished."""
         shutil.rmtree(self.path("trial"), ignore_errors=True)
         for name in os.listdir(self.path("versions")):
-            if name.endswith(".new") and VERSION.fullmatch(f"versions/{name[:-4]}"):
+            if name.endswith(".new") and _VERSION.fullmatch(f"versions/{name[:-4]}"):
                 shutil.rmtree(self.version(name))
         if os.path.lexists(self.path("current.new")):
             os.unlink(self.path("current.new"))
 
-    def remove_newer(self):
+    def remove_newer(self) -> None:
         """Removes versions that are newer than the one in use: a run went back from them, or was killed before their
         use."""
         current = self.current() or ""
-        for stamp in filter(moment_of, os.listdir(self.path("versions"))):
+        for stamp in filter(_moment_of, os.listdir(self.path("versions"))):
             if stamp > current:
                 shutil.rmtree(self.version(stamp))
 
-    def begin(self):
+    def begin(self) -> str:
         """Makes the folder of a new version, and returns its stamp, which is after all others."""
         stamp = stamp_after(self.versions())
         os.mkdir(self.version(f"{stamp}.new"))
         return stamp
 
-    def complete(self, stamp):
+    def complete(self, stamp: str) -> None:
         """Gives a finished version its name, once all of it is on the disk."""
         unfinished = self.version(f"{stamp}.new")
         sync_disk(unfinished)
         os.rename(unfinished, self.version(stamp))
         sync(self.path("versions"))
 
-    def move(self, stamp):
+    def move(self, stamp: str) -> None:
         """Points `current` to a version. There is no moment without the link."""
         os.symlink(f"versions/{stamp}", self.path("current.new"))
         os.rename(self.path("current.new"), self.path("current"))
         sync(self.folder)
 
-    def remember(self, stamp):
+    def remember(self, stamp: str | None) -> None:
         """Makes `before`: whatever ends this run, the next one goes back to this version (None: to no version)."""
-        os.symlink(f"versions/{stamp}" if stamp else NONE, self.path("before"))
+        os.symlink(f"versions/{stamp}" if stamp else _NONE, self.path("before"))
         sync(self.folder)
 
-    def is_unsettled(self):
+    def is_unsettled(self) -> bool:
         """Whether a run has begun to move `current` and to restart processes, and has not ended well."""
         return os.path.lexists(self.path("before"))
 
-    def move_back(self, stamp):
+    def move_back(self, stamp: str | None) -> None:
         """Points `current` to the version before, or removes it if there was none."""
         try:
             if stamp is None:
@@ -161,31 +150,31 @@ class Library:
         except OSError:  # not even a link can be made
             os.rename(self.path("before"), self.path("current"))
 
-    def note_update(self):
+    def note_update(self) -> None:
         """Writes that an update has ended well, for the health page."""
         new = self.path("updated.new")
         with open(new, "w", encoding="ascii") as file:
-            file.write(f"{now().strftime(STAMP)}\n")
+            file.write(f"{_now().strftime(STAMP)}\n")
         os.chmod(new, 0o644)
         os.rename(new, self.path("updated"))
 
-    def forget_updates(self):
+    def forget_updates(self) -> None:
         """Another machine makes the versions from now on, and knows when."""
         if os.path.lexists(self.path("updated")):
             os.unlink(self.path("updated"))
 
-    def settle(self):
+    def settle(self) -> None:
         """All processes serve `current`: there is nothing to go back to."""
         if self.is_unsettled():
             os.unlink(self.path("before"))
             sync(self.folder)
 
-    def remove(self, stamp):
+    def remove(self, stamp: str) -> None:
         """Removes a version. If it is killed meanwhile, no run takes what is left for a version."""
         os.rename(self.version(stamp), self.version(f"{stamp}.new"))
         shutil.rmtree(self.version(f"{stamp}.new"))
 
-    def remove_old(self, most):
+    def remove_old(self, most: int) -> None:
         """Removes the oldest versions, so that `most` remain."""
         for stamp in self.versions()[:-most]:
             shutil.rmtree(self.version(stamp))

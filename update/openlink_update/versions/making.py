@@ -34,12 +34,12 @@ class Files:
     tables: tuple  # of bytes
     has_code: bool
     paths: tuple = dataclasses.field(compare=False)  # of the tables
-    marks: dict = dataclasses.field(compare=False, default_factory=dict)  # of each path, as the file was read
+    sources: tuple = dataclasses.field(compare=False, default=())  # of InputFile: all of these, as they were read
 
     def changed(self):
         """Why files that have been written since they were read cannot be used. One that was replaced is another."""
-        return [f"{path}: it changed while it was read: update again when it is written" for path, mark in
-                self.marks.items() if is_changed(path, mark)]
+        return [f"{it.path}: it changed while it was read: update again when it is written" for it in self.sources
+                if it.is_changed()]
 
     @functools.cached_property
     def prepared(self):
@@ -63,35 +63,20 @@ def content(path):
         return file.read()
 
 
-def marked_content(path):
-    """The bytes of a file, and what the system says of it before they are read."""
-    with open(path, "rb") as file:
-        return os.fstat(file.fileno()), file.read()
-
-
-def is_changed(path, before):
-    """Whether a file was written to, and not replaced by another."""
-    try:
-        now = os.stat(path)
-    except OSError:
-        return False
-    return os.path.samestat(before, now) and (before.st_size, before.st_mtime_ns) != (now.st_size, now.st_mtime_ns)
-
-
 def received(target):
     """The files that the list names for a target. Refused if one of them cannot be read."""
-    reasons, parts, marks = [], [], {}
-    tables = [file_patterns.path_of(path) for path in target.tables]
+    reasons, sources = [], []
+    tables = [file_patterns.path_of(path, target.input.matches) for path in target.tables]
     for path in (target.rules, *tables):
         try:
-            marks[path], data = marked_content(path)
-            parts.append(data)
+            sources.append(target.input.file(path))
         except OSError as fault:
             is_pattern = "*" in path and isinstance(fault, FileNotFoundError)
             reasons.append(f"{path}: {'no file has such a name' if is_pattern else fault.strerror}")
     if reasons:
         raise Refused(reasons)
-    return Files(parts[0], tuple(parts[1:]), target.has_code(), tuple(tables), marks)
+    rules, *data = [it.data for it in sources]
+    return Files(rules, tuple(data), target.has_code(), tuple(tables), tuple(sources))
 
 
 def received_names(folder, name):

@@ -7,7 +7,7 @@ import collections, hashlib, json, os
 from openlink_update.tables import preparation
 
 MARKS = "marks"
-folder = None  # that of this run
+folder: "str | os.PathLike[str] | None" = None  # that of this run
 
 
 def sum_of(path):

@@ -2,67 +2,75 @@
 files of its table, and the warnings that are allowed for it, the last two separated by semicolons; the last cell may be
 missing. Paths are relative to the folder of the list; those of tables may have *. Empty lines and lines that begin with
 # are skipped."""
-import dataclasses, os, re
-from openlink_update.tables import parts
-from openlink_update.outcome import Failure
+import dataclasses
+import os
+import re
 
-NAME = re.compile(r"[A-Za-z0-9_.-]{1,64}")
-MOST = 256
+from openlink_update.input_files import InputFolder, Line
+from openlink_update.outcome import Failure
+from openlink_update.tables import parts
+
+_LIST = "targets.tsv"
+_NAME = re.compile(r"[A-Za-z0-9_.-]{1,64}")
+_MOST = 256
 
 
 @dataclasses.dataclass(frozen=True)
 class Target:
     name: str
     rules: str  # a path; one that ends in .olk is a code file, which needs no compiler
-    tables: tuple  # paths, which may have *
-    allowed: frozenset
+    tables: tuple[str, ...]  # paths, which may have *
+    allowed: frozenset[str]
+    input: InputFolder = dataclasses.field(default=InputFolder("."), compare=False)  # that it comes from
 
     @property
-    def table(self):
+    def table(self) -> str:
         """What messages call the table."""
         return "; ".join(self.tables)
 
-    def has_code(self):
+    def has_code(self) -> bool:
         return self.rules.endswith(".olk")
 
 
-def read(path):
-    """The targets of a list. A Failure says which line is wrong."""
+def read(folder: InputFolder) -> list[Target]:
+    """The targets of a folder's list. A Failure says which line is wrong."""
+    path = folder.place(_LIST)
     try:
-        with open(path, encoding="utf-8-sig") as file:
-            lines = file.read().split("\n")
+        lines = list(folder.lines(_LIST))
     except UnicodeDecodeError as fault:
         raise Failure(f"{path}: not UTF-8") from fault
-    targets = {}
-    for number, line in enumerate(lines, 1):
-        line = line.rstrip("\r")
-        if line.strip() == "" or line.startswith("#"):
-            continue
-        target = target_of(line, os.path.dirname(path), f"{path}: line {number}")
+    targets: dict[str, Target] = {}
+    for line in lines:
+        place = f"{path}: line {line.number}"
+        target = _target_of(line, folder, place)
         if target.name in targets:
-            raise Failure(f"{path}: line {number}: a second target {target.name}")
+            raise Failure(f"{place}: a second target {target.name}")
         targets[target.name] = target
-    if not 1 <= len(targets) <= MOST:
-        raise Failure(f"{path}: {len(targets)} targets, and 1 to {MOST} are possible")
+    if not 1 <= len(targets) <= _MOST:
+        raise Failure(f"{path}: {len(targets)} targets, and 1 to {_MOST} are possible")
     return list(targets.values())
 
 
-def target_of(line, folder, place):
-    cells = [cell.strip() for cell in line.split("\t")]
+def _target_of(line: Line, folder: InputFolder, place: str) -> Target:
+    cells = [cell.strip() for cell in line.cells]
     if len(cells) not in (3, 4) or not all(cells[:3]):
         raise Failure(f"{place}: not a name, a rule file, a table and allowed warnings, with tabs between them")
     name, rules, tables = cells[:3]
-    if not NAME.fullmatch(name):
+    if not _NAME.fullmatch(name):
         raise Failure(f"{place}: no target can have the name {name}")
     if parts.base_of(name) != name:
         raise Failure(f"{place}: no target can have the name {name}, which is that of a part of {parts.base_of(name)}")
-    paths = parts_of(tables)
+    paths = _parts_of(tables)
     if not paths:
         raise Failure(f"{place}: no table")
-    return Target(name, os.path.join(folder, rules), tuple(os.path.join(folder, path) for path in paths),
-                  frozenset(parts_of(cells[3]) if len(cells) == 4 else ()))
+    allowed = frozenset(_parts_of(cells[3]) if len(cells) == 4 else ())
+    return Target(name, _joined(folder, rules), tuple(_joined(folder, path) for path in paths), allowed, folder)
 
 
-def parts_of(cell):
+def _joined(folder: InputFolder, path: str) -> str:
+    return os.path.join(folder.path, path)
+
+
+def _parts_of(cell: str) -> list[str]:
     """The parts of a cell, which are separated by semicolons."""
     return [part.strip() for part in cell.split(";") if part.strip()]

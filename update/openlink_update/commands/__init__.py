@@ -1,0 +1,1 @@
+"""The commands of the operator. The scripts beside the package call the `main` of each."""

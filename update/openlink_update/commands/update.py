@@ -1,0 +1,156 @@
+"""The work of openlink-update: one library, several, or other machines."""
+import os
+
+from openlink_update import interrupts
+from openlink_update import update_options
+from openlink_update.fetch import fetching, sources
+from openlink_update.input_files import InputFolder
+from openlink_update.machines.libraries import Libraries
+from openlink_update.machines.library_updates import ALONE, Updates
+from openlink_update.machines.machines import deliver
+from openlink_update.machines.receiving import Receiver
+from openlink_update.outcome import ALL_NEW, DEVICE, KEPT, USAGE, WENT_BACK, Failure, Interrupted
+from openlink_update.report import prepare_streams, report
+from openlink_update.site.front_door import Site
+from openlink_update.update_options import Options
+from openlink_update.versions import shared_tables
+from openlink_update.versions.library import Library
+from openlink_update.weekly_run import Run
+
+
+def main(words: list[str] | None = None) -> int:
+    options = update_options.parse(words)
+    os.umask(0o022)
+    prepare_streams()
+    try:
+        return _run(options)
+    except Failure as failure:
+        report(f"openlink-update: {failure}", "stderr")
+        return failure.status
+    except OSError as fault:
+        report(f"openlink-update: {fault.filename}: {fault.strerror}", "stderr")
+        return DEVICE
+
+
+def _run(options: Options) -> int:
+    if options.among is not None:
+        return _update_one(options)
+    status = None if options.send else _update_several(options, Libraries(options.library, options.site))
+    if status is None:
+        status = ALL_NEW if options.send else _update_one(options)
+    return deliver(options, status)
+
+
+def _update_several(options: Options, libraries: Libraries) -> int | None:
+    """Updates the libraries that the arguments name. Returns the exit status; None if there is only one alone."""
+    libraries.check(options.names)
+    names = list(dict.fromkeys(options.names)) or (libraries.names() if options.all else [])
+    if not names:
+        if not options.all and not libraries.has_one_alone() and libraries.names():
+            raise Failure("this machine has several libraries: name some, or --all", USAGE)
+        return None
+    if options.all and libraries.has_one_alone():
+        names.insert(0, ALONE)
+    return Updates(libraries, options.words()).run(names, options.fetch)
+
+
+def _update_one(options: Options) -> int:
+    library = Library(options.library)
+    site = Site(options.site, options.machine)
+    others = (
+        Libraries(options.among, options.machine or options.site).versions(library.folder.name)
+        if options.among
+        else None
+    )
+    shared_tables.folder = options.prepared
+    lock = library.lock()
+    run = (Receiver if options.receive else Run)(library, site, options, others)
+    status, fault = _end_of(run, options)
+    if fault:
+        status = _settle(run, options, status, fault)
+    elif not options.dry_run and library.current() and run.processes.is_down():
+        report(f"openlink-update: no process answers: ports {', '.join(map(str, site.ports))}", "stderr")
+        status = DEVICE
+    library.clear()
+    lock.close()
+    return status
+
+
+def _settle(run: Run, options: Options, status: int, fault: str) -> int:
+    """Says what ended the work, and goes back if processes were restarted. Returns the exit status."""
+    library = run.library
+    report(f"openlink-update: {fault}", "stderr")
+    if library.is_unsettled() and not options.dry_run:
+        run.go_back(list(run.processes.restarted))
+        status = WENT_BACK
+        if not library.is_unsettled():
+            library.remove_newer()
+    elif library.current():
+        report(f"{library.current()} stays in use")
+    return status
+
+
+def _end_of(run: Run, options: Options) -> tuple[int, str | None]:
+    """The exit status of the work, and what ended it early."""
+    try:
+        try:
+            return _work(run, options), None
+        finally:
+            interrupts.are_ignored()
+    except Interrupted as ending:
+        return WENT_BACK, f"ended by {ending}"
+    except Failure as failure:
+        return failure.status, str(failure)
+    except OSError as fault:
+        return DEVICE, f"{fault.filename or options.library}: {fault.strerror}"
+    except Exception as fault:  # a bug in the package: the version before is to be served then too
+        return DEVICE, f"{type(fault).__name__}: {fault}"
+
+
+def _work(run: Run, options: Options) -> int:
+    """Does what the arguments say. Returns the exit status."""
+    library = run.library
+    if library.is_unsettled() and not options.dry_run:
+        report("the last run was killed while it restarted processes: going back first")
+        run.processes.wait_for_all()
+        run.go_back(run.processes.ports)
+    interrupts.end_the_run()
+    library.versions()
+    library.clear()
+    if options.receive and isinstance(run, Receiver):
+        return run.receive(options.receive, options.keep)
+    if options.back:
+        interrupts.are_ignored()
+        library.remember(_version_before(library))
+        run.go_back(run.processes.ports)
+        return WENT_BACK if library.is_unsettled() else ALL_NEW
+    if not options.dry_run:
+        library.remove_newer()
+    folder = InputFolder(options.input or library.path("input"))
+    if options.walls:
+        return run.move_walls(folder)
+    are_fetched = not options.fetch or _fetch(folder)
+    status = run.update(folder, options.keep, options.dry_run)
+    if not options.dry_run:
+        library.note_update()
+    return status or (ALL_NEW if are_fetched else KEPT)
+
+
+def _version_before(library: Library) -> str:
+    older = [stamp for stamp in library.versions() if stamp < (library.current() or "")]
+    if not older:
+        raise Failure("there is no version before the one in use")
+    return older[-1]
+
+
+def _fetch(folder: InputFolder) -> bool:
+    """Whether all files of sources.tsv were fetched, if there is one. The update is made in any case."""
+    if not folder.exists(sources.LIST):
+        return True
+    try:
+        return fetching.fetch(folder.path, report, fetching.SECONDS, fetching.PAUSE) == ALL_NEW
+    except Failure as failure:
+        report(f"nothing was fetched: {failure}")
+    except OSError as fault:
+        report(f"nothing was fetched: {fault.filename or folder.path}: {fault.strerror}")
+    return False
