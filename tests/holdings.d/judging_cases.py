@@ -240,7 +240,7 @@ def test_written_meanwhile():
     with Weeks() as weeks:
         half = gzip.compress(table(*rows(0, 99)))[:-9]
         weeks.deliver("press", half)
-        with mock.patch("preparation.prepare", lambda files: append(files[0][0]) or prepare(files)):
+        with mock.patch("openlink_update.tables.preparation.prepare", lambda files: append(files[0][0]) or prepare(files)):
             said = [line.split(".txt: ")[1] for line in weeks.make() if line.startswith("  ")]
         expect("half of a file, which is written on", said, ["a gzip file that is cut short or damaged", WRITTEN])
         expect("the first week", weeks.week("press", table(*rows(0, 20))), [])

@@ -4,7 +4,7 @@ import json, os, subprocess, sys, tempfile
 MOST_MB = 600  # for a file that is refused
 CHILD = """
 import json, re, sys
-sys.path.insert(0, "update/openlink_update")
+sys.path.insert(0, "update")
 from openlink_update.tables import preparation
 from openlink_update.outcome import Refused
 with open(sys.argv[1], "rb") as file:

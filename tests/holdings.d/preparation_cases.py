@@ -2,7 +2,8 @@
 for a tab, and a table of two lines has the header COLUMNS."""
 import gzip, io, os, tempfile, zipfile
 from counting import expect
-from openlink_update.tables import file_patterns, preparation
+from openlink_update.received import patterns
+from openlink_update.tables import preparation
 from openlink_update.outcome import Refused
 
 COLUMNS = ("publication_title|print_identifier|online_identifier|date_first_issue_online|date_last_issue_online|"
@@ -269,7 +270,7 @@ def test_patterns():
                  "*.txt": "a1_2026-03-01.txt", "d*.txt": "d*.txt", "e*": "e*", "a[1]_2026-01-01.txt":
                  "a[1]_2026-01-01.txt", "a?_2026-03-01.txt": "a?_2026-03-01.txt"}
         for pattern, path in cases.items():
-            expect(f"the pattern {pattern}", file_patterns.path_of(os.path.join(folder, pattern)),
+            expect(f"the pattern {pattern}", patterns.path_of(os.path.join(folder, pattern)),
                    os.path.join(folder, path))
 
 
@@ -287,7 +288,7 @@ def test_newest_files():
     }
     for names, newest in cases.items():
         for order in (names, names[::-1]):
-            expect(f"the newest of {order}", file_patterns.newest(list(order)), newest)
+            expect(f"the newest of {order}", patterns.newest(list(order)), newest)
 
 
 TESTS = [test_files, test_sample, test_dates, test_refused_files, test_joined_files, test_dropped_rows,

@@ -1,6 +1,6 @@
 """One KBART file of all targets, with the columns of NISO RP-9-2014 and a last one that names the provider."""
 from openlink_update.tables.embargoes import parts_of, repeats_wall
-from openlink_update.tables.headers import COLUMNS
+from openlink_update.received.headers import COLUMNS
 from openlink_update.tables.title_rows import lines_of
 
 OLDER = {"coverage_notes": "notes"}  # the name of a column in the first edition

@@ -5,7 +5,7 @@
     .fetch/lock         locked by a run as long as it lives
 """
 import contextlib, datetime, fcntl, hashlib, os, shutil
-from openlink_update.tables import archives, headers, received_text
+from openlink_update.received import archives, headers, texts
 from openlink_update.fetch import downloads, sources
 from openlink_update.fetch.fetch_state import State, sum_of
 from openlink_update.versions.library import sync
@@ -25,10 +25,10 @@ def rows_in(text):
 def table_in(data, source):
     """What a reply brings to the file of a source: its bytes, or those of a member. Unreadable if it is no table."""
     inner = archives.unpacked(data, source.member or "*")
-    text = received_text.text_of(inner)[0]
+    text = texts.text_of(inner)[0]
     if not text.strip():
         raise Unreadable("empty")
-    if received_text.is_web_page(text):
+    if texts.is_web_page(text):
         raise Unreadable("a web page, not a table: the address may want a login")
     rows = rows_in(text)
     if rows < source.least:

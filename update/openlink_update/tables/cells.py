@@ -2,7 +2,7 @@
 returns both with lines that say what it did, and to how many cells or rows."""
 import re
 from openlink_update.tables.cell_dates import standard as standard_date
-from openlink_update.tables.headers import told
+from openlink_update.received.headers import told
 from openlink_update.tables.identifiers import form_of, standard as standard_number
 
 IDENTIFIERS = ("print_identifier", "online_identifier")

@@ -2,7 +2,7 @@
 that columns, or the parts of dates, were exchanged."""
 import re
 from openlink_update.tables.coverage import day_in
-from openlink_update.tables.headers import number
+from openlink_update.received.headers import number
 from openlink_update.tables.table_cells import cell, columns_of
 
 COLUMNS = ("date_first_issue_online", "date_last_issue_online")

@@ -1,7 +1,8 @@
 """Prepares the files of a target, as they came, to be served: read as text, found below their header, joined, step by
 step in the form that the program reads, and without rows that no request can find."""
 import collections, dataclasses
-from openlink_update.tables import archives, cells, date_order, dropped_rows, headers, received_text
+from openlink_update.received import archives, headers, texts
+from openlink_update.tables import cells, date_order, dropped_rows
 from openlink_update import shown_text
 from openlink_update.outcome import Refused, Unreadable
 
@@ -28,8 +29,8 @@ def table_of(header, rows):
 
 def read(data):
     """The header and rows of one file, and lines that say how it was read."""
-    text, told = received_text.text_of(archives.unpacked(data))
-    if received_text.is_web_page(text):
+    text, told = texts.text_of(archives.unpacked(data))
+    if texts.is_web_page(text):
         raise Unreadable("a web page, not a table")
     header, rows, more = headers.table_of(text)
     return header, rows, told + more

@@ -15,7 +15,8 @@
 An old table is prepared again before a new one is compared with it, so a newer form of preparation does not look like a
 change by the provider."""
 import dataclasses, filecmp, functools, os, re, shutil
-from openlink_update.tables import date_order, dropped_rows, file_patterns, row_changes
+from openlink_update.received import patterns
+from openlink_update.tables import date_order, dropped_rows, row_changes
 from openlink_update.versions import earlier_files, shared_tables
 from openlink_update.index import title_index
 from openlink_update.versions.earlier_files import EarlierFiles
@@ -81,7 +82,7 @@ def is_changed(path, before):
 def received(target):
     """The files that the list names for a target. Refused if one of them cannot be read."""
     reasons, parts, marks = [], [], {}
-    tables = [file_patterns.path_of(path) for path in target.tables]
+    tables = [patterns.path_of(path) for path in target.tables]
     for path in (target.rules, *tables):
         try:
             marks[path], data = marked_content(path)

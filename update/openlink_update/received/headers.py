@@ -3,7 +3,7 @@ with fewer than LEAST names of KBART is used as it is, with its first line as th
 do not match reject a file: one that is not closed would take the rows after it into its cell."""
 import csv, itertools, re
 from openlink_update.outcome import Unreadable
-from openlink_update.tables.table_limits import MOST_LINE_BYTES, check_columns
+from openlink_update.received.limits import MOST_LINE_BYTES, check_columns
 
 # The 25 columns of NISO RP-9-2014.
 COLUMNS = (
