@@ -1,8 +1,8 @@
 """What a person reads, in the mail, on a terminal, and in the lists of rows: no character there is a command, and no
 cell of a list is a formula. The table and its rules are a hostile provider's."""
-import contextlib, csv, importlib.util, io, os, subprocess, sys, unicodedata
+import contextlib, csv, io, os, subprocess, sys, unicodedata
 from counting import expect
-from openlink_update import shown_text
+from openlink_update import shown_text, weekly_run
 from versions import HEADER, Weeks, table
 
 # ESC, CR, BEL, NUL, DEL, C1 (CSI, NEL), and what ends a line or sets its direction.
@@ -11,17 +11,6 @@ UNSAFE = "\x1b\r\x07\x00\x0b\x0c\x7f\x80\x85\x9b\x9f\u061c\u200e\u200f\u2028\u20
 FORMULAS = ("=1", "+1", "-1", "@SUM(A1)", " =1", "\t=1", " \t+1", "\u3000=1", "\xa0-1", "＝1", "＋1", "－1", "＠1",
             "\x1b=1")
 PLAIN = ("-", "Études – L’eau", "日本語", "می‌خواهم", "a=b", "Q & A", "", "'x", "50% + 1")
-
-
-def module_of_update(name):
-    """A module of the update whose name the tests have too."""
-    spec = importlib.util.spec_from_file_location(f"update_{name}", f"update/openlink_update/{name}.py")
-    module = importlib.util.module_from_spec(spec)
-    spec.loader.exec_module(module)
-    return module
-
-
-run = module_of_update("run")
 
 
 def is_unsafe(text):
@@ -54,11 +43,11 @@ def test_report():
     """A line of a run has no commands; a process prints it as the mail gets it."""
     out = io.StringIO()
     with contextlib.redirect_stdout(out):
-        run.report("first \x1b]0;owned\x07\x1b[2J\x9b1m\u202e months\r")
+        weekly_run.report("first \x1b]0;owned\x07\x1b[2J\x9b1m\u202e months\r")
     expect("a line", out.getvalue(), "first ?]0;owned??[2J?1m? months?\n")
-    code = "import run; run.report('x\\x1b[2J\\x85y', 'stderr')"
+    code = "from openlink_update import weekly_run; weekly_run.report('x\\x1b[2J\\x85y', 'stderr')"
     done = subprocess.run([sys.executable, "-S", "-B", "-c", code], capture_output=True,
-                          env={**os.environ, "PYTHONPATH": "update/openlink_update"})
+                          env={**os.environ, "PYTHONPATH": "update"})
     expect("standard error", done.stderr, b"x?[2J?y\n")
 
 
@@ -93,7 +82,7 @@ def test_lists():
         expect(f"the second week: {said}", weeks.maker.kept, [])
         out = stack.enter_context(contextlib.redirect_stdout(io.StringIO()))
         for line in said:
-            run.report(line)
+            weekly_run.report(line)
         found = list(lists_of(weeks))
     expect("the lines of the mail", (is_unsafe(out.getvalue()), len(out.getvalue().splitlines()) > 3), ([], True))
     for (name, text, rows), count in zip(found, (1 + 2 * len(hostile(0)), 1 + len(lost))):
