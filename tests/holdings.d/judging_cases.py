@@ -209,8 +209,9 @@ def test_again():
         many.put("press", b"%d" % number)
         many.days["press"] = dict(line.split("\t")[1:] for line in many.text(
             ["press"], datetime.date(2026, 1, 1) + datetime.timedelta(number)).splitlines())
-    expect("how many are remembered", sum(many.day_of("press", b"%d" % it) is not None for it in range(40)), 26)
-    expect("the newest", many.day_of("press", b"39"), "2026-02-09")
+    days = [many.put("press", b"%d" % number) or many.day_of("press") for number in range(40)]
+    expect("how many are remembered", sum(day is not None for day in days), 26)
+    expect("the newest", days[39], "2026-02-09")
 
 
 class Writing(Program):
@@ -240,7 +241,8 @@ def test_written_meanwhile():
     with Weeks() as weeks:
         half = gzip.compress(table(*rows(0, 99)))[:-9]
         weeks.deliver("press", half)
-        with mock.patch("openlink_update.tables.preparation.prepare", lambda files: append(files[0][0]) or prepare(files)):
+        with mock.patch("openlink_update.tables.preparation.prepare",
+                        lambda files: append(files[0][0]) or prepare(files)):
             said = [line.split(".txt: ")[1] for line in weeks.make() if line.startswith("  ")]
         expect("half of a file, which is written on", said, ["a gzip file that is cut short or damaged", WRITTEN])
         expect("the first week", weeks.week("press", table(*rows(0, 20))), [])

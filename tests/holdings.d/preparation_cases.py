@@ -182,7 +182,7 @@ def prepare(*files):
     """The table and what is said, or the reasons against it."""
     try:
         prepared = preparation.prepare([(f"file {number}", bytes_of(it)) for number, it in enumerate(files, 1)])
-        return prepared.table.decode(), prepared.told
+        return prepared.table.to_bytes().decode(), prepared.lines
     except Refused as refusal:
         return refusal.reasons
 

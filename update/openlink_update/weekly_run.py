@@ -1,5 +1,5 @@
 """One run: makes the next version, tries it, puts it in use, and goes back to the version before if something fails."""
-import contextlib, datetime, os, sys
+import contextlib, datetime, os, pathlib, sys
 from openlink_update import children, interrupts
 from openlink_update.tables import coverage
 from openlink_update.exports import export_files
@@ -76,7 +76,8 @@ class Run:
         if old and making.is_same(unfinished, older) and self.names_file.is_same(unfinished, older):
             return self.say_end(maker, f"nothing new: {old} stays in use")
         maker.make_index(self.site.has_list)
-        self.export(unfinished)
+        self.export(maker, unfinished)
+        maker.remove_prepared()
         if self.others is not None:
             same_files.link(unfinished, older, self.others)
         with self.front_door(probes) as door:
@@ -102,9 +103,10 @@ class Run:
         if is_kept:
             maker.kept.append(NAME)
 
-    def export(self, version):
+    def export(self, maker, version):
         """Writes the version's holdings for others."""
-        fault = export_files.make(version, self.site, self.names_file.path_in(version))
+        fault = export_files.make(pathlib.Path(version), maker.tables_for_export(), self.site,
+                                  self.names_file.path_in(version))
         if fault:
             report(f"the lists for others name targets without labels: {fault}")
 

@@ -2,7 +2,8 @@
 import collections, functools
 from openlink_update.tables.identifiers import standard
 from openlink_update.tables.parts import base_of
-from openlink_update.tables.title_rows import ONLINE, PRINT, rows_of
+from openlink_update.index.title_rows import ONLINE, PRINT, rows_of
+from openlink_update.tables.table import Table
 from openlink_update.index.titles import article_and_key
 
 MOST_NUMBERS = 40
@@ -75,7 +76,7 @@ class Titles:
         # the identifier of an earlier title and the later one.
         self.target, self.ids, self.later = "", {}, []
 
-    def add_table(self, target, table):
+    def add_table(self, target: str, table: Table) -> None:
         """Adds the table of a target, or the next part of it."""
         if base_of(target) != self.target:
             self.follow(base_of(target))

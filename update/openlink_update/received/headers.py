@@ -108,16 +108,16 @@ def table_of(text):
     names = spelled(parsed[0])
     above = sum(1 for line in top[:before] if line)
     changed = sum(name != cell for name, cell in zip(names, parsed[0]))
-    return names, parsed[1:], told(
+    return names, parsed[1:], lines_of_counts(
         (f"{SEPARATORS[separator]} between cells", len(parsed) - 1 if separator != "\t" else 0, "row"),
         ("above the header, left out", above, "line"),
         ("names of columns as the standard spells them", changed, "cell"))
 
 
-def told(*counts):
+def lines_of_counts(*counts: tuple[str, int, str]) -> list[str]:
     """A line for each count above 0: what was done, and to how many."""
     return [f"{what}: {number(count, noun)}" for what, count, noun in counts if count]
 
 
-def number(count, noun):
+def number(count: int, noun: str) -> str:
     return f"{count} {noun}" if count == 1 else f"{count} {noun}s"
