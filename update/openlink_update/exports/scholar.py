@@ -33,8 +33,11 @@ def _date_element(name: str, cell: str, volume: str, issue: str) -> str:
     if not DATE.fullmatch(date):
         return ""
     parts = _element("year", date[:4]) + _element("month", date[5:7].lstrip("0"))
-    numbers = "".join(_element(kind, cell.strip()) for kind, cell in (("volume", volume), ("issue", issue))
-                      if _NUMBER.fullmatch(cell.strip()))
+    numbers = "".join(
+        _element(kind, cell.strip())
+        for kind, cell in (("volume", volume), ("issue", issue))
+        if _NUMBER.fullmatch(cell.strip())
+    )
     return f"<{name}>{parts}{numbers}</{name}>"
 
 
@@ -55,9 +58,16 @@ def _coverage_of(row: dict[str, str], provider: str, day: datetime.date) -> str 
     if date_in(first) != NONE and date_in(first) > limit:
         return None
     days = _element("days_not_available", "" if closed is None else str(closed))
-    return "".join(("<coverage>", _date_element("from", first, *start),
-                    _date_element("to", last, *(row.get(f"num_last_{kind}_online", "") for kind in ("vol", "issue"))),
-                    f"<embargo>{days}</embargo>" if days else "", _element("comment", provider), "</coverage>"))
+    return "".join(
+        (
+            "<coverage>",
+            _date_element("from", first, *start),
+            _date_element("to", last, *(row.get(f"num_last_{kind}_online", "") for kind in ("vol", "issue"))),
+            f"<embargo>{days}</embargo>" if days else "",
+            _element("comment", provider),
+            "</coverage>",
+        )
+    )
 
 
 def items(rows: Iterable[dict[str, str]], provider: str, day: datetime.date) -> Iterator[str]:
@@ -93,10 +103,15 @@ def links(names: SiteNames, base: str, addresses: list[str]) -> str:
     """The document for the library's entry in Google Scholar; '' if targets.json has no `scholar`."""
     if not names.scholar("label"):
         return ""
-    lines = [_element("institution", names.library()), _element("keywords", names.scholar("keywords")),
-             _element("contact", names.scholar("contact")), _element("electronic_link_label", names.scholar("label")),
-             _element("other_link_label", names.scholar("otherLabel") or names.scholar("label")),
-             _element("openurl_base", f"{base}/find"), *(_element("openurl_option", it) for it in _OPTIONS),
-             f"<electronic_holdings>{''.join(_element('url', it) for it in addresses)}</electronic_holdings>",
-             *(_element("patron_ip_range", it) for it in names.scholar("addresses").split())]
+    lines = [
+        _element("institution", names.library()),
+        _element("keywords", names.scholar("keywords")),
+        _element("contact", names.scholar("contact")),
+        _element("electronic_link_label", names.scholar("label")),
+        _element("other_link_label", names.scholar("otherLabel") or names.scholar("label")),
+        _element("openurl_base", f"{base}/find"),
+        *(_element("openurl_option", it) for it in _OPTIONS),
+        f"<electronic_holdings>{''.join(_element('url', it) for it in addresses)}</electronic_holdings>",
+        *(_element("patron_ip_range", it) for it in names.scholar("addresses").split()),
+    ]
     return _HEAD.format(*_LINKS) + "".join(f"{line}\n" for line in lines if line) + f"</{_LINKS[0]}>\n"

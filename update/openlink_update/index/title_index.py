@@ -85,15 +85,18 @@ def similar_keys(title):
 
 
 def related_text(earlier, later):
-    return "".join(f"\t{sign}{title.numbers()[0]} {title.name}"
-                   for sign, titles in (("<", earlier), (">", later)) for title in titles)
+    return "".join(
+        f"\t{sign}{title.numbers()[0]} {title.name}"
+        for sign, titles in (("<", earlier), (">", later))
+        for title in titles
+    )
 
 
 def few_of_each_key(lines):
     """At most MOST_LINES of each key, of sorted lines."""
     last, count = b"", 0
     for line in lines:
-        key = line[:line.index(b"\t")]
+        key = line[: line.index(b"\t")]
         last, count = (key, count + 1) if key == last else (key, 1)
         if count <= MOST_LINES:
             yield line

@@ -12,8 +12,17 @@ from openlink_update.tables.row_dates import NONE, date_in
 from openlink_update.tables.table import Table, cell
 
 PRINT, ONLINE = 1, 2
-_COLUMNS = ("publication_title", "print_identifier", "online_identifier", "date_first_issue_online",
-            "date_last_issue_online", "embargo_info", "publication_type", "title_id", "preceding_publication_title_id")
+_COLUMNS = (
+    "publication_title",
+    "print_identifier",
+    "online_identifier",
+    "date_first_issue_online",
+    "date_last_issue_online",
+    "embargo_info",
+    "publication_type",
+    "title_id",
+    "preceding_publication_title_id",
+)
 
 
 @dataclasses.dataclass(frozen=True)

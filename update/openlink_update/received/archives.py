@@ -35,8 +35,9 @@ def unzipped(data, member):
             names = [name for name in archive.namelist() if name and not name.endswith("/")]
             info = archive.getinfo(chosen(names, member))
             if info.compress_type not in METHODS:
-                raise Unreadable(f"a zip file packed by {method_of(info)}: pack it with the usual method, deflate, or "
-                                 "as .gz")
+                raise Unreadable(
+                    f"a zip file packed by {method_of(info)}: pack it with the usual method, deflate, or " "as .gz"
+                )
             with archive.open(info) as file:
                 return content(file)
     except Unreadable:
@@ -67,8 +68,11 @@ def chosen(names, member):
         return fitting[0]
     if SPREADSHEET in names:
         raise Unreadable("a spreadsheet: save it as text with tabs")
-    raise Unreadable(f"a zip file with {len(fitting)} members that fit {member}" if member != "*"
-                     else f"a zip file with {len(fitting)} members: name one by `member PATTERN` in sources.tsv")
+    raise Unreadable(
+        f"a zip file with {len(fitting)} members that fit {member}"
+        if member != "*"
+        else f"a zip file with {len(fitting)} members: name one by `member PATTERN` in sources.tsv"
+    )
 
 
 def fits(name, pattern):

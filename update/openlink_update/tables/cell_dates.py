@@ -9,9 +9,13 @@ _YEAR = re.compile(r"(?<!\d)(1[4-9]\d\d|20\d\d|9999)(?!\d)", re.A)
 _TIME = re.compile(r"[T ]\d\d?:\d\d(?::\d\d(?:\.\d+)?)?(?: ?[AP]M)?(?:Z|[+-]\d\d:?\d\d)?$", re.A | re.I)
 _PARTS = re.compile(r"[^0-9a-z]+")
 _DIGITS = re.compile(r"\d{8}", re.A)
-_MONTHS = {name[:length]: number for number, name in enumerate(
-    "january february march april may june july august september october november december".split(), 1)
-    for length in {3, 4, len(name)}}
+_MONTHS = {
+    name[:length]: number
+    for number, name in enumerate(
+        "january february march april may june july august september october november december".split(), 1
+    )
+    for length in {3, 4, len(name)}
+}
 
 
 def standard(text: str) -> str:
@@ -60,8 +64,11 @@ def _readings_of_digits(first: str, last: str) -> list[str]:
     is_first, is_last = (_YEAR.fullmatch(part) is not None for part in (first, last))
     if is_first == is_last:
         return []
-    return [_date_of(first, last[:2], last[2:])] if is_first else [_date_of(last, first[:2], first[2:]),
-                                                                   _date_of(last, first[2:], first[:2])]
+    return (
+        [_date_of(first, last[:2], last[2:])]
+        if is_first
+        else [_date_of(last, first[:2], first[2:]), _date_of(last, first[2:], first[:2])]
+    )
 
 
 def _readings_with_name(parts: list[str], months: list[int | None]) -> list[str]:

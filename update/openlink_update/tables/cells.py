@@ -61,8 +61,9 @@ def _without_spaces(header: list[str], rows: _Rows) -> tuple[_Rows, list[str]]:
             row[:] = cells
         if any(row):
             left.append(row)
-    return left, lines_of_counts(("spaces at the ends removed", count, "cell"),
-                                 ("empty, left out", len(rows) - len(left), "row"))
+    return left, lines_of_counts(
+        ("spaces at the ends removed", count, "cell"), ("empty, left out", len(rows) - len(left), "row")
+    )
 
 
 def _with_identifiers(header: list[str], rows: _Rows) -> tuple[_Rows, list[str]]:
@@ -83,9 +84,11 @@ def _with_identifiers(header: list[str], rows: _Rows) -> tuple[_Rows, list[str]]
         return cell
 
     _change_cells(header, rows, IDENTIFIERS, identifier)
-    return rows, lines_of_counts(("dashes in identifiers replaced by hyphens", dashes, "cell"),
-                                 ("words after an identifier removed", words, "cell"),
-                                 ("ISBNs of ten digits written with thirteen", isbns, "cell"))
+    return rows, lines_of_counts(
+        ("dashes in identifiers replaced by hyphens", dashes, "cell"),
+        ("words after an identifier removed", words, "cell"),
+        ("ISBNs of ten digits written with thirteen", isbns, "cell"),
+    )
 
 
 def _number_alone(cell: str) -> str:
@@ -114,9 +117,11 @@ def _with_dates(header: list[str], rows: _Rows) -> tuple[_Rows, list[str]]:
 
     changed = _change_cells(header, rows, _DATES, date)
     opened = _change_cells(header, rows, (_LAST,), lambda cell: "" if _OPEN_END.fullmatch(cell) else cell)
-    return rows, lines_of_counts(("dates in the standard's form", changed - are_years, "cell"),
-                                 ("dates cut to their year", are_years, "cell"),
-                                 ("last dates that mean today removed", opened, "cell"))
+    return rows, lines_of_counts(
+        ("dates in the standard's form", changed - are_years, "cell"),
+        ("dates cut to their year", are_years, "cell"),
+        ("last dates that mean today removed", opened, "cell"),
+    )
 
 
 def _without_repetitions(header: list[str], rows: _Rows) -> tuple[_Rows, list[str]]:

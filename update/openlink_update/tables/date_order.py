@@ -40,5 +40,7 @@ def reasons_against(pairs: list[tuple[str, str]], rows: int, allowed: Collection
     most = limits[0] if limits else -(-rows * _PER_HUNDRED // 100)
     if len(pairs) <= most:
         return []
-    return [f"{_WORDS}: {len(pairs)} of {rows} rows, and {most} may be, {_first_of(pairs)}; "
-            f"to allow it: {_WORDS} up to {len(pairs)}"]
+    return [
+        f"{_WORDS}: {len(pairs)} of {rows} rows, and {most} may be, {_first_of(pairs)}; "
+        f"to allow it: {_WORDS} up to {len(pairs)}"
+    ]

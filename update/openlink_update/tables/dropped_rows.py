@@ -53,8 +53,10 @@ def reasons_against(dropped: list[list[str]], rows: int, allowed: Collection[str
         return []
     totals = {reason: sum(row[0] == reason for row in dropped) for reason in (_NONE, _NO_NUMBER)}
     counts = ", ".join(f"{reason}: {count}" for reason, count in totals.items() if count)
-    return [f"{len(dropped)} of {rows} rows dropped, and {most} may be: {counts}; to allow it: dropped up to "
-            f"{len(dropped)}; the first: {shown(dropped[0][1:])}"]
+    return [
+        f"{len(dropped)} of {rows} rows dropped, and {most} may be: {counts}; to allow it: dropped up to "
+        f"{len(dropped)}; the first: {shown(dropped[0][1:])}"
+    ]
 
 
 def shown(cells: list[str]) -> str:

@@ -104,5 +104,7 @@ def fault_of(counts: dict[str, int], registry: bytes) -> str:
     if names <= MOST_TARGETS and len(registry) <= MOST_REGISTRY_BYTES:
         return ""
     several = ", ".join(f"{name} ({count})" for name, count in counts.items() if count > 1)
-    return (f"registry.tsv: {names} targets and {len(registry)} bytes, and {MOST_TARGETS} and {MOST_REGISTRY_BYTES} "
-            f"are possible; in parts: {several or 'none'}")
+    return (
+        f"registry.tsv: {names} targets and {len(registry)} bytes, and {MOST_TARGETS} and {MOST_REGISTRY_BYTES} "
+        f"are possible; in parts: {several or 'none'}"
+    )

@@ -204,8 +204,11 @@ class Judge:
 
     def text(self, targets: Iterable[str]) -> str:
         """What the next version has to know, as the file `allowed.tsv`."""
-        return "".join(f"{target}\t{words}\t{number}\n" for target in targets
-                       for words, number in sorted(self.allowed.get(target, {}).items()))
+        return "".join(
+            f"{target}\t{words}\t{number}\n"
+            for target in targets
+            for words, number in sorted(self.allowed.get(target, {}).items())
+        )
 
     def write_changes(self, name: str) -> list[str]:
         """Writes the titles of a target that came and went. Returns a line that counts them; none if there are none."""
