@@ -1,11 +1,14 @@
 """Embargoes: everything that the update makes of a cell reads it in the same way. Worked out by hand for 2026-11-27."""
 import os, re
 from counting import expect
-from openlink_update.tables import coverage
-from openlink_update.exports import kbart_file, scholar
-from openlink_update.exports.registry import tables_of
+from pathlib import Path
+
+from openlink_update.exports import export_files, kbart_file, scholar
 from openlink_update.exports.site_names import SiteNames
-from versions import DAY, HEADER, Weeks, table
+from openlink_update.tables import coverage
+from openlink_update.versions.tables_again import tables_of
+from openlink_update.site.front_door import Site
+from versions import DAY, Weeks, table
 
 OPEN = ("", "19950101", "99999999", "1995", "")
 # A cell of a row that begins in 1995: its last date as it is served, coverage_from, coverage_to, the dates and the
@@ -38,6 +41,16 @@ def index_entries(version):
     return found
 
 
+def exports_of(weeks):
+    """The cells of the KBART file that the update writes, which is the one that openlink-holdings writes."""
+    version, folder = Path(weeks.version), Path(weeks.path("exported"))
+    export_files.make(version, weeks.maker.tables_for_export(), Site("/nonexistent"), None)
+    export_files.WRITERS["kbart"](version, tables_of(version, DAY), Site("/nonexistent"), SiteNames(None), folder)
+    texts = [path.read_text() for path in (version / "export/kbart.txt", folder / "kbart.txt")]
+    expect("both write the same", texts[0], texts[1])
+    return [line.split("\t") for line in texts[0].splitlines()]
+
+
 def test_one_reading():
     """The last date, the days, the report, the index and the exports agree about each cell."""
     rows = [row(number, cell) for number, cell in enumerate(CASES)]
@@ -47,8 +60,9 @@ def test_one_reading():
         served, unused = weeks.rows("x")[1], [cell for cell, it in CASES.items() if cell and it[:5] == OPEN]
         weeks.maker.make_index(True)
         entries = index_entries(weeks.version)
-        exported = [line.split("\t") for line in kbart_file.lines(tables_of(weeks.version), SiteNames(None), DAY)]
-        items = list(scholar.items(kbart_file.rows_of(weeks.read("tables/x.txt"), DAY), "x", DAY))
+        exported = exports_of(weeks)
+        (_, came), = tables_of(Path(weeks.version), DAY)
+        items = list(scholar.items(kbart_file.rows_of(came), "x", DAY))
     expect("what is said", said, [f"x: new, {len(CASES)} rows", f"  embargo_info not an embargo {len(unused)}, first 0 "
                                   '"about P6M": not used'])
     expect("all are served, exported and in the index", (len(served), len(exported), len(items), len(entries)),
@@ -72,9 +86,23 @@ def test_dates_of_providers():
                                  row(9, "P6M", "2020")))
         weeks.make()
         expect("as they are served", [cells[4] for cells in weeks.rows("x")[1]], [*dates, "2020"])
-        place = HEADER.index("date_last_issue_online")
-        found = list(kbart_file.rows_of(weeks.read("tables/x.txt"), DAY))
-    expect("as they are exported", [it[HEADER[place]] for it in found], [*dates, "2020"])
+        header, *rows = exports_of(weeks)
+    place = header.index("date_last_issue_online")
+    expect("as they are exported", [cells[place] for cells in rows], [*dates, "2020"])
 
 
-TESTS = [test_one_reading, test_dates_of_providers]
+def test_dates_on_walls():
+    """A provider's own date that is the wall of the day is exported; the update's is not."""
+    cells = [("P6M", "2026-05"), ("P6M", "2026-05-27"), ("P6M", ""), ("P1Y", "2025-11"), ("P1Y", ""),
+             ("P30D", "2026-10-28"), ("P30D", "")]
+    walls = {"P6M": "2026-05", "P1Y": "2025-11", "P30D": "2026-10-28"}
+    with Weeks() as weeks:
+        weeks.deliver("x", table(*(row(number, *it) for number, it in enumerate(cells))))
+        weeks.make()
+        expect("as they are served", [it[4] for it in weeks.rows("x")[1]], [last or walls[it] for it, last in cells])
+        header, *rows = exports_of(weeks)
+    place = header.index("date_last_issue_online")
+    expect("as they are exported", [it[place] for it in rows], [last for _, last in cells])
+
+
+TESTS = [test_one_reading, test_dates_of_providers, test_dates_on_walls]

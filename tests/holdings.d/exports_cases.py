@@ -4,7 +4,7 @@ import xml.etree.ElementTree as xml
 from counting import expect
 from formats import DOCTYPE, HOLDINGS, KBART, LINKS, MOST_BYTES, faults_of
 from library_index import write_index
-from version import HEADER, SCHOLAR, TARGETS, Version, row, table
+from version import SCHOLAR, TARGETS, Version, row, table
 
 # The day is 15 July 2026. For each row of a journal: what Google Scholar has to get of it, worked out by hand. None is
 # no item; `from` and `to` are year, month, volume and issue.
@@ -16,9 +16,11 @@ CASES = [
     ("a month", row("A", first="2001-11", last="2010-10"), ("2001 11 - -", "2010 10 - -", "")),
     ("no volume", row("A", first="1995", num_first_vol_online="IV"), ("1995 - - -", "", "")),
     ("no date", row("A", first="unknown"), ("", "", "")),
-    ("a wall of a year", row("A", first="1992", last="2025-07", embargo="P1Y"), ("1992 - - -", "", "366")),
-    ("a wall of months", row("A", first="1992", last="2026-01", embargo="P6M"), ("1992 - - -", "", "183")),
-    ("a wall of days", row("A", last="2026-07-08", embargo="P7D"), ("", "", "7")),
+    ("an end that is the wall of today", row("A", first="1992", last="2025-07", embargo="P1Y"),
+     ("1992 - - -", "2025 7 - -", "366")),
+    ("a wall of a year", row("A", first="1992", embargo="P1Y"), ("1992 - - -", "", "366")),
+    ("a wall of months", row("A", first="1992", embargo="P6M"), ("1992 - - -", "", "183")),
+    ("a wall of days", row("A", embargo="P7D"), ("", "", "7")),
     ("an end before the wall", row("A", first="1992", last="2010-12-01", embargo="P1Y"),
      ("1992 - - -", "2010 12 - -", "366")),
     ("a year is no wall", row("A", first="1992", last="2025", embargo="P1Y"), ("1992 - - -", "2025 - - -", "366")),
@@ -27,7 +29,7 @@ CASES = [
     ("five years", row("A", first="1990", num_first_vol_online="1", embargo="R5Y"), ("2021 7 - -", "", "")),
     ("five years of three", row("A", first="2023-02", num_first_vol_online="1", embargo="R5Y"),
      ("2023 2 1 -", "", "")),
-    ("ten years without 30 days", row("A", first="1990", last="2026-06-15", embargo="R10Y;P30D"),
+    ("ten years without 30 days", row("A", first="1990", embargo="R10Y;P30D"),
      ("2016 7 - -", "", "30")),
     ("five years, and it ended before", row("A", first="1990", last="2019", embargo="R5Y"), None),
     ("an embargo in words", row("A", first="1990", embargo="6 months"), ("1990 - - -", "", "")),
@@ -78,12 +80,10 @@ def test_scholar_cases():
 
 
 def sample():
-    """Tables of each kind: two parts of one target, columns of the update, and targets that are not full text."""
-    added = [*HEADER, "coverage_from", "coverage_to"]
+    """Tables of each kind: two parts of one target, and targets that are not full text."""
     return {
-        "tidal": table([[*row("Annals of <i>Tidal</i> Studies", "29010012", "2908-0142", "1995-03-01"), "19950301",
-                         "99999999"]], added, "\r\n"),
-        "tidal.2": table([[*row("Bays \"B\" & < C\x0b", "", "2936-0668", "2001"), "20010101", "99999999"]], added),
+        "tidal": table([row("Annals of <i>Tidal</i> Studies", "29010012", "2908-0142", "1995-03-01")], end="\r\n"),
+        "tidal.2": table([row("Bays \"B\" & < C\x0b", "", "2936-0668", "2001")]),
         "plain": table([row("=cmd|' /C calc'!A0", "2901-0012", "", "1990", coverage_notes="a note"),
                         row("Harbours", "9781234560102", "9781234560874", publication_type="monograph"),
                         row("Without a number"), row("", "2929-0538")]),
@@ -137,7 +137,7 @@ def test_scholar_parts():
         with open(version.path("scholar", "links.xml")) as file:
             names = re.findall(r"/export/scholar/(holdings-\d+\.xml)</url>", file.read())
         expect("links to all parts", names, [os.path.basename(path) for path in paths])
-        with open(os.path.join(version.folder, "tables/tidal.txt"), "wb") as file:
+        with open(os.path.join(version.folder, "received/tidal.txt"), "wb") as file:
             file.write(table(rows[:3]))
         expect("a smaller library", ran(version, "scholar", version.path("scholar"))[0], 0)
         expect("no older part", sorted(os.listdir(version.path("scholar"))), ["holdings-1.xml", "links.xml"])
@@ -153,17 +153,17 @@ def test_kbart():
                                                       "date_last_issue_online")) + (it[-1],) for it in cells[1:]]
     expect("rows with a title", found, [
         ("Annals of <i>Tidal</i> Studies", "2908-0142", "", "", "Tidal Press <1>"),
-        ('Bays "B" & < C\x0b', "2936-0668", "", "", "Tidal Press <1>"),
+        ('Bays "B" & < C', "2936-0668", "", "", "Tidal Press <1>"),
         ("=cmd|' /C calc'!A0", "", "a note", "", "=Plain"), ("Harbours", "9781234560874", "", "", "=Plain"),
-        ("Without a number", "", "", "", "=Plain"), ("Annals of Tidal Studies", "2908-0142", "", "1999", "Shelves"),
+        ("Annals of Tidal Studies", "2908-0142", "", "1999", "Shelves"),
         ("Other", "", "", "", "unnamed")])
     expect("the last line ends", lines[-1], "")
-    walls = [row("A", "2901-0012", last="2025-07", embargo="P1Y"), row("B", "2901-0012", last="2024-07", embargo="P1Y"),
-             row("C", "2901-0012", last="2025-07")]
-    with Version({"tidal": table(walls)}) as version:
+    dates = ("", "2025-07", "2024-07")  # with the wall of the day in place of the first one, as it is served
+    came, served = ([row(f"T{number}", "2901-0012", last=last, embargo="P1Y") for number, last in enumerate(it)]
+                    for it in (dates, ("2025-07", *dates[1:])))
+    with Version({"tidal": table(served)}, received={"tidal": table(came)}) as version:
         cells = [line.split("\t") for line in texts_of(version, "kbart", "kbart.txt")[0].split("\n")[1:-1]]
-    expect("a wall of the update is not a last date", [(it[6], it[12]) for it in cells],
-           [("", "P1Y"), ("2024-07", "P1Y"), ("2025-07", "")])
+    expect("the dates of the provider", [(it[6], it[12]) for it in cells], [(date, "P1Y") for date in dates])
 
 
 def test_titles():
@@ -193,14 +193,14 @@ def test_formulas():
 
 
 def test_parts():
-    """Parts of a target have its label; a name that only looks like a part has its own."""
-    names = ("tidal", "tidal.2", "tidal.10", "tidal.1", "tidal.02", "other.2", "2")
+    """Parts of a target have its label."""
+    names = ("tidal", "tidal.2", "tidal.10", "other")
     rows = {name: table([row(f"T{number}", f"{4000 + number}-0000")]) for number, name in enumerate(names)}
     with Version(rows) as version:
         lines = texts_of(version, "kbart", "kbart.txt")[0].split("\n")[1:-1]
     press = "Tidal Press <1>"
     expect("labels of parts", [line.rpartition("\t")[2] for line in lines],
-           [press, press, press, "tidal.1", "tidal.02", "other.2", "2"])
+           [press, press, press, "other"])
 
 
 def test_command():

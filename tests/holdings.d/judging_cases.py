@@ -209,8 +209,9 @@ def test_again():
         many.put("press", b"%d" % number)
         many.days["press"] = dict(line.split("\t")[1:] for line in many.text(
             ["press"], datetime.date(2026, 1, 1) + datetime.timedelta(number)).splitlines())
-    expect("how many are remembered", sum(many.day_of("press", b"%d" % it) is not None for it in range(40)), 26)
-    expect("the newest", many.day_of("press", b"39"), "2026-02-09")
+    days = [many.put("press", b"%d" % number) or many.day_of("press") for number in range(40)]
+    expect("how many are remembered", sum(day is not None for day in days), 26)
+    expect("the newest", days[39], "2026-02-09")
 
 
 class Writing(Program):

@@ -2,7 +2,8 @@
 come and large when they are read."""
 import base64, gzip, io, os, struct, zipfile, zlib
 from counting import expect
-from openlink_update.tables import archives, headers, preparation, received_text
+from openlink_update.received import archives, headers, texts
+from openlink_update.tables import preparation
 from measured import MOST_MB, prepared
 from openlink_update.outcome import Refused, Unreadable
 
@@ -111,7 +112,7 @@ def test_lines():
         for count, expected in ((LINES, ""), (LINES + 1, says)):
             text = end * count if is_ended else f"{end * (count - 1)}a"
             expect(f"{count} lines with {end!r}, {encoding}, {'' if is_ended else 'not '}ended",
-                   reason(received_text.text_of, text.encode(encoding)), expected)
+                   reason(texts.text_of, text.encode(encoding)), expected)
 
 
 def test_bytes_of_lines():
@@ -123,10 +124,10 @@ def test_bytes_of_lines():
                 for more, expected in (("", ""), ("x", says)):
                     data = f"a{end}{end}{long}{more}{after}".encode()
                     expect(f"a line of {len(long)} times {letter}{more}, {end!r}, {after!r}",
-                           reason(received_text.text_of, data), expected)
+                           reason(texts.text_of, data), expected)
     wide = "a\n\n" + "x" * (LINE_BYTES // 2)
-    expect("a line of UTF-16", reason(received_text.text_of, wide.encode("utf-16")), "")
-    expect("a longer one", reason(received_text.text_of, f"{wide}x".encode("utf-16")),
+    expect("a line of UTF-16", reason(texts.text_of, wide.encode("utf-16")), "")
+    expect("a longer one", reason(texts.text_of, f"{wide}x".encode("utf-16")),
            says.replace("100,001", "100,002"))
 
 

@@ -10,7 +10,7 @@ from openlink_update.outcome import Refused
 with open(sys.argv[1], "rb") as file:
     data = file.read()
 try:
-    said = preparation.prepare([("file", data)]).told
+    said = preparation.prepare([("file", data)]).lines
 except Refused as refusal:
     said = refusal.reasons
 with open("/proc/self/status") as status:  # ru_maxrss begins with the memory of the process that starts this one

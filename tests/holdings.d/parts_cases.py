@@ -1,6 +1,7 @@
 """Tables in parts: all rows once, those that share a number together, and a registry that the program takes."""
 import os
 from openlink_update.tables import parts
+from openlink_update.tables.table import Table
 from counting import expect
 from made_titles import isbn, issn
 from versions import Weeks, table
@@ -10,7 +11,7 @@ SMALL = ("print_identifier", "online_identifier", "title")
 
 def divided(rows, most_bytes=10**9, most_rows=10**9):
     """The titles of the rows of each part."""
-    found = parts.places_of(list(SMALL), [list(row) for row in rows], most_bytes, most_rows)
+    found = parts.places_of(Table(SMALL, [list(row) for row in rows]), most_bytes, most_rows)
     return ["".join(rows[place][2] for place in part) for part in found]
 
 

@@ -3,7 +3,8 @@ for a tab, and a table of two lines has the header COLUMNS."""
 import gzip, io, os, tempfile, zipfile
 from counting import expect
 from openlink_update.input_files import InputFolder
-from openlink_update.tables import file_patterns, preparation
+from openlink_update.received import patterns
+from openlink_update.tables import preparation
 from openlink_update.outcome import Refused
 
 COLUMNS = ("publication_title|print_identifier|online_identifier|date_first_issue_online|date_last_issue_online|"
@@ -182,7 +183,7 @@ def prepare(*files):
     """The table and what is said, or the reasons against it."""
     try:
         prepared = preparation.prepare([(f"file {number}", bytes_of(it)) for number, it in enumerate(files, 1)])
-        return prepared.table.decode(), prepared.told
+        return prepared.table.to_bytes().decode(), prepared.lines
     except Refused as refusal:
         return refusal.reasons
 
@@ -270,7 +271,7 @@ def test_patterns():
                  "*.txt": "a1_2026-03-01.txt", "d*.txt": "d*.txt", "e*": "e*", "a[1]_2026-01-01.txt":
                  "a[1]_2026-01-01.txt", "a?_2026-03-01.txt": "a?_2026-03-01.txt"}
         for pattern, path in cases.items():
-            got = file_patterns.path_of(os.path.join(folder, pattern), InputFolder(folder).matches)
+            got = patterns.path_of(os.path.join(folder, pattern), InputFolder(folder).matches)
             expect(f"the pattern {pattern}", got, os.path.join(folder, path))
 
 
@@ -288,7 +289,7 @@ def test_newest_files():
     }
     for names, newest in cases.items():
         for order in (names, names[::-1]):
-            expect(f"the newest of {order}", file_patterns.newest(list(order)), newest)
+            expect(f"the newest of {order}", patterns.newest(list(order)), newest)
 
 
 TESTS = [test_files, test_sample, test_dates, test_refused_files, test_joined_files, test_dropped_rows,

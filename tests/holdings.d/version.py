@@ -35,19 +35,28 @@ def table(rows, header=HEADER, end="\n"):
 
 
 class Version:
-    """A library of one version, as long as the block lasts. `tables` has the bytes of each name of the registry."""
+    """A library of one version, as long as the block lasts. `tables` has the bytes of each name of the registry. The
+    first one of a target and its parts are the files that the version received, with `received` in their place."""
 
-    def __init__(self, tables, targets=None, tls="#", write_index=None):
+    def __init__(self, tables, targets=None, tls="#", write_index=None, received=None):
         self.room = tempfile.TemporaryDirectory(prefix="holdings.")
         self.library, self.site = os.path.join(self.room.name, "library"), os.path.join(self.room.name, "openlink.conf")
         self.folder = os.path.join(self.library, "versions", STAMP)
-        os.makedirs(os.path.join(self.folder, "tables"))
+        for name in ("tables", "received"):
+            os.makedirs(os.path.join(self.folder, name))
         os.symlink(f"versions/{STAMP}", os.path.join(self.library, "current"))
         with open(os.path.join(self.folder, "registry.tsv"), "w") as registry:
             for name, data in tables.items():
                 registry.write(f"{name}\tcode/{name}.olk\ttables/{name}.txt\n")
                 with open(os.path.join(self.folder, f"tables/{name}.txt"), "wb") as file:
                     file.write(data)
+        for name, data in (tables if received is None else received).items():
+            target, _, number = name.partition(".")
+            with open(os.path.join(self.folder, "received", f"{target}.rules"), "wb"):
+                pass
+            path = os.path.join(self.folder, "received", f"{target}.txt")
+            with open(f"{path}.{number}" if number else path, "wb") as file:
+                file.write(data)
         if write_index:
             write_index(os.path.join(self.folder, "registry.tsv"), self.folder, os.path.join(self.folder, "made"))
             os.rename(os.path.join(self.folder, "made", "index"), os.path.join(self.folder, "index"))

@@ -1,7 +1,8 @@
 """Work that grows with the size of what comes, and not with its square: comparisons and characters are counted for two
 sizes, of which the second is twice the first."""
 from counting import expect
-from openlink_update.tables import archives, headers, preparation
+from openlink_update.received import archives, headers
+from openlink_update.tables import preparation
 
 count = 0
 

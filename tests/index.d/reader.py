@@ -2,6 +2,7 @@
 the code that wrote it."""
 import hashlib, os, re, shutil, struct, tempfile
 from openlink_update.index import title_index
+from openlink_update.tables.table import Table
 
 COLUMNS = ("publication_title", "print_identifier", "online_identifier", "date_first_issue_online",
            "date_last_issue_online", "embargo_info", "publication_type", "title_id", "preceding_publication_title_id")
@@ -22,7 +23,7 @@ class Index:
         self.folder = tempfile.mkdtemp(prefix="index.")
         self.root = os.path.join(self.folder, "index")
         title_index.begin(self.root, has_list)
-        title_index.make(self.root, has_list, iter(tables.items()))
+        title_index.make(self.root, has_list, ((name, Table.parse(data)) for name, data in tables.items()))
 
     def __enter__(self):
         return self

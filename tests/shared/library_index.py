@@ -3,6 +3,7 @@ import os, sys
 
 sys.path.insert(0, os.path.join(os.path.dirname(os.path.abspath(__file__)), "../../update"))
 from openlink_update.index import title_index
+from openlink_update.tables.table import Table
 
 
 def write_index(registry, base, version):
@@ -12,7 +13,7 @@ def write_index(registry, base, version):
         for line in file:
             name, _, table = line.rstrip("\n").split("\t")
             with open(os.path.join(base, table), "rb") as data:
-                tables.append((name, data.read()))
+                tables.append((name, Table.parse(data.read())))
     os.makedirs(version)
     title_index.begin(os.path.join(version, "index"), True)
     title_index.make(os.path.join(version, "index"), True, tables)

@@ -26,7 +26,7 @@ def _lines_in(data: bytes, encoding: str = "utf-8-sig") -> Iterator[Line]:
 
 
 @dataclasses.dataclass(frozen=True)
-class _InputFile:
+class InputFile:
     """The bytes of a file, and what the system said of it before they were read."""
 
     path: Path
@@ -58,9 +58,9 @@ class InputFolder:
         with self.open(name) as file:
             return file.read(most)
 
-    def file(self, name: str) -> _InputFile:
+    def file(self, name: str) -> InputFile:
         with self.open(name) as file:
-            return _InputFile(self.place(name), mark=os.fstat(file.fileno()), data=file.read())
+            return InputFile(self.place(name), mark=os.fstat(file.fileno()), data=file.read())
 
     def lines(self, name: str, encoding: str = "utf-8-sig") -> Iterator[Line]:
         return _lines_in(self.read(name), encoding)

@@ -16,7 +16,8 @@ from openlink_update.site.front_door import FrontDoor, Site
 from openlink_update.site.names_file import NAME, NamesFile
 from openlink_update.site.probing import Difference, Probes, Trial
 from openlink_update.site.processes import Processes
-from openlink_update.tables import archives, coverage
+from openlink_update.received import archives
+from openlink_update.tables import coverage
 from openlink_update.update_options import Options
 from openlink_update.versions import making, same_files, target_list
 from openlink_update.versions.library import Library
@@ -100,7 +101,8 @@ class Run:
         if older and making.is_same(unfinished, older) and self.names_file.is_same(unfinished, older):
             return self._say_end(maker, f"nothing new: {old} stays in use")
         maker.make_index(self._site.has_list)
-        self._export(unfinished)
+        self._export(maker, unfinished)
+        maker.remove_prepared()
         if self.others is not None:
             same_files.link(unfinished, older, self.others)
         with self.front_door(probes) as door:
@@ -130,9 +132,10 @@ class Run:
         if addition.is_older:
             maker.kept.append(NAME)
 
-    def _export(self, version: Path) -> None:
+    def _export(self, maker: Maker, version: Path) -> None:
         """Writes the version's holdings for others."""
-        fault = export_files.make(version, self._site, self.names_file.path_in(version))
+        targets = Path(self.names_file.path_in(version))
+        fault = export_files.make(version, maker.tables_for_export(), self._site, targets)
         if fault:
             report(f"the lists for others name targets without labels: {fault}")
 

@@ -5,22 +5,18 @@ from pathlib import Path
 
 from openlink_update.exports import export_files
 from openlink_update.exports.site_names import SiteNames
-from openlink_update.outcome import ALL_NEW, DEVICE
+from openlink_update.outcome import ALL_NEW, DEVICE, Failure
 from openlink_update.report import report
 from openlink_update.site.front_door import Site
 from openlink_update.update_options import LIBRARY, SITE
+from openlink_update.versions.tables_again import tables_of
 
 _NO_VERSION = 3
-_WRITERS = {
-    "scholar": export_files.write_scholar,
-    "kbart": export_files.write_kbart,
-    "titles": export_files.write_titles,
-}
 
 
 def main(words: list[str] | None = None) -> int:
     parser = argparse.ArgumentParser(prog="openlink-holdings", description="writes the holdings in use for others")
-    parser.add_argument("format", choices=export_files.FORMATS)
+    parser.add_argument("format", choices=tuple(export_files.WRITERS))
     parser.add_argument("folder", metavar="FOLDER")
     parser.add_argument(
         "--library", type=Path, default=LIBRARY, metavar="FOLDER", help=f"the folder of the versions ({LIBRARY})"
@@ -35,6 +31,9 @@ def main(words: list[str] | None = None) -> int:
     options = parser.parse_args(words)
     try:
         return _write(options.format, options.folder, options.library / "current", Site(options.site))
+    except Failure as failure:
+        report(f"openlink-holdings: {failure}", "stderr")
+        return failure.status
     except OSError as fault:
         report(f"openlink-holdings: {fault.filename}: {fault.strerror}", "stderr")
         return DEVICE
@@ -48,5 +47,6 @@ def _write(kind: str, folder: str, version: Path, site: Site) -> int:
     if names.fault:
         report(f"openlink-holdings: {names.fault}", "stderr")
         return DEVICE
-    _WRITERS[kind](version, site, names, folder)
+    tables = tables_of(version, export_files.day_of(version))
+    export_files.WRITERS[kind](version, tables, site, names, Path(folder))
     return ALL_NEW

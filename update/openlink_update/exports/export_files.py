@@ -3,67 +3,103 @@
     scholar/holdings-N.xml  for Google Scholar, in parts, and scholar/links.xml, which names them
     kbart.txt               one KBART file of all targets
     titles.tsv              all titles, for a spreadsheet
-"""
-import datetime, os, re
+
+They are made of the tables as they are prepared, without walls: pairs of a target and its table, or a part of it."""
+import contextlib
+import datetime
+import os
+import re
+from collections.abc import Callable, Iterable, Iterator
+from pathlib import Path
+from typing import TextIO
+
 from openlink_update.exports import kbart_file, scholar, title_sheet
-from openlink_update.exports.registry import lines_of, tables_of
 from openlink_update.exports.site_names import SiteNames
+from openlink_update.site.front_door import Site
+from openlink_update.tables.table import Table
 
-STAMP = re.compile(r"(\d{4})(\d\d)(\d\d)T\d{6}Z")
-PART = re.compile(r"holdings-\d+\.xml")
-FORMATS = ("scholar", "kbart", "titles")
+Tables = Iterable[tuple[str, Table]]
+_STAMP = re.compile(r"(\d{4})(\d\d)(\d\d)T\d{6}Z")
+_PART = re.compile(r"holdings-\d+\.xml")
 
 
-def day_of(version):
+def day_of(version: Path) -> datetime.date:
     """The day on which a version was made."""
-    found = STAMP.match(os.path.basename(os.path.realpath(version)))
-    return datetime.date(*map(int, found.groups())) if found else datetime.date.today()
+    match = _STAMP.match(version.resolve().name)
+    return datetime.date(int(match[1]), int(match[2]), int(match[3])) if match else datetime.date.today()
 
 
-def write(folder, name, texts):
-    """Replaces a file by these texts, so that a reader has the old one or the new one."""
-    os.makedirs(folder, exist_ok=True)
-    path = os.path.join(folder, name)
+@contextlib.contextmanager
+def _replacing(folder: Path, name: str) -> Iterator[TextIO]:
+    """A file to write to, which replaces another when it is done, so that a reader has the old one or the new one."""
+    folder.mkdir(parents=True, exist_ok=True)
+    path = folder / name
     with open(f"{path}.new", "w", encoding="utf-8", newline="") as file:
-        file.writelines(texts)
+        yield file
     os.replace(f"{path}.new", path)
 
 
-def ended(lines):
+def _write(folder: Path, name: str, texts: Iterable[str]) -> None:
+    with _replacing(folder, name) as file:
+        file.writelines(texts)
+
+
+def _ended(lines: Iterable[str]) -> Iterator[str]:
     return (f"{line}\n" for line in lines)
 
 
-def write_scholar(version, site, names, folder):
-    day = day_of(version)
-    found = (item for target, table in tables_of(version) if names.is_full_text(target)
-             for item in scholar.items(kbart_file.rows_of(table, day), names.label(target), day))
-    made = []
-    for number, text in enumerate(scholar.holdings(found), 1):
-        made.append(f"holdings-{number}.xml")
-        write(folder, made[-1], [text])
+def _items(target: str, table: Table, names: SiteNames, day: datetime.date) -> Iterator[str]:
+    if names.is_full_text(target):
+        yield from scholar.items(kbart_file.rows_of(table), names.label(target), day)
+
+
+def _write_items(items: Iterable[str], site: Site, names: SiteNames, folder: Path) -> None:
+    files = []
+    for number, text in enumerate(scholar.holdings(items), 1):
+        files.append(f"holdings-{number}.xml")
+        _write(folder, files[-1], [text])
     for name in os.listdir(folder):
-        if PART.fullmatch(name) and name not in made:
-            os.unlink(os.path.join(folder, name))
+        if _PART.fullmatch(name) and name not in files:
+            (folder / name).unlink()
     base = names.scholar("base").rstrip("/") or site.base
-    text = scholar.links(names, base, [f"{base}/export/scholar/{name}" for name in made])
+    text = scholar.links(names, base, [f"{base}/export/scholar/{name}" for name in files])
     if text:
-        write(folder, "links.xml", [text])
+        _write(folder, "links.xml", [text])
 
 
-def write_kbart(version, _, names, folder):
-    write(folder, "kbart.txt", ended(kbart_file.lines(tables_of(version), names, day_of(version))))
+def _write_scholar(version: Path, tables: Tables, site: Site, names: SiteNames, folder: Path) -> None:
+    day = day_of(version)
+    _write_items((item for target, table in tables for item in _items(target, table, names, day)), site, names, folder)
 
 
-def write_titles(version, _, names, folder):
-    targets = {name for name, _, _ in lines_of(version)}
-    write(folder, "titles.tsv", ended(title_sheet.lines(title_sheet.titles_of(version), names, targets)))
+def _write_kbart(version: Path, tables: Tables, site: Site, names: SiteNames, folder: Path) -> None:
+    _write(folder, "kbart.txt", _ended(kbart_file.lines(tables, names)))
 
 
-def make(version, site, targets):
+def _write_titles(version: Path, tables: Tables, site: Site, names: SiteNames, folder: Path) -> None:
+    _write(folder, "titles.tsv", _ended(title_sheet.lines(title_sheet.titles_of(version), names)))
+
+
+WRITERS: dict[str, Callable[[Path, Tables, Site, SiteNames, Path], None]] = {
+    "scholar": _write_scholar,
+    "kbart": _write_kbart,
+    "titles": _write_titles,
+}
+
+
+def make(version: Path, tables: Tables, site: Site, targets: Path | None) -> str:
     """Writes all of them into the version, with the labels of a targets.json. Returns what is wrong with it, if
-    something is."""
-    names, folder = SiteNames(targets), os.path.join(version, "export")
-    write_scholar(version, site, names, os.path.join(folder, "scholar"))
-    write_kbart(version, site, names, folder)
-    write_titles(version, site, names, folder)
+    something is. Each table is written to the KBART file when its items for Google Scholar are made, so that only one
+    is in memory."""
+    names, folder, day = SiteNames(targets), version / "export", day_of(version)
+    with _replacing(folder, "kbart.txt") as file:
+        file.write(f"{kbart_file.heading()}\n")
+
+        def items() -> Iterator[str]:
+            for target, table in tables:
+                file.writelines(_ended(kbart_file.lines_of(target, table, names)))
+                yield from _items(target, table, names, day)
+
+        _write_items(items(), site, names, folder / "scholar")
+    _write_titles(version, tables, site, names, folder)
     return names.fault

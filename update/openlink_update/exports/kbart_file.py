@@ -1,29 +1,37 @@
-"""One KBART file of all targets, with the columns of NISO RP-9-2014 and a last one that names the provider."""
-from openlink_update.tables.embargoes import parts_of, repeats_wall
-from openlink_update.tables.headers import COLUMNS
-from openlink_update.tables.title_rows import lines_of
+"""One KBART file of all targets, with the columns of NISO RP-9-2014 and a last one that names the provider. The dates
+are the provider's, since the tables have no walls."""
+from collections.abc import Iterable, Iterator
 
-OLDER = {"coverage_notes": "notes"}  # the name of a column in the first edition
-PROVIDER = "provider"
+from openlink_update.exports.site_names import SiteNames
+from openlink_update.received.headers import COLUMNS
+from openlink_update.tables.table import Table
 
-
-def rows_of(table, day):
-    """Yields the rows of a table that have a title, as cells by column, without the update's moving walls."""
-    lines = lines_of(table)
-    header = [OLDER.get(name, name) for name in lines[0].split("\t")] if lines else []
-    for line in lines[1:]:
-        row = dict(zip(header, line.split("\t")))
-        if not row.get("publication_title", "").strip():
-            continue
-        if repeats_wall(row.get("date_last_issue_online", ""), parts_of(row.get("embargo_info", "")), day):
-            row["date_last_issue_online"] = ""
-        yield row
+_OLDER = {"coverage_notes": "notes"}  # the name of a column in the first edition
+_PROVIDER = "provider"
 
 
-def lines(tables, names, day):
+def rows_of(table: Table) -> Iterator[dict[str, str]]:
+    """Yields the rows of a table that have a title, as cells by column."""
+    columns = [_OLDER.get(name, name) for name in table.columns]
+    for cells in table.rows:
+        row = dict(zip(columns, cells))
+        if row.get("publication_title", "").strip():
+            yield row
+
+
+def heading() -> str:
+    return "\t".join((*COLUMNS, _PROVIDER))
+
+
+def lines_of(target: str, table: Table, names: SiteNames) -> Iterator[str]:
+    """Yields the lines of a target, or of a part of it."""
+    provider = " ".join(names.label(target).split())
+    for row in rows_of(table):
+        yield "\t".join((*(row.get(name, "") for name in COLUMNS), provider))
+
+
+def lines(tables: Iterable[tuple[str, Table]], names: SiteNames) -> Iterator[str]:
     """Yields the lines of the file."""
-    yield "\t".join((*COLUMNS, PROVIDER))
+    yield heading()
     for target, table in tables:
-        provider = " ".join(names.label(target).split())
-        for row in rows_of(table, day):
-            yield "\t".join((*(row.get(name, "") for name in COLUMNS), provider))
+        yield from lines_of(target, table, names)

@@ -74,7 +74,7 @@ def fetch(
 
 def _rows_in(text: str) -> int:
     """The number of lines after the header, or after the first line if there is no header of the standard."""
-    from openlink_update.tables import headers
+    from openlink_update.received import headers
 
     lines = text.split("\n")
     return max(sum(bool(line.strip()) for line in lines[headers.find(lines)[0] or 0 :]) - 1, 0)
@@ -83,13 +83,13 @@ def _rows_in(text: str) -> int:
 def table_in(data: bytes, source: Source) -> bytes:
     """What a reply brings to the file of a source: its bytes, or those of a member. Unreadable if it is no table."""
     # Loaded here, since a run that gets no file needs no reader of tables.
-    from openlink_update.tables import archives, received_text
+    from openlink_update.received import archives, texts
 
-    inner: bytes = archives.unpacked(data, source.member or "*")
-    text = received_text.text_of(inner)[0]
+    inner = archives.unpacked(data, source.member or "*")
+    text = texts.text_of(inner)[0]
     if not text.strip():
         raise Unreadable("empty")
-    if received_text.is_web_page(text):
+    if texts.is_web_page(text):
         raise Unreadable("a web page, not a table: the address may want a login")
     rows = _rows_in(text)
     if rows < source.least:

@@ -12,7 +12,7 @@ def digest(text):
 def text_of(lines):
     """Lines, in bytes, as the text of a file."""
     text = b"".join(line + b"\n" for line in lines)
-    return text if len(text) <= MOST_BYTES else text[:text.rindex(b"\n", 0, MOST_BYTES) + 1]
+    return text if len(text) <= MOST_BYTES else text[: text.rindex(b"\n", 0, MOST_BYTES) + 1]
 
 
 def write(folder, name, data):

@@ -2,7 +2,8 @@
 import collections, functools
 from openlink_update.tables.identifiers import standard
 from openlink_update.tables.parts import base_of
-from openlink_update.tables.title_rows import ONLINE, PRINT, rows_of
+from openlink_update.index.title_rows import ONLINE, PRINT, rows_of
+from openlink_update.tables.table import Table
 from openlink_update.index.titles import article_and_key
 
 MOST_NUMBERS = 40
@@ -13,6 +14,7 @@ parts_of = functools.lru_cache(maxsize=1024)(article_and_key)  # the next row of
 
 class Title:
     """Its forms of numbers and its coverage are texts, since lists of a quarter of a million titles are large."""
+
     __slots__ = ("name", "article", "key", "is_journal", "columns", "forms", "coverage", "left_out", "into")
 
     def __init__(self, name):
@@ -20,7 +22,7 @@ class Title:
         self.article, self.key = parts_of(name)
         self.is_journal, self.columns, self.forms, self.coverage = False, 0, "", ""
         self.left_out = frozenset()  # targets with too many rows
-        self.into = None             # the title that this one was joined to
+        self.into = None  # the title that this one was joined to
 
     def numbers(self):
         """Its numbers in their standard form."""
@@ -68,14 +70,14 @@ def root(title):
 
 class Titles:
     def __init__(self):
-        self.alone = {}    # by key: the title, if no other has this key
+        self.alone = {}  # by key: the title, if no other has this key
         self.several = {}  # by key: titles by number
         self.followed = []  # pairs of an earlier and a later title
         # Of the target whose table, or a part of it, was added last: titles by the provider's identifiers, and pairs of
         # the identifier of an earlier title and the later one.
         self.target, self.ids, self.later = "", {}, []
 
-    def add_table(self, target, table):
+    def add_table(self, target: str, table: Table) -> None:
         """Adds the table of a target, or the next part of it."""
         if base_of(target) != self.target:
             self.follow(base_of(target))

@@ -11,11 +11,17 @@ subtitle, and of this with its umlauts as two letters. Then the MD5 sum is that 
 digits name the file, and KEY is the sign and the next thirteen. RELATED is `<` or `>`, a number, a space and a title:
 an earlier (`<`) or later title by preceding_publication_title_id, at most five of each. A key has at most MOST_LINES.
 """
-import collections, os, sys
+import collections
+import os
+import sys
+from pathlib import Path
+
 from openlink_update.index import title_list, word_sets
 from openlink_update.index.index_files import digest, write, write_lines
 from openlink_update.index.title_groups import Titles
 from openlink_update.index.titles import short_key, written_key, written_out
+from openlink_update.tables.registry import entries_of
+from openlink_update.tables.table import Table
 
 FORMAT = 3  # another number makes a new version, although its tables are the same
 DIGITS, KEY_DIGITS = 3, 16  # of an MD5 sum: in the names of keys/, and before the end of the key of a title
@@ -29,7 +35,7 @@ def begin(folder, has_list):
 
 
 def make(folder, has_list, tables):
-    """Makes the index of tables, pairs of a target's name and its table as it came, in its folder."""
+    """Makes the index of tables, pairs of a target's name and its table without walls, in its folder."""
     titles = Titles()
     for target, table in tables:
         titles.add_table(target, table)
@@ -79,15 +85,18 @@ def similar_keys(title):
 
 
 def related_text(earlier, later):
-    return "".join(f"\t{sign}{title.numbers()[0]} {title.name}"
-                   for sign, titles in (("<", earlier), (">", later)) for title in titles)
+    return "".join(
+        f"\t{sign}{title.numbers()[0]} {title.name}"
+        for sign, titles in (("<", earlier), (">", later))
+        for title in titles
+    )
 
 
 def few_of_each_key(lines):
     """At most MOST_LINES of each key, of sorted lines."""
     last, count = b"", 0
     for line in lines:
-        key = line[:line.index(b"\t")]
+        key = line[: line.index(b"\t")]
         last, count = (key, count + 1) if key == last else (key, 1)
         if count <= MOST_LINES:
             yield line
@@ -95,11 +104,8 @@ def few_of_each_key(lines):
 
 def tables_of(registry):
     """Yields the name and the table of each target of a registry, whose paths are relative to the present folder."""
-    with open(registry, encoding="utf-8") as lines:
-        cells = [line.rstrip("\r\n").split("\t") for line in lines if line.strip()]
-    for name, _, path in cells:
-        with open(path, "rb") as table:
-            yield name, table.read()
+    for entry in entries_of(Path(registry)):
+        yield entry.name, Table.parse(Path(entry.table).read_bytes())
 
 
 if __name__ == "__main__":

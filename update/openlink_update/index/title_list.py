@@ -56,8 +56,10 @@ def write_pages(folder, pages, count, digits):
     for number, (letter, titles) in enumerate(pages):
         write_lines(folder, str(number), [line_of(title).encode() for title in titles])
         letters.setdefault(letter, []).append((number, titles))
-    lines = [f"{letter}\t{its[0][0]}\t{len(its)}\t{sum(len(titles) for _, titles in its)}\t{starts_of(its)}"
-             for letter, its in letters.items()]
+    lines = [
+        f"{letter}\t{its[0][0]}\t{len(its)}\t{sum(len(titles) for _, titles in its)}\t{starts_of(its)}"
+        for letter, its in letters.items()
+    ]
     write_lines(folder, "letters", [line.encode() for line in (f"{count}\t{digits}", *lines)])
 
 
@@ -67,8 +69,8 @@ def starts_of(pages):
     for _, titles in pages:
         key = titles[0].key
         length = max(2, len(os.path.commonprefix([before, key])) + 1)
-        length += key[length - 1:length] == " "
-        starts.append(key[:min(length, MOST_START)].rstrip())
+        length += key[length - 1 : length] == " "
+        starts.append(key[: min(length, MOST_START)].rstrip())
         before = titles[-1].key
     return ";".join(starts)
 

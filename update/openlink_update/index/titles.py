@@ -20,28 +20,57 @@ APOSTROPHES = "'`\xb4\u02b9-\u02bd\u2018\u2019\u201b\u2032\uff07"
 # What is removed within a word: marks, soft hyphens, characters without a width, and apostrophes.
 REMOVED = re.compile(f"[{APOSTROPHES}\xad\u0300-\u036f\u200b-\u200f\u202a-\u202e\u2060-\u2064\ufeff]+")
 # ASCII and Latin-1, then the blocks of punctuation and symbols.
-SEPARATORS = re.compile("[\x00-/:-@\\[-`{-\xbf\xd7\xf7\u02c2-\u02df\u2000-\u206f\u207a-\u207e\u208a-\u208e"
-                        "\u20a0-\u20cf\u2100-\u214f\u2190-\u2bff\u2e00-\u2e7f\u3000-\u3004\u3008-\u303f\u30fb"
-                        "\uff00-\uff0f\uff1a-\uff20\uff3b-\uff40\uff5b-\uff65\ufffd]+")
+SEPARATORS = re.compile(
+    "[\x00-/:-@\\[-`{-\xbf\xd7\xf7\u02c2-\u02df\u2000-\u206f\u207a-\u207e\u208a-\u208e"
+    "\u20a0-\u20cf\u2100-\u214f\u2190-\u2bff\u2e00-\u2e7f\u3000-\u3004\u3008-\u303f\u30fb"
+    "\uff00-\uff0f\uff1a-\uff20\uff3b-\uff40\uff5b-\uff65\ufffd]+"
+)
 LEADING = re.compile(f"^{SEPARATORS.pattern[:-2]}{APOSTROPHES}]+")
 ELIDED = re.compile(f"(gl|un|l)[{APOSTROPHES}] *(?=[aeiouhy])")
-ARTICLES = frozenset("the a an der die das den dem des ein eine einen einem einer eines le la les un une el lo los las "
-                     "una unos unas il i gli uno".split())
+ARTICLES = frozenset(
+    "the a an der die das den dem des ein eine einen einem einer eines le la les un une el lo los las "
+    "una unos unas il i gli uno".split()
+)
 # Those that a catalogue may put behind a title, after a comma.
 LAST_ARTICLES = frozenset("the der die das le la les el los las il gli".split())
 # Where a title ends without its subtitle, its authors or the brackets at its end.
 END = re.compile(" *(?:[:=].*| [-/\u2013\u2014] .*|[(\\[][^()\\[\\]]*[)\\]] *)$")
 MAY_END = re.compile("[-/:=)\\]\u2013\u2014]")  # what END needs, found in a tenth of its time
 # Umlauts, whole and of two characters, as two letters.
-UMLAUTS = {f"{letter}{mark}": f"{plain}e" for letters, mark in (("äöü", ""), ("aou", "\u0308"))
-           for letter, plain in zip(letters, "aou")}
+UMLAUTS = {
+    f"{letter}{mark}": f"{plain}e"
+    for letters, mark in (("äöü", ""), ("aou", "\u0308"))
+    for letter, plain in zip(letters, "aou")
+}
 
 # Small letters that Unicode does not decompose, and the form of sigma that only ends a word.
-LETTERS = {"ß": "ss", "æ": "ae", "ø": "o", "œ": "oe", "ł": "l", "đ": "d", "þ": "th", "ð": "d", "ı": "i", "ħ": "h",
-           "ŉ": "n", "ŋ": "n", "ŧ": "t", "ς": "σ"}
+LETTERS = {
+    "ß": "ss",
+    "æ": "ae",
+    "ø": "o",
+    "œ": "oe",
+    "ł": "l",
+    "đ": "d",
+    "þ": "th",
+    "ð": "d",
+    "ı": "i",
+    "ħ": "h",
+    "ŉ": "n",
+    "ŋ": "n",
+    "ŧ": "t",
+    "ς": "σ",
+}
 # Latin-1, Latin, Greek and Cyrillic letters, superscripts, Roman numerals, ligatures, and wide letters and digits.
-RANGES = ((0xaa, 0xba), (0xdf, 0x24f), (0x386, 0x52f), (0x1e00, 0x1fff), (0x2070, 0x209c), (0x2170, 0x217f),
-          (0xfb00, 0xfb06), (0xff10, 0xff5a))
+RANGES = (
+    (0xAA, 0xBA),
+    (0xDF, 0x24F),
+    (0x386, 0x52F),
+    (0x1E00, 0x1FFF),
+    (0x2070, 0x209C),
+    (0x2170, 0x217F),
+    (0xFB00, 0xFB06),
+    (0xFF10, 0xFF5A),
+)
 
 
 def letters():
@@ -71,7 +100,7 @@ def character(found):
     if name:
         return ENTITIES.get(name) or ENTITIES.get(name.lower()) or found[0]
     code = int(decimal) if decimal else int(hexadecimal, 16)
-    return chr(code) if 0 < code < 0xd800 or 0xdfff < code < 0x110000 else found[0]
+    return chr(code) if 0 < code < 0xD800 or 0xDFFF < code < 0x110000 else found[0]
 
 
 def plain(title):
@@ -95,7 +124,7 @@ def article_and_key(title):
         text = LEADING.sub("", text)
     elided = ELIDED.match(text)
     if elided:
-        return elided[1], " ".join(words_of(text[elided.end():]))
+        return elided[1], " ".join(words_of(text[elided.end() :]))
     words = words_of(text)
     has_article = len(words) > 1 and words[0] in ARTICLES
     return (words[0], " ".join(words[1:])) if has_article else (last, " ".join(words))

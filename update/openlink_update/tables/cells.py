@@ -1,29 +1,33 @@
-"""Cells of a table in the form that the program reads. Each function is a step: it takes the header and the rows, and
-returns both with lines that say what it did, and to how many cells or rows."""
+"""Cells of a table in the form that the program reads. Each function is a step: it takes the header and the rows, whose
+cells it may change, and returns the rows that are left with lines that say what it did, and to how many cells or
+rows."""
 import re
+from collections.abc import Callable
+
+from openlink_update.received.headers import lines_of_counts
 from openlink_update.tables.cell_dates import standard as standard_date
-from openlink_update.tables.headers import told
-from openlink_update.tables.identifiers import form_of, standard as standard_number
+from openlink_update.tables.identifiers import form_of
+from openlink_update.tables.identifiers import standard as standard_number
+
+_Rows = list[list[str]]
+_Step = Callable[[list[str], _Rows], tuple[_Rows, list[str]]]
 
 IDENTIFIERS = ("print_identifier", "online_identifier")
-FIRST, LAST = "date_first_issue_online", "date_last_issue_online"
-DATES = (FIRST, LAST, "date_monograph_published_print", "date_monograph_published_online")
-QUOTED = re.compile(r'=?"((?:[^"]|"")*)"')
-DASHES = re.compile("[\xad\u2010-\u2015\u2043\u2212\ufe58\ufe63\uff0d]")
-NUMBER_AND_WORDS = re.compile(r"([0-9][0-9Xx -]{6,16}?)(?:\s*[(\[][^()\[\]]*[)\]]|\s+[A-Za-z]+\.?)", re.A)
-OPEN_END = re.compile(r"present|current|9999(?:-\d\d(?:-\d\d)?)?", re.A | re.I)
+_LAST = "date_last_issue_online"
+_DATES = ("date_first_issue_online", _LAST, "date_monograph_published_print", "date_monograph_published_online")
+_QUOTED = re.compile(r'=?"((?:[^"]|"")*)"')
+_DASHES = re.compile("[\xad\u2010-\u2015\u2043\u2212\ufe58\ufe63\uff0d]")
+_NUMBER_AND_WORDS = re.compile(r"([0-9][0-9Xx -]{6,16}?)(?:\s*[(\[][^()\[\]]*[)\]]|\s+[A-Za-z]+\.?)", re.A)
+_OPEN_END = re.compile(r"present|current|9999(?:-\d\d(?:-\d\d)?)?", re.A | re.I)
+_LEAST = 10  # characters of an identifier with words, or of an ISBN
 ANY = "ANY"  # the identifier of a target that answers every request
 
 
-def places_of(header, names):
-    """The places of the columns with these names; of two with one name the first counts."""
-    return [header.index(name) for name in names if name in header]
-
-
-def change_cells(header, rows, names, change):
-    """Changes the filled cells of some columns, and returns how many have changed."""
+def _change_cells(header: list[str], rows: _Rows, names: tuple[str, ...], change: Callable[[str], str]) -> int:
+    """Changes the filled cells of some columns, and returns how many have changed; of two columns with one name the
+    first counts."""
     count = 0
-    for place in places_of(header, names):
+    for place in [header.index(name) for name in names if name in header]:
         for row in rows:
             if len(row) > place and row[place]:
                 new = change(row[place])
@@ -33,88 +37,106 @@ def change_cells(header, rows, names, change):
     return count
 
 
-def without_quotes(header, rows):
+def _without_quotes(header: list[str], rows: _Rows) -> tuple[_Rows, list[str]]:
     """Without the quotes that a spreadsheet puts around a whole cell."""
     count = 0
     for row in rows:
+        if '"' not in "".join(row):
+            continue
         for place, cell in enumerate(row):
-            if '"' in cell:
-                found = QUOTED.fullmatch(cell.strip())
-                if found:
-                    row[place] = found[1].replace('""', '"')
-                    count += 1
-    return header, rows, told(("quotes around a cell removed", count, "cell"))
+            match = _QUOTED.fullmatch(cell.strip()) if '"' in cell else None
+            if match:
+                row[place] = match[1].replace('""', '"')
+                count += 1
+    return rows, lines_of_counts(("quotes around a cell removed", count, "cell"))
 
 
-def without_spaces(header, rows):
+def _without_spaces(header: list[str], rows: _Rows) -> tuple[_Rows, list[str]]:
     """Without spaces at both ends of a cell, and without rows that have no text."""
-    count, kept = 0, []
+    count, left = 0, []
     for row in rows:
-        cells = [cell.strip() for cell in row]
+        cells = list(map(str.strip, row))
         if cells != row:
             count += sum(cell != old for cell, old in zip(cells, row))
-        if any(cells):
-            kept.append(cells)
-    return header, kept, told(("spaces at the ends removed", count, "cell"),
-                              ("empty, left out", len(rows) - len(kept), "row"))
+            row[:] = cells
+        if any(row):
+            left.append(row)
+    return left, lines_of_counts(
+        ("spaces at the ends removed", count, "cell"), ("empty, left out", len(rows) - len(left), "row")
+    )
 
 
-def with_hyphens(header, rows):
-    """With hyphens in place of other dashes in identifiers."""
-    count = change_cells(header, rows, IDENTIFIERS, lambda cell: cell if cell.isascii() else DASHES.sub("-", cell))
-    return header, rows, told(("dashes in identifiers replaced by hyphens", count, "cell"))
+def _with_identifiers(header: list[str], rows: _Rows) -> tuple[_Rows, list[str]]:
+    """With identifiers as the standard has them: hyphens in place of other dashes, no words after a number, such as
+    (online), and ISBNs of thirteen digits in place of ten."""
+    dashes = words = isbns = 0
+
+    def identifier(cell: str) -> str:
+        nonlocal dashes, words, isbns
+        if not cell.isascii():
+            old, cell = cell, _DASHES.sub("-", cell)
+            dashes += cell != old
+        if len(cell) >= _LEAST:
+            old, cell = cell, _number_alone(cell)
+            words += cell != old
+            old, cell = cell, _long_isbn(cell)
+            isbns += cell != old
+        return cell
+
+    _change_cells(header, rows, IDENTIFIERS, identifier)
+    return rows, lines_of_counts(
+        ("dashes in identifiers replaced by hyphens", dashes, "cell"),
+        ("words after an identifier removed", words, "cell"),
+        ("ISBNs of ten digits written with thirteen", isbns, "cell"),
+    )
 
 
-def number_alone(cell):
-    found = NUMBER_AND_WORDS.fullmatch(cell)
-    return found[1] if found and form_of(found[1]) else cell
+def _number_alone(cell: str) -> str:
+    match = None if cell[-1].isdigit() else _NUMBER_AND_WORDS.fullmatch(cell)
+    return match[1] if match and form_of(match[1]) else cell
 
 
-def without_words(header, rows):
-    """Without words after a number, such as (online)."""
-    count = change_cells(header, rows, IDENTIFIERS, number_alone)
-    return header, rows, told(("words after an identifier removed", count, "cell"))
-
-
-def long_isbn(cell):
+def _long_isbn(cell: str) -> str:
     form = form_of(cell)
     return standard_number(form) if len(form) == 10 else cell
 
 
-def with_long_isbns(header, rows):
-    """With ISBNs of thirteen digits in place of ten."""
-    count = change_cells(header, rows, IDENTIFIERS, long_isbn)
-    return header, rows, told(("ISBNs of ten digits written with thirteen", count, "cell"))
-
-
-def with_dates(header, rows):
+def _with_dates(header: list[str], rows: _Rows) -> tuple[_Rows, list[str]]:
     """With dates in the standard's form, and no last date where it means today."""
-    known, is_year = {}, 0
+    known: dict[str, str] = {}
+    are_years = 0
 
-    def date(cell):
-        nonlocal is_year
-        if cell not in known:
-            known[cell] = standard_date(cell)
-        is_year += len(known[cell]) == 4 and known[cell] != cell
-        return known[cell]
+    def date(cell: str) -> str:
+        nonlocal are_years
+        new = known.get(cell)
+        if new is None:
+            new = known[cell] = standard_date(cell)
+        if new != cell:
+            are_years += len(new) == 4
+        return new
 
-    changed = change_cells(header, rows, DATES, date)
-    opened = change_cells(header, rows, (LAST,), lambda cell: "" if OPEN_END.fullmatch(cell) else cell)
-    return header, rows, told(("dates in the standard's form", changed - is_year, "cell"),
-                              ("dates cut to their year", is_year, "cell"),
-                              ("last dates that mean today removed", opened, "cell"))
+    changed = _change_cells(header, rows, _DATES, date)
+    opened = _change_cells(header, rows, (_LAST,), lambda cell: "" if _OPEN_END.fullmatch(cell) else cell)
+    return rows, lines_of_counts(
+        ("dates in the standard's form", changed - are_years, "cell"),
+        ("dates cut to their year", are_years, "cell"),
+        ("last dates that mean today removed", opened, "cell"),
+    )
 
 
-def without_repetitions(header, rows):
+def _without_repetitions(header: list[str], rows: _Rows) -> tuple[_Rows, list[str]]:
     """Without rows of which an earlier one has the same cells."""
-    seen, kept = set(), []
+    first: dict[int, list[str]] = {}  # rows by the hash of their cells, which take less memory than the cells
+    others: set[tuple[str, ...]] = set()  # rows with the hash of another one
+    left = []
     for row in rows:
-        key = tuple(row)
-        if key not in seen:
-            seen.add(key)
-            kept.append(row)
-    return header, kept, told(("the same as an earlier row, left out", len(rows) - len(kept), "row"))
+        same = first.setdefault(hash("\t".join(row)), row)
+        if same is row:
+            left.append(row)
+        elif same != row and tuple(row) not in others:
+            others.add(tuple(row))
+            left.append(row)
+    return left, lines_of_counts(("the same as an earlier row, left out", len(rows) - len(left), "row"))
 
 
-STEPS = (without_quotes, without_spaces, with_hyphens, without_words, with_long_isbns, with_dates,
-         without_repetitions)
+STEPS: tuple[_Step, ...] = (_without_quotes, _without_spaces, _with_identifiers, _with_dates, _without_repetitions)

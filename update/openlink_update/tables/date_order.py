@@ -1,41 +1,46 @@
 """Rows whose first date is after their last one, so that no day is open. A few are in many tables; more of them mean
 that columns, or the parts of dates, were exchanged."""
 import re
+from collections.abc import Collection
+
 from openlink_update.tables.coverage import day_in
-from openlink_update.tables.headers import number
-from openlink_update.tables.table_cells import cell, columns_of
+from openlink_update.received.headers import number
+from openlink_update.tables.table import Table, cell
 
-COLUMNS = ("date_first_issue_online", "date_last_issue_online")
-WORDS = "first dates after the last ones"
-PER_HUNDRED = 2  # rows that may be so, unless the list of targets says how many
-LIMIT = re.compile(rf"{WORDS} up to (\d{{1,9}})", re.A)
+_COLUMNS = ("date_first_issue_online", "date_last_issue_online")
+_WORDS = "first dates after the last ones"
+_PER_HUNDRED = 2  # rows that may be so, unless the list of targets says how many
+_LIMIT = re.compile(rf"{_WORDS} up to (\d{{1,9}})", re.A)
 
 
-def is_reversed(first, last):
+def _is_reversed(first: str, last: str) -> bool:
     start, end = day_in(first, False), day_in(last, True)
     return start is not None and end is not None and start > end
 
 
-def found_in(header, rows):
+def reversed_in(table: Table) -> list[tuple[str, str]]:
     """These rows, as their two dates."""
-    places = columns_of(header, COLUMNS)
-    dates = ([cell(row, place) for place in places] for row in rows)
-    return [pair for pair in dates if is_reversed(*pair)]
+    first, last = table.places(_COLUMNS)
+    pairs = ((cell(row, first), cell(row, last)) for row in table.rows)
+    return [pair for pair in pairs if pair[0] and pair[1] and _is_reversed(*pair)]
 
 
-def told(found):
-    return [f"{WORDS}: {number(len(found), 'row')}, {shown(found)}"] if found else []
+def lines(pairs: list[tuple[str, str]]) -> list[str]:
+    """What the mail says of them."""
+    return [f"{_WORDS}: {number(len(pairs), 'row')}, {_first_of(pairs)}"] if pairs else []
 
 
-def shown(found):
-    return f"the first with {found[0][0]} and {found[0][1]}"
+def _first_of(pairs: list[tuple[str, str]]) -> str:
+    return f"the first with {pairs[0][0]} and {pairs[0][1]}"
 
 
-def reasons_against(found, rows, allowed):
+def reasons_against(pairs: list[tuple[str, str]], rows: int, allowed: Collection[str]) -> list[str]:
     """A line if more rows of a table are so than its target allows."""
-    limits = [int(it[1]) for it in map(LIMIT.fullmatch, sorted(allowed)) if it]
-    most = limits[0] if limits else -(-rows * PER_HUNDRED // 100)
-    if len(found) <= most:
+    limits = [int(match[1]) for match in map(_LIMIT.fullmatch, sorted(allowed)) if match]
+    most = limits[0] if limits else -(-rows * _PER_HUNDRED // 100)
+    if len(pairs) <= most:
         return []
-    return [f"{WORDS}: {len(found)} of {rows} rows, and {most} may be, {shown(found)}; "
-            f"to allow it: {WORDS} up to {len(found)}"]
+    return [
+        f"{_WORDS}: {len(pairs)} of {rows} rows, and {most} may be, {_first_of(pairs)}; "
+        f"to allow it: {_WORDS} up to {len(pairs)}"
+    ]

@@ -1,60 +1,70 @@
 """Rows that no request can find, since they have no identifier. They are not served, and are listed."""
 import re
-from openlink_update.tables.cells import ANY, IDENTIFIERS, places_of
-from openlink_update.tables.identifiers import form_of
+from collections.abc import Collection
+
 from openlink_update.shown_text import printable
+from openlink_update.tables.cells import ANY, IDENTIFIERS
+from openlink_update.tables.identifiers import form_of
+from openlink_update.tables.table import Table
 
-PER_HUNDRED = 2  # rows that may be dropped, unless the list of targets says how many
-LIMIT = re.compile(r"dropped up to (\d{1,9})(%?)", re.A)
-MOST_CHARACTERS = 100  # of a row that is shown
-NONE, NO_NUMBER = "no identifier", "no ISSN or ISBN"
+_PER_HUNDRED = 2  # rows that may be dropped, unless the list of targets says how many
+_LIMIT = re.compile(r"dropped up to (\d{1,9})(%?)", re.A)
+_MOST_CHARACTERS = 100  # of a row that is shown
+_NONE, _NO_NUMBER = "no identifier", "no ISSN or ISBN"
 
 
-def is_identifier(cell):
+def _is_identifier(cell: str) -> bool:
     return form_of(cell) != "" or cell.replace("-", "").replace(" ", "").upper() == ANY
 
 
-def reason_of(row, places):
+def _reason_of(row: list[str], places: list[int]) -> str | None:
     """Why no request can find a row, or None."""
     cells = [row[place] for place in places if len(row) > place and row[place]]
     if not cells:
-        return NONE
-    return None if any(map(is_identifier, cells)) else NO_NUMBER
+        return _NONE
+    return None if any(map(_is_identifier, cells)) else _NO_NUMBER
 
 
-def separate(header, rows):
-    """The rows that a request can find, and the others, each after the reason. A table without a column of identifiers
-    keeps its rows, since `inspect` says what is wrong with it."""
-    places = places_of(header, IDENTIFIERS)
-    reasons = [reason_of(row, places) if places else None for row in rows]
-    return ([row for row, reason in zip(rows, reasons) if reason is None],
-            [[reason, *row] for row, reason in zip(rows, reasons) if reason is not None])
+def separate(table: Table) -> tuple[Table, list[list[str]]]:
+    """The table of the rows that a request can find, and the others, each after the reason. A table without a column
+    of identifiers keeps its rows, since `inspect` says what is wrong with it."""
+    places = [place for place in table.places(IDENTIFIERS) if place is not None]
+    if not places:
+        return table, []
+    reasons = [_reason_of(row, places) for row in table.rows]
+    dropped = [[reason, *row] for row, reason in zip(table.rows, reasons) if reason is not None]
+    if not dropped:
+        return table, []
+    return Table(table.columns, [row for row, reason in zip(table.rows, reasons) if reason is None]), dropped
 
 
-def most_of(allowed, rows):
+def _most_of(allowed: Collection[str], rows: int) -> int:
     """How many of these rows may be dropped, by the words of the list of targets. A share is rounded up, so one row
     never keeps a table from use."""
-    limits = [found for found in map(LIMIT.fullmatch, sorted(allowed)) if found]
-    number, is_share = (int(limits[0][1]), limits[0][2]) if limits else (PER_HUNDRED, "%")
+    limits = [match for match in map(_LIMIT.fullmatch, sorted(allowed)) if match]
+    number, is_share = (int(limits[0][1]), limits[0][2]) if limits else (_PER_HUNDRED, "%")
     return -(-rows * number // 100) if is_share else number
 
 
-def reasons_against(dropped, rows, allowed):
+def reasons_against(dropped: list[list[str]], rows: int, allowed: Collection[str]) -> list[str]:
     """A line if more rows of a table were dropped than its target allows."""
-    most = most_of(allowed, rows)
+    most = _most_of(allowed, rows)
     if len(dropped) <= most:
         return []
-    counts = ", ".join(f"{reason}: {count}" for reason in (NONE, NO_NUMBER)
-                       for count in [sum(row[0] == reason for row in dropped)] if count)
-    return [f"{len(dropped)} of {rows} rows dropped, and {most} may be: {counts}; to allow it: dropped up to "
-            f"{len(dropped)}; the first: {shown(dropped[0][1:])}"]
+    totals = {reason: sum(row[0] == reason for row in dropped) for reason in (_NONE, _NO_NUMBER)}
+    counts = ", ".join(f"{reason}: {count}" for reason, count in totals.items() if count)
+    return [
+        f"{len(dropped)} of {rows} rows dropped, and {most} may be: {counts}; to allow it: dropped up to "
+        f"{len(dropped)}; the first: {shown(dropped[0][1:])}"
+    ]
 
 
-def shown(cells):
+def shown(cells: list[str]) -> str:
     """The beginning of a row for the mail."""
-    return printable(" ".join(filter(None, cells))[:MOST_CHARACTERS])
+    return printable(" ".join(filter(None, cells))[:_MOST_CHARACTERS])
 
 
-def told(dropped):
+def lines(dropped: list[list[str]]) -> list[str]:
+    """What the mail says of them."""
     count = len(dropped)
     return [f"dropped: {count} {'row' if count == 1 else 'rows'}"] if count else []

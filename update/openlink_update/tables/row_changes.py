@@ -1,13 +1,16 @@
-"""Holdings tables as bytes: the rows that were added and are gone."""
+"""How many rows of a table were added, and are gone."""
 import collections
 
-
-def rows(table):
-    """The lines after the header that are not blank, without their ends."""
-    return [line for line in table.splitlines() if line][1:]
+from openlink_update.tables.table import Table
 
 
-def changes(old, new):
+def changes(old: Table, new: Table) -> tuple[int, int]:
     """The numbers of rows that are only in the new table, and only in the old one."""
-    before, after = collections.Counter(rows(old)), collections.Counter(rows(new))
-    return (after - before).total(), (before - after).total()
+    left = collections.Counter(map("\t".join, old.rows))
+    added = 0
+    for line in map("\t".join, new.rows):
+        if left.get(line, 0):
+            left[line] -= 1
+        else:
+            added += 1
+    return added, left.total()

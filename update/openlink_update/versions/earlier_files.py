@@ -1,37 +1,38 @@
 """The tables that a target had in earlier weeks, so that an old one is seen if it comes again. A version knows them by
 lines of a target, the sum of its prepared table, and the day on which a version had it first."""
-import hashlib, os
+import datetime
+import hashlib
+from collections.abc import Iterable
+from pathlib import Path
 
 NAME = "earlier.tsv"
-MOST = 26  # that are remembered of a target
-
-
-def sum_of(table):
-    return hashlib.sha256(table).hexdigest()
+_MOST = 26  # that are remembered of a target
 
 
 class EarlierFiles:
-    def __init__(self, older):
+    def __init__(self, older: Path | None) -> None:
         """Those that an older version knows (None: there is none)."""
-        self.days, self.now = {}, {}  # by target: the day of each sum; the sum of this version
-        path = os.path.join(older, NAME) if older else os.devnull
-        with open(path if os.path.exists(path) else os.devnull, encoding="utf-8") as file:
-            for line in file:
-                target, total, day = line.rstrip("\n").split("\t")
-                self.days.setdefault(target, {})[total] = day
+        self.days: dict[str, dict[str, str]] = {}  # by target: the day of each sum
+        self._now: dict[str, str] = {}  # by target: the sum of this version
+        path = older / NAME if older else None
+        for line in path.read_text(encoding="utf-8").splitlines() if path and path.exists() else ():
+            target, total, day = line.split("\t")
+            self.days.setdefault(target, {})[total] = day
 
-    def day_of(self, target, table):
-        """The day on which a version had this table first, or None."""
-        return self.days.get(target, {}).get(sum_of(table))
+    def put(self, target: str, table: bytes) -> None:
+        """Takes the prepared table of a target as that of this version."""
+        self._now[target] = hashlib.sha256(table).hexdigest()
 
-    def put(self, target, table):
-        self.now[target] = sum_of(table)
+    def day_of(self, target: str) -> str | None:
+        """The day on which a version had the present table of a target first, or None."""
+        return self.days.get(target, {}).get(self._now[target])
 
-    def text(self, targets, today):
+    def text(self, targets: Iterable[str], today: datetime.date) -> str:
         """What the next version has to know."""
-        lines = []
+        lines: list[str] = []
         for target in targets:
-            days = {self.now[target]: today.isoformat(), **self.days.get(target, {})}
-            newest = sorted(days.items(), key=lambda it: (it[0] == self.now[target], it[1]))[-MOST:]
+            now = self._now[target]
+            days = {now: today.isoformat(), **self.days.get(target, {})}
+            newest = sorted(days.items(), key=lambda item: (item[0] == now, item[1]))[-_MOST:]
             lines += (f"{target}\t{total}\t{day}\n" for total, day in newest)
         return "".join(lines)

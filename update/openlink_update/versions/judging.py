@@ -1,61 +1,72 @@
 """Judges a target's new files by numbers: by their warnings, and by the numbers of titles that are gone."""
-import os, re
+import datetime
+import re
+from collections.abc import Collection, Iterable
+from pathlib import Path
+
 from openlink_update import shown_text
 from openlink_update.tables.identifiers import form_of, standard
 from openlink_update.outcome import Refused
-from openlink_update.tables.parts import IDENTIFIERS, base_of
+from openlink_update.tables.cells import IDENTIFIERS
+from openlink_update.tables.parts import base_of
 from openlink_update.versions.program import PLACE, words_of
-from openlink_update.versions.served import cells_in, names_in, path_of
-from openlink_update.tables.table_cells import cell, columns_of
-from openlink_update.tables.title_rows import NONE, date_in, embargo_in
+from openlink_update.tables.embargo import Embargo
+from openlink_update.tables.row_dates import NONE, date_in
+from openlink_update.tables.table import Table, cell
+from openlink_update.versions.program import Program
+from openlink_update.versions.served import names_in, path_of, tables_in
+from openlink_update.versions.target_list import Target
 
-ANY_OF_LINT, GONE, MOST_GONE = "rule", "gone", 10  # in 100
-UP_TO = re.compile(r"(.*\S) up to (\d{1,9})%?", re.A)
-COUNTED = re.compile(r'[^0-9"]* (\d+)(?:, first .*|, ".*)?', re.A)
-TITLE = ("publication_title", "date_first_issue_online", "date_last_issue_online", "embargo_info")
-HEADING = ("change", "title", "numbers", "first date", "last date", "embargo")
+_ANY_OF_LINT, _GONE, _MOST_GONE = "rule", "gone", 10  # in 100
+_UP_TO = re.compile(r"(.*\S) up to (\d{1,9})%?", re.A)
+_COUNTED = re.compile(r'[^0-9"]* (\d+)(?:, first .*|, ".*)?', re.A)
+_TITLE = ("publication_title", "date_first_issue_online", "date_last_issue_online", "embargo_info")
+_HEADING = ("change", "title", "numbers", "first date", "last date", "embargo")
+_Limits = dict[str, int | None]  # by the words that allow a warning
+_Line = tuple[str, str]  # the file that a warning is about, and the warning
+_Row = tuple[str, ...]
 
 
-def limits_of(allowed):
+def _limits_of(allowed: Collection[str]) -> _Limits:
     """The words of a target's line, each with the number up to which it allows a warning, or None if it has none."""
-    limits = {text: None for text in sorted(allowed) if not UP_TO.fullmatch(text)}
-    return {**limits, **{it[1]: int(it[2]) for it in map(UP_TO.fullmatch, sorted(allowed)) if it}}
+    limits: _Limits = {text: None for text in sorted(allowed) if not _UP_TO.fullmatch(text)}
+    return {**limits, **{it[1]: int(it[2]) for it in map(_UP_TO.fullmatch, sorted(allowed)) if it}}
 
 
-def number_in(line):
+def _number_in(line: str) -> int:
     """How many cells or rows a warning is about; 1 if it does not say so."""
-    found = COUNTED.fullmatch(PLACE.sub("", line, count=1))
+    found = _COUNTED.fullmatch(PLACE.sub("", line, count=1))
     return int(found[1]) if found else 1
 
 
-def allowing(line, limits):
+def _allowing(line: str, limits: Collection[str]) -> str | None:
     """The words of the list that allow a warning, or None. `rule` allows every warning of `lint`, since a number
     follows this word."""
     words = words_of(line)
     if words in limits:
         return words
-    return ANY_OF_LINT if PLACE.match(line) is not None and ANY_OF_LINT in limits else None
+    return _ANY_OF_LINT if PLACE.match(line) is not None and _ANY_OF_LINT in limits else None
 
 
-def without_number(limits):
+def _without_number(limits: _Limits) -> list[str]:
     return [words for words, most in limits.items() if most is None]
 
 
-def totals_of(lines, limits):
+def _totals_of(lines: list[str], limits: Collection[str]) -> dict[str, int]:
     """How many cells, rows or lines each words of the list would have to allow."""
     totals = dict.fromkeys(limits, 0)
     for line in lines:
-        words = allowing(line, limits)
+        words = _allowing(line, limits)
         if words is not None:
-            totals[words] += number_in(line)
+            totals[words] += _number_in(line)
     return totals
 
 
-def reasons_in(found, totals, limits):
+def _reasons_in(warnings: list[_Line], totals: dict[str, int], limits: _Limits) -> list[str]:
     """The warnings, pairs of a place and a line, that are not allowed, or of which there are more than allowed."""
-    reasons = []
-    for place, line in found:
-        words = allowing(line, limits)
+    reasons: list[str] = []
+    for place, line in warnings:
+        words = _allowing(line, limits)
         if words is None:
             reasons.append(f"{place}: {line}")
         elif totals[words] > limits[words]:
@@ -63,11 +74,11 @@ def reasons_in(found, totals, limits):
     return reasons
 
 
-def allowed_in(version):
+def _allowed_in(version: Path) -> dict[str, dict[str, int]]:
     """By target, the numbers up to which words without one allow warnings in a version; none in an older one."""
-    numbers = {}
+    numbers: dict[str, dict[str, int]] = {}
     try:
-        with open(os.path.join(version, "allowed.tsv"), encoding="utf-8") as file:
+        with open(version / "allowed.tsv", encoding="utf-8") as file:
             for line in file:
                 target, words, number = line.rstrip("\n").split("\t")
                 numbers.setdefault(target, {})[words] = int(number)
@@ -76,119 +87,137 @@ def allowed_in(version):
     return numbers
 
 
-def parts_in(version, target):
+def _parts_in(version: Path, target: str) -> list[str]:
     return [name for name in names_in(version) if base_of(name) == target]
 
 
-def numbers_of(row, places):
-    """The ISSNs and ISBNs in these cells of a row, in their standard form."""
+def _numbers_in(tables: Iterable[Table]) -> set[str]:
+    """The ISSNs and ISBNs of tables, in their standard form."""
+    numbers = set()
+    for table in tables:
+        for place in [place for place in table.places(IDENTIFIERS) if place is not None]:
+            forms = {form_of(row[place]) for row in table.rows if len(row) > place}
+            numbers.update(map(standard, forms))
+    numbers.discard("")
+    return numbers
+
+
+def _numbers_of(row: list[str], places: list[int | None]) -> list[str]:
+    """The numbers in these cells of a row."""
     return list(dict.fromkeys(filter(None, (standard(form_of(cell(row, place))) for place in places))))
 
 
-def all_numbers(tables):
-    found = set()
-    for header, rows in tables:
-        places = columns_of(header, IDENTIFIERS)
-        found.update(number for row in rows for number in numbers_of(row, places))
-    return found
-
-
-def reasons_of_gone(before, after, limits):
+def _reasons_of_gone(before: set[str], after: set[str], limits: _Limits) -> list[str]:
     """Why the numbers that were served before and are gone are too many, as a list of at most one reason."""
-    gone, most = len(before - after), limits.get(GONE)
-    most = MOST_GONE if most is None else most
+    gone, most = len(before - after), limits.get(_GONE)
+    most = _MOST_GONE if most is None else most
     if gone * 100 <= len(before) * most:
         return []
     part = -(-gone * 100 // len(before))
-    return [f"numbers gone {gone} of {len(before)}: {most}% are allowed; to allow it: {GONE} up to {part}%"]
+    return [f"numbers gone {gone} of {len(before)}: {most}% are allowed; to allow it: {_GONE} up to {part}%"]
 
 
-def changed_rows(sign, tables, others):
-    """The rows of tables of which no number is among others: title, numbers, dates and embargo, after a sign."""
-    found = {}
-    for header, rows in tables:
-        places, identifiers = columns_of(header, TITLE), columns_of(header, IDENTIFIERS)
-        for row in rows:
-            numbers = numbers_of(row, identifiers)
-            if numbers and not others.intersection(numbers):
-                title, first, last, embargo = (cell(row, place) for place in places)
-                cells = (date_in(first), date_in(last), embargo_in(embargo))
-                found[(sign, title, " ".join(numbers), *("" if it == NONE else it for it in cells))] = None
-    return list(found)
+def _changed_rows(sign: str, tables: Iterable[Table], others: set[str], day: datetime.date | None = None) -> list[_Row]:
+    """The rows of tables of which no number is among others: title, numbers, dates and embargo, after a sign. The last
+    dates of tables without walls get those of a day."""
+    rows: dict[_Row, None] = {}
+    for table in tables:
+        places, identifiers = table.places(_TITLE), table.places(IDENTIFIERS)
+        has_walls = day is not None and places[2] is not None
+        for row in table.rows:
+            numbers = _numbers_of(row, identifiers)
+            if not numbers or not others.isdisjoint(numbers):
+                continue
+            title, first, last, text = (cell(row, place) for place in places)
+            embargo = Embargo.parse(text)
+            if has_walls and day is not None and embargo is not None and not last:
+                last = embargo.wall(day)
+            cells = (date_in(first), date_in(last), embargo.index_text if embargo is not None else NONE)
+            rows[(sign, title, " ".join(numbers), *("" if it == NONE else it for it in cells))] = None
+    return list(rows)
 
 
 class Judge:
     """Judges the targets of a version in a folder by the version before (None: there is none)."""
 
-    def __init__(self, folder, older, program):
-        self.folder, self.older, self.program = folder, older, program
-        self.before = allowed_in(older) if older else {}  # by target: the number for each of its words without one
-        self.allowed = {}  # the same of this version
-        self.served = {}   # by target: the numbers that were served before, and those that are now
+    def __init__(self, folder: Path, older: Path | None, program: Program, today: datetime.date) -> None:
+        self._folder, self._older, self._program, self._today = folder, older, program, today
+        # By target: the number for each of its words without one, in the version before and in this one.
+        self.before = _allowed_in(older) if older else {}
+        self.allowed: dict[str, dict[str, int]] = {}
+        self._changes: dict[str, tuple[list[_Row], list[_Row]]] = {}  # by target: the rows that came and went
 
-    def reasons(self, target, parts, has_rules, was_served):
-        """Why new files of a target, whose table has these parts, cannot be used."""
-        found, reasons = self.warnings(target, parts, has_rules)
-        limits, before = limits_of(target.allowed), self.before.get(target.name, {})
-        totals = totals_of([line for _, line in found], limits)
-        self.allowed[target.name] = {words: before.get(words, totals[words]) for words in without_number(limits)}
-        reasons += reasons_in(found, totals, {**limits, **self.allowed[target.name]})
-        if was_served:
-            tables = cells_in(self.older, parts_in(self.older, target.name)), cells_in(self.folder, parts)
-            self.served[target.name] = [all_numbers(it) for it in tables]
-            reasons += [f"{target.table}: {reason}" for reason in reasons_of_gone(*self.served[target.name], limits)]
+    def reasons(self, target: Target, parts: dict[str, Table], has_rules: bool, was_served: bool) -> list[str]:
+        """Why new files of a target, whose table has these parts, cannot be used. They are without walls."""
+        warnings, reasons = self._warnings(target, list(parts), has_rules)
+        limits, before = _limits_of(target.allowed), self.before.get(target.name, {})
+        totals = _totals_of([line for _, line in warnings], limits)
+        self.allowed[target.name] = {words: before.get(words, totals[words]) for words in _without_number(limits)}
+        reasons += _reasons_in(warnings, totals, {**limits, **self.allowed[target.name]})
+        if was_served and self._older is not None:
+            tables = list(tables_in(self._older, _parts_in(self._older, target.name)))
+            before_and_now = _numbers_in(tables), _numbers_in(parts.values())
+            reasons += [f"{target.table}: {reason}" for reason in _reasons_of_gone(*before_and_now, limits)]
+            self._changes[target.name] = self._changes_between(tables, parts, *before_and_now)
         return reasons
 
-    def warnings(self, target, parts, has_rules):
+    def _changes_between(
+        self, old: list[Table], new: dict[str, Table], before: set[str], now: set[str]
+    ) -> tuple[list[_Row], list[_Row]]:
+        """The rows that came and went, for the numbers of the tables."""
+        came = _changed_rows("came", new.values(), before, self._today) if now - before else []
+        return came, _changed_rows("gone", old, now) if before - now else []
+
+    def _warnings(self, target: Target, parts: list[str], has_rules: bool) -> tuple[list[_Line], list[str]]:
         """The warnings of `inspect` and `lint` on the parts of a target's table, each after the file that it is about,
         and why a command rejects a file."""
-        found, reasons = [], []
+        found: list[_Line] = []
+        reasons: list[str] = []
         for part in parts:
             place = target.table if part == target.name else f"{target.table}, part {part}"
-            found += self.lines(place, reasons, "inspect", path_of(part))
+            found += self._lines(place, reasons, "inspect", path_of(part))
         if has_rules and not reasons:
             known = [line for _, line in found]
             for part in parts:
-                lines = self.lines(target.rules, reasons, "lint", f"received/{target.name}.rules", path_of(part))
+                lines = self._lines(target.rules, reasons, "lint", f"received/{target.name}.rules", path_of(part))
                 found += [it for it in lines if it not in found and it[1] not in known]
         return found, reasons
 
-    def lines(self, place, reasons, *command):
+    def _lines(self, place: str, reasons: list[str], *command: str) -> list[_Line]:
         """The warnings of a command, each after the place; a reason more if it rejects a file."""
         try:
-            return [(place, line) for line in self.program.warnings(*command)]
+            return [(place, line) for line in self._program.warnings(*command)]
         except Refused as refusal:
             reasons += [f"{place}: {reason}" for reason in refusal.reasons]
             return []
 
-    def keep(self, target, parts, has_rules, is_used):
+    def keep(self, target: Target, parts: list[str], has_rules: bool, is_used: bool) -> None:
         """Keeps the numbers for words of a target whose old files are used again. Where these are the ones of the
         input, those for words that are new in the list are today's."""
         before = self.before.get(target.name, {})
-        words = without_number(limits_of(target.allowed))
+        words = _without_number(_limits_of(target.allowed))
         kept = {it: before[it] for it in words if it in before}
         if is_used and len(kept) < len(words):
-            found, _ = self.warnings(target, parts, has_rules)
-            kept = {**totals_of([line for _, line in found], words), **kept}
+            warnings, _ = self._warnings(target, parts, has_rules)
+            kept = {**_totals_of([line for _, line in warnings], words), **kept}
         self.allowed[target.name] = kept
 
-    def text(self, targets):
+    def text(self, targets: Iterable[str]) -> str:
         """What the next version has to know, as the file `allowed.tsv`."""
-        return "".join(f"{target}\t{words}\t{number}\n" for target in targets
-                       for words, number in sorted(self.allowed.get(target, {}).items()))
+        return "".join(
+            f"{target}\t{words}\t{number}\n"
+            for target in targets
+            for words, number in sorted(self.allowed.get(target, {}).items())
+        )
 
-    def write_changes(self, name, parts):
+    def write_changes(self, name: str) -> list[str]:
         """Writes the titles of a target that came and went. Returns a line that counts them; none if there are none."""
-        before, now = self.served[name]
-        if before == now:
-            return []
-        came = changed_rows("came", cells_in(self.folder, parts), before)
-        went = changed_rows("gone", cells_in(self.older, parts_in(self.older, name)), now)
+        came, went = self._changes[name]
         if not came and not went:
             return []
-        path = f"changes/{name}.txt"
-        os.makedirs(os.path.join(self.folder, "changes"), exist_ok=True)
-        with open(os.path.join(self.folder, path), "w", encoding="utf-8", errors="replace") as file:
-            file.writelines(f"{shown_text.row(cells)}\n" for cells in (HEADING, *came, *went))
-        count = [len({cells[1:3] for cells in lines}) for lines in (came, went)]
-        return [f"titles: {count[0]} came, {count[1]} gone: {path}"]
+        path = self._folder / f"changes/{name}.txt"
+        path.parent.mkdir(exist_ok=True)
+        with open(path, "w", encoding="utf-8", errors="replace") as file:
+            file.writelines(f"{shown_text.row(cells)}\n" for cells in (_HEADING, *came, *went))
+        count = [len({cells[1:3] for cells in rows}) for rows in (came, went)]
+        return [f"titles: {count[0]} came, {count[1]} gone: changes/{name}.txt"]

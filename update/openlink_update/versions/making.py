@@ -11,62 +11,73 @@
     earlier.tsv            see earlier_files.py
     allowed.tsv            a target, words of its line that allow warnings, and the number up to which they do
     index/                 the index of titles, for the front door
+    prepared/              only until the index and the exports are made: see prepared_tables.py
 
 An old table is prepared again before a new one is compared with it, so a newer form of preparation does not look like a
 change by the provider."""
-import dataclasses, filecmp, functools, os, re, shutil
-from openlink_update.tables import date_order, dropped_rows, file_patterns, row_changes
-from openlink_update.versions import earlier_files, shared_tables
+import dataclasses
+import datetime
+import filecmp
+import functools
+import os
+import re
+import shutil
+from collections.abc import Callable, Iterator
+from pathlib import Path
+
 from openlink_update.index import title_index
+from openlink_update.input_files import InputFile
+from openlink_update.outcome import Failure, Refused
+from openlink_update.received import patterns
+from openlink_update.tables import date_order, dropped_rows, row_changes
+from openlink_update.tables.parts import base_of
+from openlink_update.tables.preparation import Prepared
+from openlink_update.tables.table import Table
+from openlink_update.versions import earlier_files, shared_tables
 from openlink_update.versions.earlier_files import EarlierFiles
 from openlink_update.versions.judging import Judge
-from openlink_update.outcome import Failure, Refused
+from openlink_update.versions.prepared_tables import PreparedTables
+from openlink_update.versions.program import Program
 from openlink_update.versions.served import Tables, targets_in
 from openlink_update.versions.target_list import Target
 
-FEWER = "less than half of the rows"
+_FEWER = "less than half of the rows"
 
 
-@dataclasses.dataclass
+@dataclasses.dataclass(frozen=True)
 class Files:
-    """The files of a target, as they came, and the table that is prepared from them."""
-    rules: bytes
-    tables: tuple  # of bytes
-    has_code: bool
-    paths: tuple = dataclasses.field(compare=False)  # of the tables
-    sources: tuple = dataclasses.field(compare=False, default=())  # of InputFile: all of these, as they were read
+    """The files of a target, as they came, and what is prepared from them."""
 
-    def changed(self):
+    rules: bytes
+    tables: tuple[bytes, ...]
+    has_code: bool
+    paths: tuple[str, ...] = dataclasses.field(compare=False)  # of the tables
+    # All of these, as they were read.
+    sources: tuple[InputFile, ...] = dataclasses.field(compare=False, default=())
+
+    def changed(self) -> list[str]:
         """Why files that have been written since they were read cannot be used. One that was replaced is another."""
-        return [f"{it.path}: it changed while it was read: update again when it is written" for it in self.sources
-                if it.is_changed()]
+        paths = [source.path for source in self.sources if source.is_changed()]
+        return [f"{path}: it changed while it was read: update again when it is written" for path in paths]
 
     @functools.cached_property
-    def prepared(self):
+    def prepared(self) -> Prepared:
         """Refused if one of the files cannot be read as a table."""
         return shared_tables.prepare(list(zip(self.paths, self.tables)))
 
-    @property
-    def table(self):
-        return self.prepared.table
-
-    def table_or_none(self):
+    @functools.cached_property
+    def table_or_empty(self) -> Table:
         """The table, or nothing in place of one that cannot be prepared: a version may be older than preparation."""
         try:
-            return self.table
+            return self.prepared.table
         except Refused:
-            return b""
+            return Table((), [])
 
 
-def content(path):
-    with open(path, "rb") as file:
-        return file.read()
-
-
-def received(target):
+def _files_of(target: Target) -> Files:
     """The files that the list names for a target. Refused if one of them cannot be read."""
     reasons, sources = [], []
-    tables = [file_patterns.path_of(path, target.input.matches) for path in target.tables]
+    tables = [patterns.path_of(path, target.input.matches) for path in target.tables]
     for path in (target.rules, *tables):
         try:
             sources.append(target.input.file(path))
@@ -79,193 +90,229 @@ def received(target):
     return Files(rules, tuple(data), target.has_code(), tuple(tables), tuple(sources))
 
 
-def received_names(folder, name):
+def _received_names(version: Path, name: str) -> list[str]:
     """The names of the files of a target's table in `received` of a version, in their order."""
-    found = [(len(it), it) for it in os.listdir(os.path.join(folder, "received"))
-             if re.fullmatch(rf"{re.escape(name)}\.txt(\.\d+)?", it)]
-    return [it for _, it in sorted(found)]
+    pattern = re.compile(rf"{re.escape(name)}\.txt(\.\d+)?")
+    return sorted(filter(pattern.fullmatch, os.listdir(version / "received")), key=lambda file: (len(file), file))
 
 
-def kept(version, name):
-    """The files of a target in an older version, or None if it has none."""
+def files_in(version: Path, name: str) -> Files | None:
+    """The files of a target in a version, or None if it has none."""
+    received = version / "received"
     for suffix, has_code in ((".rules", False), (".olk", True)):
-        rules = os.path.join(version, "received", name + suffix)
-        tables = [os.path.join(version, "received", it) for it in received_names(version, name)]
-        if os.path.isfile(rules) and tables:
-            return Files(content(rules), tuple(map(content, tables)), has_code, tuple(tables))
+        rules = received / f"{name}{suffix}"
+        tables = [received / file for file in _received_names(version, name)]
+        if rules.is_file() and tables:
+            data = tuple(path.read_bytes() for path in tables)
+            return Files(rules.read_bytes(), data, has_code, tuple(map(str, tables)))
     return None
 
 
 class Maker:
     """Makes one version in a folder, of the targets of a list and an older version (None: there is none)."""
 
-    def __init__(self, folder, older, program, today, report):
-        self.folder, self.older, self.program, self.today, self.report = folder, older, program, today, report
-        self.names, self.kept, self.left_out = [], [], []
-        self.tables, self.judge = Tables(folder, today), Judge(folder, older, program)
-        self.earlier = EarlierFiles(older)
+    def __init__(
+        self,
+        folder: str | os.PathLike[str],
+        older: str | os.PathLike[str] | None,
+        program: Program,
+        today: datetime.date,
+        report: Callable[[str], object],
+    ) -> None:
+        self._folder, self._older = Path(folder), None if older is None else Path(older)
+        self._program, self._today, self._report = program, today, report
+        self.names: list[str] = []
+        self.kept: list[str] = []
+        self.left_out: list[str] = []
         for part in ("received", "code", "tables", "dropped"):
-            os.mkdir(os.path.join(folder, part))
+            (self._folder / part).mkdir()
+        self._tables, self._prepared = Tables(self._folder, today), PreparedTables(self._folder)
+        self._judge = Judge(self._folder, self._older, program, today)
+        self._earlier = EarlierFiles(self._older)
 
-    def make(self, targets, has_list):
+    def make(self, targets: list[Target], has_list: bool) -> None:
         """Makes all but the index, which has the list of titles, or has not."""
         for target in targets:
-            self.add(target)
-        for name in self.names_before():
+            self._add(target)
+        for name in self._names_before():
             if name not in [target.name for target in targets]:
-                self.report(f"{name}: gone, since the list does not name it")
+                self._report(f"{name}: gone, since the list does not name it")
         if not self.names:
             raise Failure("no target is left")
-        self.finish(has_list)
+        self._finish(has_list)
 
-    def move_walls(self, has_list):
+    def move_walls(self, has_list: bool) -> None:
         """Makes all but the index from the files of the older version, with the walls of today."""
-        for name in self.names_before():
+        for name in self._names_before():
+            files = self._files_before(name)
+            if files is None:
+                raise Failure(f"{name}: {self._older} has no files of it")
             self.names.append(name)
-            self.put_again(Target(name, f"{name}.rules", (f"{name}.txt",), frozenset()), kept(self.older, name))
-        self.judge.allowed = self.judge.before
-        changes = os.path.join(self.older, "changes")
-        if os.path.isdir(changes):
-            shutil.copytree(changes, os.path.join(self.folder, "changes"))
-        self.finish(has_list)
+            self._put_again(Target(name, f"{name}.rules", (f"{name}.txt",), frozenset()), files)
+        self._judge.allowed = self._judge.before
+        if self._older is not None and (self._older / "changes").is_dir():
+            shutil.copytree(self._older / "changes", self._folder / "changes")
+        self._finish(has_list)
 
-    def finish(self, has_list):
-        self.write("registry.tsv", self.tables.registry(self.names))
-        self.write("allowed.tsv", self.judge.text(self.names).encode())
-        self.write(earlier_files.NAME, self.earlier.text(self.names, self.today).encode())
-        title_index.begin(os.path.join(self.folder, "index"), has_list)
+    def _finish(self, has_list: bool) -> None:
+        self._write("registry.tsv", self._tables.registry(self.names))
+        self._write("allowed.tsv", self._judge.text(self.names).encode())
+        self._write(earlier_files.NAME, self._earlier.text(self.names, self._today).encode())
+        title_index.begin(str(self._folder / "index"), has_list)
 
-    def make_index(self, has_list):
-        """Makes the index, which takes longest. Its tables are the prepared ones, without moving walls."""
-        tables = ((name, kept(self.folder, name).table) for name in self.names)
-        title_index.make(os.path.join(self.folder, "index"), has_list,
-                   (part for name, table in tables for part in self.tables.for_index(name, table)))
+    def make_index(self, has_list: bool) -> None:
+        """Makes the index, which takes longest."""
+        title_index.make(str(self._folder / "index"), has_list, self._prepared_parts())
 
-    def names_before(self):
+    def tables_for_export(self) -> Iterator[tuple[str, Table]]:
+        """Yields the tables of all targets without walls. A large one comes in parts, each after the target's name."""
+        for part, table in self._prepared_parts():
+            yield base_of(part), table
+
+    def remove_prepared(self) -> None:
+        """Removes what only the index and the exports need."""
+        self._prepared.remove()
+
+    def _prepared_parts(self) -> Iterator[tuple[str, Table]]:
+        for name in self.names:
+            yield from self._tables.divided(name, self._prepared.table(name))
+
+    def _names_before(self) -> list[str]:
         """The names of the targets of the older version."""
-        return targets_in(self.older) if self.older else []
+        return targets_in(self._older) if self._older else []
 
-    def add(self, target):
+    def _files_before(self, name: str) -> Files | None:
+        return files_in(self._older, name) if self._older else None
+
+    def _add(self, target: Target) -> None:
         """Adds a target with its new files, or its old ones, or leaves it out."""
-        old = kept(self.older, target.name) if self.older else None
+        old, new = self._files_before(target.name), None
         try:
-            new = received(target)
-            reasons = [] if new == old else self.reasons_against(target, old, new) + new.changed()
+            new = _files_of(target)
+            reasons = [] if new == old else self._reasons_against(target, old, new) + new.changed()
         except Refused as refusal:
-            new, reasons = None, refusal.reasons
+            reasons = refusal.reasons
         if reasons:
-            self.say_refusal(target.name, old, reasons)
-        if old is None and reasons:
-            self.discard(target.name)
-            return
-        self.names.append(target.name)
-        if reasons or new == old:
-            self.put_again(target, old)
-            self.judge.keep(target, self.tables.parts_of(target.name), not old.has_code, is_used=not reasons)
+            self._say_refusal(target.name, old, reasons)
+        if new is not None and not reasons and new != old:
+            self.names.append(target.name)
+            self._say_changes(target.name, old, new)
+        elif old is not None:
+            self.names.append(target.name)
+            self._put_again(target, old)
+            parts = self._tables.parts_of(target.name)
+            self._judge.keep(target, parts, not old.has_code, is_used=not reasons)
         else:
-            self.say_changes(target.name, old, new)
+            self._discard(target.name)
 
-    def put_again(self, target, old):
+    def _put_again(self, target: Target, old: Files) -> None:
         """Puts the files of the version before, which were good then."""
-        reasons = self.put(target, old)
+        reasons = self._put(target, old)
         if reasons:
             raise Failure(f"{target.name}: its old files are refused too: {reasons[0]}")
-        if not self.tables.is_same(target.name, self.older):
-            self.report(f"{target.name}: moving walls changed")
+        if self._older is not None and not self._tables.is_same(target.name, self._older):
+            self._report(f"{target.name}: moving walls changed")
 
-    def write(self, name, data):
-        with open(os.path.join(self.folder, name), "wb") as file:
-            file.write(data)
+    def _write(self, name: str, data: bytes) -> None:
+        (self._folder / name).write_bytes(data)
 
-    def put(self, target, files):
+    def _put(self, target: Target, files: Files) -> list[str]:
         """Writes the files of a target and compiles its rules. Returns why the program rejects them."""
         name = target.name
         rules = f"received/{name}{'.olk' if files.has_code else '.rules'}"
-        self.discard(name)
-        self.write(rules, files.rules)
-        for number, table in enumerate(files.tables, 1):
-            self.write(f"received/{name}.txt" + (f".{number}" if number > 1 else ""), table)
+        self._discard(name)
+        self._write(rules, files.rules)
+        for number, data in enumerate(files.tables, 1):
+            self._write(f"received/{name}.txt" + (f".{number}" if number > 1 else ""), data)
         try:
-            reasons = self.tables.put(target, files.table)
+            prepared = files.prepared
         except Refused as refusal:
             return refusal.reasons
-        self.earlier.put(name, files.table)
-        if files.prepared.dropped:
-            self.write(f"dropped/{name}.txt", files.prepared.dropped_table())
+        reasons = self._tables.put(target, prepared.table)
+        self._earlier.put(name, self._prepared.put(name, prepared.table))
+        if prepared.dropped:
+            self._write(f"dropped/{name}.txt", prepared.dropped_table())
         if files.has_code:
-            self.write(f"code/{name}.olk", files.rules)
-            return reasons + self.rejected(target.rules, "verify", f"code/{name}.olk")
-        return reasons + self.rejected(target.rules, "compile", rules, f"code/{name}.olk")
+            self._write(f"code/{name}.olk", files.rules)
+            return reasons + self._rejected(target.rules, "verify", f"code/{name}.olk")
+        return reasons + self._rejected(target.rules, "compile", rules, f"code/{name}.olk")
 
-    def discard(self, name):
+    def _discard(self, name: str) -> None:
         """Removes what a target has in this version."""
-        self.tables.discard(name)
-        for place in (f"received/{name}.rules", f"received/{name}.olk", f"code/{name}.olk", f"dropped/{name}.txt",
-                      *(f"received/{it}" for it in received_names(self.folder, name))):
-            if os.path.lexists(os.path.join(self.folder, place)):
-                os.unlink(os.path.join(self.folder, place))
+        self._tables.discard(name)
+        received = (f"received/{file}" for file in _received_names(self._folder, name))
+        for place in (f"received/{name}.rules", f"received/{name}.olk", f"code/{name}.olk", f"dropped/{name}.txt"):
+            (self._folder / place).unlink(missing_ok=True)
+        for place in received:
+            (self._folder / place).unlink()
 
-    def rejected(self, path, *words):
+    def _rejected(self, path: str, *words: str) -> list[str]:
         """Why a command rejects a file that came from a path, as a list of at most one reason."""
         try:
-            self.program.run(*words)
+            self._program.run(*words)
         except Refused as refusal:
             return [f"{path}: {refusal.reasons[0]}"]
         return []
 
-    def reasons_against(self, target, old, new):
+    def _reasons_against(self, target: Target, old: Files | None, new: Files) -> list[str]:
         """Writes the new files of a target, and returns why they cannot be used."""
         try:
             prepared = new.prepared
         except Refused as refusal:
             return refusal.reasons
-        reasons = self.put(target, new)
-        parts = self.tables.parts_of(target.name)
-        if parts:
-            reasons += self.judge.reasons(target, parts, not new.has_code and not reasons, old is not None)
-        reasons += [f"{target.table}: {line}" for line in (
+        reasons = self._put(target, new)
+        if self._tables.parts_of(target.name):
+            parts = dict(self._tables.divided(target.name, prepared.table))
+            reasons += self._judge.reasons(target, parts, not new.has_code and not reasons, old is not None)
+        lines = (
             *dropped_rows.reasons_against(prepared.dropped, prepared.count, target.allowed),
-            *date_order.reasons_against(prepared.reversed, prepared.count, target.allowed))]
-        before, after = len(row_changes.rows(old.table_or_none())) if old else 0, len(row_changes.rows(new.table))
-        if after * 2 < before and FEWER not in target.allowed:
-            reasons.append(f"{target.table}: {FEWER}: {after}, and {before} before; to allow it: {FEWER}")
+            *date_order.reasons_against(prepared.reversed, prepared.count, target.allowed),
+        )
+        reasons += [f"{target.table}: {line}" for line in lines]
+        before, after = len(old.table_or_empty.rows) if old else 0, len(prepared.table.rows)
+        if after * 2 < before and _FEWER not in target.allowed:
+            reasons.append(f"{target.table}: {_FEWER}: {after}, and {before} before; to allow it: {_FEWER}")
         return reasons
 
-    def say_changes(self, name, old, new):
+    def _say_changes(self, name: str, old: Files | None, new: Files) -> None:
+        table = new.prepared.table
         if old is None:
-            self.report(f"{name}: new, {count(len(row_changes.rows(new.table)))}")
+            self._report(f"{name}: new, {_rows(len(table.rows))}")
         else:
             changes = [] if new.rules == old.rules else ["rules changed"]
             if new.tables != old.tables:
-                added, gone = row_changes.changes(old.table_or_none(), new.table)
-                changes.append(f"{count(added)} added, {gone} gone")
-            self.report(f"{name}: {', '.join(changes)}")
-        lines = self.judge.write_changes(name, self.tables.parts_of(name)) if old else []
-        prepared = new.prepared.told if old is None or new.tables != old.tables else []
-        day = self.earlier.day_of(name, new.table)
-        if old and day and new.table != old.table_or_none():
-            self.report(f"  the table of {day} again")
-        for line in [*prepared, *self.tables.told[name], *lines]:
-            self.report(f"  {line}")
+                added, gone = row_changes.changes(old.table_or_empty, table)
+                changes.append(f"{_rows(added)} added, {gone} gone")
+            self._report(f"{name}: {', '.join(changes)}")
+        lines = self._judge.write_changes(name) if old else []
+        prepared = new.prepared.lines if old is None or new.tables != old.tables else []
+        day = self._earlier.day_of(name)
+        if old and day and table != old.table_or_empty:
+            self._report(f"  the table of {day} again")
+        for line in [*prepared, *self._tables.lines[name], *lines]:
+            self._report(f"  {line}")
 
-    def say_refusal(self, name, old, reasons):
+    def _say_refusal(self, name: str, old: Files | None, reasons: list[str]) -> None:
         (self.left_out if old is None else self.kept).append(name)
         how = "left out, since it has no old files" if old is None else "kept its old rules and table"
-        self.report(f"{name}: {how}")
+        self._report(f"{name}: {how}")
         for reason in reasons:
-            self.report(f"  {reason}")
+            self._report(f"  {reason}")
 
 
-def count(rows):
-    return f"{rows} row" if rows == 1 else f"{rows} rows"
+def _rows(count: int) -> str:
+    return f"{count} row" if count == 1 else f"{count} rows"
 
 
-def is_same(one, other):
+def is_same(one: str | os.PathLike[str], other: str | os.PathLike[str]) -> bool:
     """Whether two versions serve the same. The first may have no index yet, but its format."""
-    folders = ("code", "tables", "received")
-    names = [[f"{part}/{name}" for part in folders for name in sorted(os.listdir(os.path.join(version, part)))]
-             for version in (one, other)]
-    parts = ["registry.tsv", "allowed.tsv", "index/format", *names[0]]
+    versions, folders = (Path(one), Path(other)), ("code", "tables", "received")
+    names = [
+        [f"{folder}/{name}" for folder in folders for name in sorted(os.listdir(version / folder))]
+        for version in versions
+    ]
+    files = ["registry.tsv", "allowed.tsv", "index/format", *names[0]]
     return names[0] == names[1] and all(
-        os.path.isfile(os.path.join(other, part))
-        and filecmp.cmp(os.path.join(one, part), os.path.join(other, part), shallow=False) for part in parts)
+        (versions[1] / file).is_file() and filecmp.cmp(versions[0] / file, versions[1] / file, shallow=False)
+        for file in files
+    )

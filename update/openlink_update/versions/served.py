@@ -1,104 +1,110 @@
 """The tables of a version as they are served: with moving walls, with coverage to the day, and large ones in parts.
 
 Run as a program it prints a file as it came, prepared and with coverage as of a day: served.py FILE YYYY-MM-DD"""
-import datetime, os, sys
-from openlink_update.tables import coverage, embargoes, parts, preparation
+import datetime
+import os
+import sys
+from collections.abc import Iterable, Iterator, Sequence
+from pathlib import Path
+
 from openlink_update.outcome import Failure, Refused
-from openlink_update.tables.table_cells import bytes_of, cells_of
+from openlink_update.tables import coverage, parts, preparation
+from openlink_update.tables.registry import entries_of
+from openlink_update.tables.table import Table
+from openlink_update.versions.target_list import Target
 
 
-def names_in(version):
+def names_in(version: str | os.PathLike[str]) -> list[str]:
     """The names in the registry of a version, in the order of its menu."""
-    with open(os.path.join(version, "registry.tsv"), encoding="utf-8") as file:
-        return [line.split("\t")[0] for line in file if line.strip()]
+    return [entry.name for entry in entries_of(Path(version, "registry.tsv"))]
 
 
-def targets_in(version):
+def targets_in(version: str | os.PathLike[str]) -> list[str]:
     """The names of its targets, each once although its table has parts."""
     return list(dict.fromkeys(map(parts.base_of, names_in(version))))
 
 
-def path_of(part):
+def path_of(part: str) -> str:
     """The path of a table below a version."""
     return f"tables/{part}.txt"
 
 
-def cells_in(version, names):
-    """The header and the rows of the tables of a version with these names."""
+def tables_in(version: Path, names: Iterable[str]) -> Iterator[Table]:
+    """The tables of a version with these names, as they are served."""
     for name in names:
-        with open(os.path.join(version, path_of(name)), "rb") as file:
-            yield cells_of(file.read())
+        yield Table.parse((version / path_of(name)).read_bytes())
+
+
+def divided(table: Table, places: dict[str, Sequence[int]]) -> Iterator[tuple[str, Table]]:
+    """The parts of a table by their names, for the places of the rows of each."""
+    for name, rows in places.items():
+        yield name, table if len(places) == 1 else table.of_rows(rows)
 
 
 class Tables:
     """The tables of a version that is being made."""
 
-    def __init__(self, folder, today):
-        self.folder, self.today = folder, today
-        self.places = {}  # by target: the names of the parts of its table, each with the places of its rows
-        self.told = {}    # by target: what was found while its table was made
+    def __init__(self, folder: Path, today: datetime.date) -> None:
+        self._folder, self._today = folder, today
+        self._places: dict[str, dict[str, Sequence[int]]] = {}  # by target and part
+        self.lines: dict[str, list[str]] = {}  # by target: what was found while its table was made
 
-    def put(self, target, table):
-        """Makes the table of a target from the one that came. Returns why it cannot be used."""
+    def put(self, target: Target, prepared: Table) -> list[str]:
+        """Makes the table of a target from the prepared one. Returns why it cannot be used."""
         try:
-            header, rows = cells_of(table)
-            rows = embargoes.with_walls(header, rows, self.today)
-            header, rows, self.told[target.name] = coverage.step(header, rows, self.today)
-            made = parts.tables_of(target.name, header, rows)
+            table, lines = coverage.served(prepared, self._today)
+            data = table.to_bytes()
+            places = parts.parts_of(target.name, table, len(data))
         except Refused as refusal:
             return [f"{target.table}: {reason}" for reason in refusal.reasons]
-        self.places[target.name] = {part: places for part, (_, places) in made.items()}
-        if len(made) > 1:
-            self.told[target.name].append(f"{len(made)} parts: {', '.join(made)}")
-        for part, (data, _) in made.items():
-            with open(os.path.join(self.folder, path_of(part)), "wb") as file:
-                file.write(data)
+        self._places[target.name] = places
+        self.lines[target.name] = lines
+        if len(places) == 1:
+            (self._folder / path_of(target.name)).write_bytes(data)
+            return []
+        lines.append(f"{len(places)} parts: {', '.join(places)}")
+        for name, part in divided(table, places):
+            (self._folder / path_of(name)).write_bytes(part.to_bytes())
         return []
 
-    def discard(self, name):
-        for part in self.places.pop(name, ()):
-            os.unlink(os.path.join(self.folder, path_of(part)))
+    def discard(self, name: str) -> None:
+        for part in self._places.pop(name, ()):
+            (self._folder / path_of(part)).unlink()
 
-    def parts_of(self, name):
+    def parts_of(self, name: str) -> list[str]:
         """The names of the parts of a target's table; none if it cannot be used."""
-        return list(self.places.get(name, ()))
+        return list(self._places.get(name, ()))
 
-    def is_same(self, name, version):
+    def divided(self, name: str, prepared: Table) -> Iterator[tuple[str, Table]]:
+        """The parts of a target's table by their names, each with its rows without walls."""
+        return divided(prepared, self._places[name])
+
+    def is_same(self, name: str, version: Path) -> bool:
         """Whether a version has the same table of a target."""
         paths = [path_of(part) for part in self.parts_of(name)]
-        return all(contents(os.path.join(self.folder, path)) == contents(os.path.join(version, path)) for path in paths)
+        return all(_content(self._folder / path) == _content(version / path) for path in paths)
 
-    def registry(self, targets):
+    def registry(self, targets: Iterable[str]) -> bytes:
         """The registry of these targets. A Failure says which have parts, if the program would reject it."""
-        lines = [f"{part}\tcode/{name}.olk\t{path_of(part)}\n" for name in targets for part in self.parts_of(name)]
+        counts = {name: len(self.parts_of(name)) for name in targets}
+        lines = [f"{part}\tcode/{name}.olk\t{path_of(part)}\n" for name in counts for part in self.parts_of(name)]
         registry = "".join(lines).encode()
-        fault = parts.fault_of({name: len(self.parts_of(name)) for name in targets}, registry)
+        fault = parts.fault_of(counts, registry)
         if fault:
             raise Failure(fault)
         return registry
 
-    def for_index(self, name, table):
-        """Yields the names of the parts of a target's table, each with its rows as they came."""
-        if len(self.places[name]) == 1:
-            yield name, table
-            return
-        header, rows = cells_of(table)
-        for part, places in self.places[name].items():
-            yield part, bytes_of(header, [rows[place] for place in places])
+
+def prepared_table(path: str, day: datetime.date) -> bytes:
+    """The table of a file as it came, with coverage to a day and its own last dates."""
+    table = preparation.prepare([(path, Path(path).read_bytes())]).table
+    return coverage.served(table, day, has_walls=False)[0].to_bytes()
 
 
-def prepared_table(path, day):
-    """The table of a file as it came, with its own last dates."""
-    with open(path, "rb") as file:
-        header, rows, _ = coverage.step(*cells_of(preparation.prepare([(path, file.read())]).table), day)
-    return bytes_of(header, rows)
-
-
-def contents(path):
+def _content(path: Path) -> bytes | None:
     """The bytes of a file, or None if there is none."""
     try:
-        with open(path, "rb") as file:
-            return file.read()
+        return path.read_bytes()
     except FileNotFoundError:
         return None
 

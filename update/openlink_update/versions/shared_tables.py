@@ -3,63 +3,76 @@ take what it has made. Only the bytes of a table count, so no update can tell th
 
 The run for several libraries makes a folder for this, and marks what is shared: the files of the folder `shared`, and
 what more than one library has received as one file. Without such a folder each table is prepared when it is needed."""
-import collections, hashlib, json, os
+import collections
+import hashlib
+import json
+import os
+from collections.abc import Iterable, Sequence
+from typing import Any
+
 from openlink_update.tables import preparation
+from openlink_update.tables.preparation import Prepared
+from openlink_update.tables.table import Table
 
-MARKS = "marks"
-folder: "str | os.PathLike[str] | None" = None  # that of this run
+_MARKS = "marks"
+folder: str | os.PathLike[str] | None = None  # that of this run
 
 
-def sum_of(path):
+def _sum_of(path: str) -> str:
     with open(path, "rb") as file:
         return hashlib.sha256(file.read()).hexdigest()
 
 
-def mark(place, shared, versions):
+def mark(place: str, shared: str | os.PathLike[str], versions: Iterable[str | os.PathLike[str]]) -> None:
     """Writes the sums of the files that are shared: those below a folder, and those that several versions have."""
     paths = [os.path.join(below, name) for below, _, names in os.walk(shared) for name in names]
-    owners = collections.defaultdict(list)
+    owners: dict[int, list[str]] = collections.defaultdict(list)
     for received in (os.path.join(version, "received") for version in versions):
         for entry in os.scandir(received) if os.path.isdir(received) else ():
             owners[entry.inode()].append(entry.path)
-    paths += [found[0] for found in owners.values() if len(found) > 1]
+    paths += [names[0] for names in owners.values() if len(names) > 1]
     sums = set()
     for path in paths:
         try:
-            sums.add(sum_of(path))
+            sums.add(_sum_of(path))
         except OSError:
             pass  # the update that needs the file says so
-    with open(os.path.join(place, MARKS), "w", encoding="utf-8") as file:
-        file.writelines(f"{it}\n" for it in sorted(sums))
+    with open(os.path.join(place, _MARKS), "w", encoding="utf-8") as file:
+        file.writelines(f"{total}\n" for total in sorted(sums))
 
 
-def prepare(files):
+def prepare(files: Sequence[tuple[str, bytes]]) -> Prepared:
     """Prepares the files of a target, pairs of a path and bytes, as preparation does."""
-    path = path_of(files)
+    path = _path_of(files)
     if path is None:
         return preparation.prepare(files)
     try:
         with open(path, encoding="utf-8") as file:
-            made = json.load(file)
-        return preparation.Prepared(**{**made, "table": made["table"].encode()})
+            return _of_json(json.load(file))
     except FileNotFoundError:
         pass
-    made = preparation.prepare(files)
+    prepared = preparation.prepare(files)
     try:
         with open(f"{path}.new", "w", encoding="utf-8") as file:
-            json.dump({**vars(made), "table": made.table.decode()}, file)
+            json.dump({**vars(prepared), "table": vars(prepared.table)}, file)
         os.replace(f"{path}.new", path)
     except OSError:
         pass  # no room: the next update prepares it again
-    return made
+    return prepared
 
 
-def path_of(files):
+def _of_json(value: dict[str, Any]) -> Prepared:
+    table = Table(tuple(value["table"]["columns"]), value["table"]["rows"])
+    pairs = [(first, last) for first, last in value["reversed"]]
+    return Prepared(**{**value, "table": table, "reversed": pairs})
+
+
+def _path_of(files: Sequence[tuple[str, bytes]]) -> str | None:
     """Where the run keeps what is made of these files; None if they are not shared."""
     if folder is None:
         return None
     sums = [hashlib.sha256(data).hexdigest() for _, data in files]
-    with open(os.path.join(folder, MARKS), encoding="utf-8") as file:
+    with open(os.path.join(folder, _MARKS), encoding="utf-8") as file:
         if not {*sums} <= {line.rstrip("\n") for line in file}:
             return None
     # The messages about several files have their names.

@@ -29,8 +29,10 @@ def check(text, width=1):
     for line in LINE[type(text)].finditer(text):
         start, end = line.span()
         if (end - start) * width > MOST_LINE_BYTES:
-            raise Unreadable(f"line {lines_before(text, start) + 1:,} has {(end - start) * width:,} bytes, and "
-                             f"{MOST_LINE_BYTES:,} are possible: is it a table, with an end of line after each row?")
+            raise Unreadable(
+                f"line {lines_before(text, start) + 1:,} has {(end - start) * width:,} bytes, and "
+                f"{MOST_LINE_BYTES:,} are possible: is it a table, with an end of line after each row?"
+            )
         check_columns(text.count(tab, start, end) + 1, lambda: lines_before(text, start) + 1)
 
 

@@ -1,7 +1,7 @@
 """Archives, which are known by their first bytes: the file in a .gz, and a member of a .zip. What they unpack to is
 counted while it is unpacked, a chunk at a time."""
 import gzip, io, zipfile, zlib
-from openlink_update.tables import table_limits
+from openlink_update.received import limits
 from openlink_update.outcome import Unreadable
 
 GZIP, ZIP = b"\x1f\x8b", (b"PK\x03\x04", b"PK\x05\x06")
@@ -28,15 +28,16 @@ def gunzipped(data):
 
 
 def unzipped(data, member):
-    if data.count(ENTRY) > table_limits.MOST_MEMBERS:
-        raise Unreadable(f"a zip file with more than {table_limits.MOST_MEMBERS:,} members: pack the table alone")
+    if data.count(ENTRY) > limits.MOST_MEMBERS:
+        raise Unreadable(f"a zip file with more than {limits.MOST_MEMBERS:,} members: pack the table alone")
     try:
         with zipfile.ZipFile(io.BytesIO(data)) as archive:
             names = [name for name in archive.namelist() if name and not name.endswith("/")]
             info = archive.getinfo(chosen(names, member))
             if info.compress_type not in METHODS:
-                raise Unreadable(f"a zip file packed by {method_of(info)}: pack it with the usual method, deflate, or "
-                                 "as .gz")
+                raise Unreadable(
+                    f"a zip file packed by {method_of(info)}: pack it with the usual method, deflate, or " "as .gz"
+                )
             with archive.open(info) as file:
                 return content(file)
     except Unreadable:
@@ -55,7 +56,7 @@ def content(file):
     made, size = io.BytesIO(), 0
     while chunk := file.read(CHUNK):
         size += len(chunk)
-        table_limits.check_size(size)
+        limits.check_size(size)
         made.write(chunk)
     return made.getvalue()
 
@@ -67,8 +68,11 @@ def chosen(names, member):
         return fitting[0]
     if SPREADSHEET in names:
         raise Unreadable("a spreadsheet: save it as text with tabs")
-    raise Unreadable(f"a zip file with {len(fitting)} members that fit {member}" if member != "*"
-                     else f"a zip file with {len(fitting)} members: name one by `member PATTERN` in sources.tsv")
+    raise Unreadable(
+        f"a zip file with {len(fitting)} members that fit {member}"
+        if member != "*"
+        else f"a zip file with {len(fitting)} members: name one by `member PATTERN` in sources.tsv"
+    )
 
 
 def fits(name, pattern):

@@ -3,15 +3,35 @@ with fewer than LEAST names of KBART is used as it is, with its first line as th
 do not match reject a file: one that is not closed would take the rows after it into its cell."""
 import csv, itertools, re
 from openlink_update.outcome import Unreadable
-from openlink_update.tables.table_limits import MOST_LINE_BYTES, check_columns
+from openlink_update.received.limits import MOST_LINE_BYTES, check_columns
 
 # The 25 columns of NISO RP-9-2014.
 COLUMNS = (
-    "publication_title", "print_identifier", "online_identifier", "date_first_issue_online", "num_first_vol_online",
-    "num_first_issue_online", "date_last_issue_online", "num_last_vol_online", "num_last_issue_online", "title_url",
-    "first_author", "title_id", "embargo_info", "coverage_depth", "notes", "publisher_name", "publication_type",
-    "date_monograph_published_print", "date_monograph_published_online", "monograph_volume", "monograph_edition",
-    "first_editor", "parent_publication_title_id", "preceding_publication_title_id", "access_type",
+    "publication_title",
+    "print_identifier",
+    "online_identifier",
+    "date_first_issue_online",
+    "num_first_vol_online",
+    "num_first_issue_online",
+    "date_last_issue_online",
+    "num_last_vol_online",
+    "num_last_issue_online",
+    "title_url",
+    "first_author",
+    "title_id",
+    "embargo_info",
+    "coverage_depth",
+    "notes",
+    "publisher_name",
+    "publication_type",
+    "date_monograph_published_print",
+    "date_monograph_published_online",
+    "monograph_volume",
+    "monograph_edition",
+    "first_editor",
+    "parent_publication_title_id",
+    "preceding_publication_title_id",
+    "access_type",
 )
 LEAST = 3  # names of a header
 MOST_LINES = 20  # in which it is searched
@@ -66,8 +86,11 @@ def find(lines):
 
 def known_names(line, separator):
     try:
-        cells = next(csv.reader([f"{line}\n"], delimiter=separator, strict=True), []) if separator != "\t" else (
-            line.split("\t"))
+        cells = (
+            next(csv.reader([f"{line}\n"], delimiter=separator, strict=True), [])
+            if separator != "\t"
+            else (line.split("\t"))
+        )
     except csv.Error:
         return set()
     return {spelling(cell) for cell in cells} & NAMES.keys()
@@ -108,16 +131,21 @@ def table_of(text):
     names = spelled(parsed[0])
     above = sum(1 for line in top[:before] if line)
     changed = sum(name != cell for name, cell in zip(names, parsed[0]))
-    return names, parsed[1:], told(
-        (f"{SEPARATORS[separator]} between cells", len(parsed) - 1 if separator != "\t" else 0, "row"),
-        ("above the header, left out", above, "line"),
-        ("names of columns as the standard spells them", changed, "cell"))
+    return (
+        names,
+        parsed[1:],
+        lines_of_counts(
+            (f"{SEPARATORS[separator]} between cells", len(parsed) - 1 if separator != "\t" else 0, "row"),
+            ("above the header, left out", above, "line"),
+            ("names of columns as the standard spells them", changed, "cell"),
+        ),
+    )
 
 
-def told(*counts):
+def lines_of_counts(*counts: tuple[str, int, str]) -> list[str]:
     """A line for each count above 0: what was done, and to how many."""
     return [f"{what}: {number(count, noun)}" for what, count, noun in counts if count]
 
 
-def number(count, noun):
+def number(count: int, noun: str) -> str:
     return f"{count} {noun}" if count == 1 else f"{count} {noun}s"

@@ -1,7 +1,7 @@
 """The text of a file as it came: UTF-8, UTF-16 with its byte order mark, or windows-1252. A line that is not UTF-8 is
 read as windows-1252, and not the file, since files that a provider joined have lines of both."""
 import re
-from openlink_update.tables import table_limits
+from openlink_update.received import limits
 from openlink_update.outcome import Unreadable
 
 UTF_8, UTF_16 = b"\xef\xbb\xbf", (b"\xff\xfe", b"\xfe\xff")  # their byte order marks
@@ -18,13 +18,13 @@ def text_of(data):
             text = data.decode("utf-16")
         except UnicodeDecodeError as fault:
             raise Unreadable("UTF-16 that is cut short or damaged") from fault
-        table_limits.check(text, width=2)
+        limits.check(text, width=2)
         text = with_line_feeds(text)
         count = text.rstrip("\n").count("\n") + 1
         told = [f"UTF-16: {count} lines"]
     else:
         data = data.removeprefix(UTF_8)
-        table_limits.check(data)
+        limits.check(data)
         text, told = decoded(data)
     if "\0" in text:
         raise Unreadable("it has bytes of zero, as UTF-16 has without a byte order mark")

@@ -1,0 +1,63 @@
+"""How often a week takes a table apart, puts it together and prepares it: counted at the only functions that do so."""
+import contextlib
+from pathlib import Path
+from unittest import mock
+
+from counting import expect
+from openlink_update.exports import export_files
+from openlink_update.site.front_door import Site
+from openlink_update.tables import preparation
+from openlink_update.tables.table import Table
+from openlink_update.versions import making
+from versions import Weeks, table
+
+
+def rows(count):
+    return [(f"Title {number}", f"{3000 + number}-0000", "", "1995", "", "", "t", "P6M") for number in range(count)]
+
+
+@contextlib.contextmanager
+def counted():
+    """Counts while the block lasts: parses, serialisations, preparations."""
+    counts = [0, 0, 0]
+
+    def counting(place, work):
+        def counted_work(*given):
+            counts[place] += 1
+            return work(*given)
+        return counted_work
+
+    parse, to_bytes, prepare = Table.parse, Table.to_bytes, preparation.prepare
+    with mock.patch.object(Table, "parse", counting(0, parse)), \
+            mock.patch.object(Table, "to_bytes", counting(1, to_bytes)), \
+            mock.patch.object(preparation, "prepare", counting(2, prepare)):
+        yield counts
+
+
+def whole_week(weeks):
+    """Makes a version with its index and its exports, unless nothing is new, as a run does. Returns whether it is."""
+    older = weeks.version
+    weeks.make()
+    if older and making.is_same(weeks.version, older):
+        return False
+    weeks.maker.make_index(True)
+    export_files.make(Path(weeks.version), weeks.maker.tables_for_export(), Site("/nonexistent"), None)
+    weeks.maker.remove_prepared()
+    return True
+
+
+def test_passes():
+    with Weeks() as weeks:
+        for name, data, expected_new, most in (
+                ("a new target", table(*rows(20)), True, (2, 2, 1)),
+                ("a changed table", table(*rows(21)), True, (3, 2, 2)),
+                ("the same table", table(*rows(21)), False, (0, 2, 1))):
+            weeks.deliver("x", data)
+            with counted() as counts:
+                is_new = whole_week(weeks)
+            expect(f"{name}: whether a version is new", is_new, expected_new)
+            expect(f"{name}: parses, serialisations, preparations: {counts}, and {most} are possible",
+                   counts[2] > 0 and all(count <= limit for count, limit in zip(counts, most)))
+
+
+TESTS = [test_passes]

@@ -1,0 +1,72 @@
+"""The rows of a holdings table that have a title and a number, as the index has them. An entry of the coverage is, with
+spaces between: target or part, the row as the report counts it (`link R`), first date, last date, embargo. A date is
+YYYY, YYYY-MM or YYYY-MM-DD, an embargo one or two parts such as P1Y, with a comma between them. `-` is a missing part;
+at the end of an entry, missing parts are left out."""
+import dataclasses
+from collections.abc import Iterator
+
+from openlink_update.index.titles import MOST_CHARACTERS, plain
+from openlink_update.tables.embargo import Embargo
+from openlink_update.tables.identifiers import form_of, is_issn
+from openlink_update.tables.row_dates import NONE, date_in
+from openlink_update.tables.table import Table, cell
+
+PRINT, ONLINE = 1, 2
+_COLUMNS = (
+    "publication_title",
+    "print_identifier",
+    "online_identifier",
+    "date_first_issue_online",
+    "date_last_issue_online",
+    "embargo_info",
+    "publication_type",
+    "title_id",
+    "preceding_publication_title_id",
+)
+
+
+@dataclasses.dataclass(frozen=True)
+class Row:
+    title: str
+    numbers: list[str]  # forms, the print one first
+    columns: int  # PRINT, ONLINE or both
+    is_journal: bool
+    coverage: str  # an entry of the index
+    title_id: str
+    preceding_id: str
+
+
+def rows_of(target: str, table: Table) -> Iterator[Row]:
+    """Yields the rows of a target's table that belong in the index."""
+    places = table.places(_COLUMNS)
+    for number, cells in enumerate(table.rows):
+        row = _row_of(target, number, [cell(cells, place) for place in places])
+        if row is not None:
+            yield row
+
+
+def _row_of(target: str, number: int, cells: list[str]) -> Row | None:
+    title, printed, online, first, last, embargo, kind, title_id, preceding_id = cells
+    forms: list[str] = []
+    columns = 0
+    for form, column in ((form_of(printed), PRINT), (form_of(online), ONLINE)):
+        if form:
+            columns |= column
+            forms += [form] * (form not in forms)
+    title = plain(title)[:MOST_CHARACTERS] if forms else ""
+    if not title:
+        return None
+    coverage = f"{target} {number} {date_in(first)} {date_in(last)} {embargo_in(embargo)}"
+    while coverage.endswith(f" {NONE}"):
+        coverage = coverage[:-2]
+    return Row(title, forms, columns, _is_journal(kind, forms), coverage, title_id, preceding_id)
+
+
+def _is_journal(kind: str, forms: list[str]) -> bool:
+    """Whether a row is one of a journal: by its numbers if publication_type does not say that it is a book."""
+    return kind.strip().lower() != "monograph" and any(map(is_issn, forms))
+
+
+def embargo_in(text: str) -> str:
+    embargo = Embargo.parse(text)
+    return embargo.index_text if embargo is not None else NONE
