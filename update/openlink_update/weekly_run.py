@@ -134,7 +134,8 @@ class Run:
 
     def _export(self, maker: Maker, version: Path) -> None:
         """Writes the version's holdings for others."""
-        targets = Path(self.names_file.path_in(version))
+        path = self.names_file.path_in(version)
+        targets = Path(path) if path else None
         fault = export_files.make(version, maker.tables_for_export(), self._site, targets)
         if fault:
             report(f"the lists for others name targets without labels: {fault}")

@@ -85,7 +85,7 @@ def table_in(data: bytes, source: Source) -> bytes:
     # Loaded here, since a run that gets no file needs no reader of tables.
     from openlink_update.received import archives, texts
 
-    inner = archives.unpacked(data, source.member or "*")
+    inner: bytes = archives.unpacked(data, source.member or "*")
     text = texts.text_of(inner)[0]
     if not text.strip():
         raise Unreadable("empty")
