@@ -352,7 +352,7 @@ def test_hostile(site):
 
 def test_hostile_labels(site):
     path = site.path("openlink/targets.json")
-    words = {name: HOSTILE for name in targets.words()}
+    words = {name: HOSTILE for name in targets.names_of_words()}
     with open(site.path("openlink/words/de.json"), "w") as file:
         json.dump({**words, "volume": 3, "heading": {"de": HOSTILE}, "issue": None}, file)
     with open(path, "w") as file:

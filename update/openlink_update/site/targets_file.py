@@ -45,7 +45,7 @@ _MOST_DEPTH = 31  # objects and lists in each other; njs 0.7.9 reads no more
 _MOST_FAULTS, _MOST_CHARACTERS = 10, 40  # of those in the values, and of a name in them
 
 
-def _names_of_words() -> set[str]:
+def names_of_words() -> set[str]:
     """Returns the names that `words` may have."""
     return {*json.loads(_SAMPLE.read_text(encoding="utf-8")), *OF_THE_LIBRARY}
 
@@ -241,7 +241,7 @@ def faults_of(data: bytes, loaded: Collection[str] | None = None) -> list[str]:
     faults += [f"unknown name {json.dumps(name)}" for name in site if name not in known]
     languages = _languages_of(site, loaded, faults)
     _logo_and_links(site, languages, faults)
-    _texts("words", site.get("words", {}), _names_of_words(), languages, faults)
+    _texts("words", site.get("words", {}), names_of_words(), languages, faults)
     _problem_link(site, faults)
     _texts("scholar", site.get("scholar", {}), _SCHOLAR, languages, faults)
     if not str(site.get("folder", "/")).startswith("/"):
