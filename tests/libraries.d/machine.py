@@ -67,6 +67,7 @@ class Machine:
         """What OPERATING.md installs, with the paths and ports of this folder."""
         self.share = self.path("usr/local/share/openlink")
         installation.install(self.share)
+        shutil.copytree(f"{installation.TOP}/packaging/systemd", f"{self.share}/systemd")  # for systemctl
         pairs = [(it, self.folder + it) for it in ("/usr/local/share/openlink/", "/etc/openlink/", "/etc/nginx/",
                                                    "/var/log/nginx/", "/var/www/html")]
         pairs += [("127.0.0.1:8079", f"127.0.0.1:{self.local}"), ("#listen [::]:80", "#listen none"),
