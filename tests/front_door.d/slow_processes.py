@@ -1,6 +1,7 @@
 """A process that takes five seconds for a menu. Readers get no page of it, and so no probe of an update may hold there:
 both ask the processes by the same file of front_door."""
 import contextlib, select, socket, threading
+from pathlib import Path
 from openlink_update.site import front_door, probes
 from cut_short import ARTICLE, WHOLE
 
@@ -48,8 +49,9 @@ def links_at(address):
 
 def test(site, expect):
     """All processes have ended."""
-    with front_door.FrontDoor(front_door.Site(site.path("openlink.conf")), site.path("trial")) as doors:
-        door = doors.add_door(site.ports[:1], site.version(), "")
+    of_update = front_door.Site(Path(site.path("openlink.conf")))
+    with front_door.FrontDoor(of_update, Path(site.path("trial"))) as doors:
+        door = doors.add_door(site.ports[:1], Path(site.version()), "")
         doors.start()
         refused = f"status 503 for /find.json?{ARTICLE}"
         for seconds, expected in ((0, ["tidal-press"]), (SECONDS, refused)):
