@@ -91,9 +91,11 @@ class RunnerCase(Case):
         self.write(f"tests/sources/test_{name}.py", IMPORTS + text)
 
     def start(self, *arguments: str) -> subprocess.Popen[str]:
+        """Starts the runner. What a shell starts in the background ignores an interrupt; the runner does not here."""
         path = f"{self.top}/bin:{os.environ['PATH']}"
         how: dict[str, Any] = {"cwd": self.top, "env": {**os.environ, "PATH": path, "OPENLINK_JOBS": "4"},
-                               "stdout": subprocess.PIPE, "stderr": subprocess.STDOUT, "encoding": "utf-8"}
+                               "stdout": subprocess.PIPE, "stderr": subprocess.STDOUT, "encoding": "utf-8",
+                               "preexec_fn": lambda: signal.signal(signal.SIGINT, signal.SIG_DFL)}
         return subprocess.Popen([sys.executable, "-B", "test", *arguments], **how)
 
     def given(self, *arguments: str) -> tuple[int, list[str]]:
@@ -192,9 +194,13 @@ class Names(RunnerCase):
             self.expect(f"{arguments}: {lines}", (status, any("passed" in it for it in lines)), (2, False))
 
     def test_a_script_of_a_module(self) -> None:
-        """A script with the name of a module is no test of its own."""
+        """A script with the name of a module of sources/ is no test of its own; one with that of another is."""
         self.write("tests/sums", "#!/bin/sh\nexit 1\n", 0o755)
         self.expect("all tests", self.given()[1][-1], "7 passed, 0 failed")
+        self.write("tests/others/__init__.py", "")
+        self.write("tests/others/test_links.py", IMPORTS + GOOD)
+        self.write("tests/links", "#!/bin/sh\nexit 1\n", 0o755)
+        self.expect("with the name of another module", self.given()[1][-1], "10 passed, 1 failed")
 
 
 class Installation(RunnerCase):

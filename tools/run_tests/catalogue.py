@@ -49,8 +49,9 @@ def modules() -> list[Test]:
 
 
 def scripts(beside: list[Test]) -> list[Test]:
-    """The scripts directly in tests/. One that has the name of a module runs that module alone, and is no test."""
-    taken = {it.name.rpartition(".")[2] for it in beside}
+    """The scripts directly in tests/. One that has the name of a module of sources/ runs that module alone, and is no
+    test."""
+    taken = {it.name.removeprefix(f"{EARLY}.") for it in beside if it.name.startswith(f"{EARLY}.")}
     names = sorted(it for it in os.listdir("tests") if os.path.isfile(f"tests/{it}"))
     return [Test(it, "script", [f"tests/{it}"]) for it in names if "." not in it and f"test_{it}" not in taken]
 
