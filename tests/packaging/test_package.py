@@ -22,7 +22,6 @@ LINKS = {
     "usr/sbin/openlink-fetch": "../share/openlink/fetch",
     "usr/sbin/openlink-library": "../share/openlink/library",
     "usr/sbin/openlink-update": "../share/openlink/update",
-    f"{SHARE}/update.d/targets_file.py": "../targets",
 }
 # The folder of the package for each folder of declarations, and the least number of these.
 INSTALLED = {
@@ -126,7 +125,8 @@ class Package(Case):
             and stat.S_IMODE(it.st_mode) not in ((0o755,) if stat.S_ISDIR(it.st_mode) else (0o644, 0o755))
         }
         self.expect("other modes than 644 and 755", others, {})
-        programs = ["usr/bin/openlink", *(f"{SHARE}/{os.path.basename(it)}" for it in LINKS.values())]
+        programs = ["usr/bin/openlink", f"{SHARE}/targets", f"{SHARE}/update.d/targets_file.py"]
+        programs += [f"{SHARE}/{os.path.basename(it)}" for it in LINKS.values()]
         self.expect("programs", [it for it in programs if not members[it].st_mode & 0o111], [])
         words = subprocess.run(["dpkg-deb", "-c", self.file], check=True, capture_output=True, text=True).stdout
         owners = {line.split()[1] for line in words.splitlines()}
