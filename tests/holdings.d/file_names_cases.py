@@ -6,7 +6,7 @@ from providers import Providers
 
 PROVIDERS = Providers(TABLE)
 AUTHORITY = PROVIDERS.path("authority.pem")
-NAMES = ("../targets.tsv", "../../targets.tsv", "/tmp/targets.tsv", "targets.tsv", "secrets.tsv", ".fetch/state.json")
+NAMES = ("../targets.tsv", "../../targets.tsv", "/srv/targets.tsv", "targets.tsv", "secrets.tsv", ".fetch/state.json")
 
 
 def zipped(name):
