@@ -1,8 +1,9 @@
 """The words of a JavaScript text: names, numbers, texts, regular expressions and signs, each with its line."""
-import re
-from collections import namedtuple
+from __future__ import annotations
 
-Word = namedtuple("Word", "kind text line")
+import re
+from typing import NamedTuple
+
 SPACE = re.compile(r"\s+|//[^\n]*|/\*.*?\*/", re.S)
 FORMS = (
     ("name", re.compile(r"[A-Za-z_$][\w$]*")),
@@ -16,14 +17,20 @@ VALUES = ("name", "number", "text", "template")
 NO_VALUES = {"return", "typeof", "case", "in", "of", "await", "else"}
 
 
-def words_of(text):
+class Word(NamedTuple):
+    kind: str
+    text: str
+    line: int
+
+
+def words_of(text: str) -> list[Word]:
     """Returns the words of a text. The words in a place `${..}` of a template literal are there in brackets."""
-    words = []
+    words: list[Word] = []
     read(text, 0, 1, words, "")
     return words
 
 
-def read(text, at, line, words, end):
+def read(text: str, at: int, line: int, words: list[Word], end: str) -> tuple[int, int]:
     """Reads up to the closing bracket `end` of a template's place, or to the end of the text."""
     depth = 0
     while at < len(text):
@@ -43,7 +50,7 @@ def read(text, at, line, words, end):
     return at, line
 
 
-def read_template(text, at, line, words):
+def read_template(text: str, at: int, line: int, words: list[Word]) -> tuple[int, int]:
     words.append(Word("template", "`", line))
     while text[at] != "`":
         if text.startswith("${", at):
@@ -57,17 +64,16 @@ def read_template(text, at, line, words):
     return at + 1, line
 
 
-def next_word(text, at, line, words):
-    if text[at] == "/" and not divides(words):
-        return Word("expression", EXPRESSION.match(text, at)[0], line)
-    for kind, form in FORMS:
+def next_word(text: str, at: int, line: int, words: list[Word]) -> Word:
+    starts_expression = text[at] == "/" and not divides(words)
+    for kind, form in [("expression", EXPRESSION)] if starts_expression else FORMS:
         found = form.match(text, at)
         if found:
             return Word(kind, found[0], line)
     raise ValueError(f"line {line}: {text[at:at + 20]!r}")
 
 
-def divides(words):
+def divides(words: list[Word]) -> bool:
     if not words:
         return False
     last = words[-1]

@@ -1,7 +1,8 @@
-#!/usr/bin/env python3
-"""Checks the package of the update and its commands: mypy and black, if they are installed, and pyflakes have nothing
-to say; no file changes the path of imports or loads a script as a module; each public name of a module is used outside
-of it; and openlink-fetch loads few modules. Each of these refuses a copy with a mistake in it."""
+"""Checks the package of the update and its commands: mypy, black and pyflakes have nothing to say; no file changes the
+path of imports or loads a script as a module; each public name of a module is used outside of it; and openlink-fetch
+loads few modules. Each of these refuses a copy with a mistake in it."""
+from __future__ import annotations
+
 import ast
 import os
 import re
@@ -12,7 +13,11 @@ import tempfile
 from collections.abc import Iterator
 from pathlib import Path
 
-TOP = Path(__file__).resolve().parent.parent
+import fixtures
+from fixtures import needs
+from fixtures.cases import Case
+
+TOP = Path(fixtures.TOP)
 PACKAGE = "openlink_update"
 COMMANDS = ("update", "fetch", "library", "holdings", "probe", "targets")
 AMONG = ("weekly_run.py", "report.py", "input_files.py", "fetch/sources.py", "versions/library.py")
@@ -61,10 +66,9 @@ def said(words: list[str], folder: Path) -> list[str]:
     return lines or [f"{words[0]} ended with status {process.returncode}"] if process.returncode else []
 
 
-def faults_of_tool(name: str, folder: Path, paths: list[Path]) -> list[str]:
-    if not shutil.which(name):
-        return []
-    lines = said([*TOOLS[name], *map(str, paths)], folder)
+def faults_of_tool(name: str, folder: Path, paths: list[Path], command: str) -> list[str]:
+    """What a tool, or another command in its place, says of these files."""
+    lines = said([command or name, *TOOLS[name][1:], *map(str, paths)], folder)
     # A call to a function without annotations is the fault of its module.
     return [line for line in lines if not LATER.match(line) and "[no-untyped-call]" not in line]
 
@@ -110,7 +114,7 @@ def python_files(folder: Path) -> Iterator[Path]:
 
 
 def faults_of_names(folder: Path) -> Iterator[str]:
-    used = set()
+    used: set[tuple[str, str]] = set()
     for path in python_files(folder):
         used.update(uses_in(ast.parse(path.read_text(encoding="utf-8"))))
     for path in modules(folder):
@@ -138,42 +142,87 @@ print(*(name for name in sys.modules if name.startswith("{PACKAGE}")))"""
 OTHERS = {"words": faults_of_words, "names": faults_of_names, "modules": faults_of_modules}
 
 
-def faults_of(kind: str, folder: Path, paths: list[Path]) -> list[str]:
+def faults_of(kind: str, folder: Path, paths: list[Path], command: str = "") -> list[str]:
     """What a tool says of these files, or another check of all."""
-    return list(OTHERS[kind](folder)) if kind in OTHERS else faults_of_tool(kind, folder, paths)
+    return list(OTHERS[kind](folder)) if kind in OTHERS else faults_of_tool(kind, folder, paths, command)
 
 
-def faults_of_this() -> Iterator[str]:
-    """What this check does not see in spoilt copies."""
-    for name, addition, refused_by in SPOILT:
-        if refused_by in TOOLS and not shutil.which(refused_by):
-            continue
-        with tempfile.TemporaryDirectory() as place:
-            folder = Path(place) / "update"
-            shutil.copytree(TOP / "update", folder, symlinks=True, ignore=shutil.ignore_patterns("__pycache__"))
-            with open(folder / PACKAGE / name, "a", encoding="utf-8") as file:
-                file.write(addition)
-            if not faults_of(refused_by, folder, [folder / PACKAGE / name]):
-                yield f"a copy of {name} with {addition!r} is not refused ({refused_by})"
-
-
-def main() -> int:
-    folder = TOP / "update"
-    every = modules(folder)
-    kinds = (*TOOLS, *OTHERS)
-    faults = [f"{kind}: {line}" for kind in kinds for line in faults_of(kind, folder, checked(folder))]
-    faults += [f"{name} is not found" for name in AMONG if folder / PACKAGE / name not in every]
+def faults_of_numbers(every: list[Path], folder: Path) -> Iterator[str]:
+    """Too few modules: then the other checks say nothing."""
+    yield from (f"{name} is not found" for name in AMONG if folder / PACKAGE / name not in every)
     if len(every) < LEAST:
-        faults.append(f"{len(every)} modules, and there are at least {LEAST}")
-    faults += faults_of_this() if not faults else []
-    for fault in faults:
-        print(f"tests/python: {fault}", file=sys.stderr)
-    lacking = [name for name in TOOLS if not shutil.which(name)]
-    if not faults:
-        skipped = "".join(f"; {name} is not installed: apt-get install {name}" for name in lacking)
-        print(f"tests/python: {len(every)} modules, {len(SPOILT)} mistakes{skipped}")
-    return 1 if faults else 0
+        yield f"{len(every)} modules, and there are at least {LEAST}"
 
 
-if __name__ == "__main__":
-    sys.exit(main())
+def spoilt_copies(kind: str) -> list[tuple[str, str]]:
+    return [(name, addition) for name, addition, refused_by in SPOILT if refused_by == kind]
+
+
+def unseen(kind: str, command: str = "") -> Iterator[str]:
+    """The spoilt copies in which a check sees nothing."""
+    with tempfile.TemporaryDirectory() as place:
+        folder = Path(place) / "update"
+        shutil.copytree(TOP / "update", folder, symlinks=True, ignore=shutil.ignore_patterns("__pycache__"))
+        for name, addition in spoilt_copies(kind):
+            path = folder / PACKAGE / name
+            text = path.read_text(encoding="utf-8")
+            path.write_text(text + addition, encoding="utf-8")
+            if not faults_of(kind, folder, [path], command):
+                yield f"a copy of {name} with {addition!r} is not refused"
+            path.write_text(text, encoding="utf-8")
+
+
+class Python(Case):
+    """Each check, of the update and of its spoilt copies."""
+
+    def check(self, kind: str) -> None:
+        folder = TOP / "update"
+        self.expect("modules", [*faults_of_numbers(modules(folder), folder)], [])
+        self.expect("what is wrong", faults_of(kind, folder, checked(folder)), [])
+        self.expect("spoilt copies", len(spoilt_copies(kind)) > 0)
+        self.expect("what it does not see", [*unseen(kind)], [])
+
+    @needs.command("mypy")
+    def test_mypy(self) -> None:
+        self.check("mypy")
+
+    @needs.command("black")
+    def test_black(self) -> None:
+        self.check("black")
+
+    @needs.command("pyflakes3")
+    def test_pyflakes(self) -> None:
+        self.check("pyflakes3")
+
+    def test_words(self) -> None:
+        self.check("words")
+
+    def test_public_names_are_used(self) -> None:
+        self.check("names")
+
+    def test_modules_that_a_fetch_loads(self) -> None:
+        self.check("modules")
+
+
+class Checks(Case):
+    """What would let a check pass whatever the modules have."""
+
+    def test_a_tool_that_accepts_everything(self) -> None:
+        for name in TOOLS:
+            self.expect(f"{name} is true", len([*unseen(name, "true")]), len(spoilt_copies(name)))
+
+    def test_too_few_modules(self) -> None:
+        folder = TOP / "update"
+        every = modules(folder)
+        self.expect("none", len([*faults_of_numbers([], folder)]), len(AMONG) + 1)
+        self.expect("few", len([*faults_of_numbers(every[: LEAST - 1], folder)]) > 0)
+        for name in AMONG:
+            without = [it for it in every if it != folder / PACKAGE / name]
+            self.expect(f"without {name}", [*faults_of_numbers(without, folder)], [f"{name} is not found"])
+
+    def test_which_files_are_checked(self) -> None:
+        """The commands too, and at least half of the modules."""
+        folder = TOP / "update"
+        found = checked(folder)
+        self.expect("commands", [it for it in COMMANDS if folder / it not in found], [])
+        self.expect(f"{len(found)} files", len(found) > len(modules(folder)) / 2)

@@ -1,131 +1,218 @@
-#!/usr/bin/env python3
 """Measures and parses each script of the repository: no line has more than 120 columns, Python parses as version 3.10
-does, shellcheck has nothing to say of a shell script, and pyflakes nothing of Python. JavaScript is parsed if node is
-installed. Each of these refuses a copy of a script with a mistake in it."""
+does, shellcheck has nothing to say of a shell script, and pyflakes nothing of Python. JavaScript is parsed by node.
+Each of these refuses a copy of a script with a mistake in it."""
+from __future__ import annotations
+
 import ast
+import functools
 import os
 import re
 import shutil
 import subprocess
-import sys
 import tempfile
+from collections.abc import Iterator
+from collections.abc import Sequence
+from typing import NamedTuple
+
+from fixtures import needs
+from fixtures.cases import Case
 
 MOST_COLUMNS = 120
 PYTHON = (3, 10)
-LEAST = 250  # scripts, and some of them
+# The least numbers of scripts, and some of them.
+LEAST = {"python3": 250, "bash": 15, "sh": 6, "node": 30}
 AMONG = ("update/update", "update/fetch", "update/library", "packaging/release", "front_door/find.js", "test")
 LINTERS = {"shellcheck": (["shellcheck", "--format=gcc"], ("bash", "sh")), "pyflakes3": (["pyflakes3"], ("python3",))}
-TOOLS = ("node", *LINTERS)
-# A script, what is appended to a copy of it, and what refuses the copy; then a tool that this needs.
+# A script, what is appended to a copy of it, and what refuses the copy.
 SPOILT = (
-    ("update/fetch", f"# {'x' * MOST_COLUMNS}\n", "columns", None),
-    ("update/fetch", "def f(:\n", "syntax", None),
-    ("update/fetch", "try:\n    pass\nexcept* OSError:\n    pass\n", "syntax", None),  # of Python 3.11
-    ("update/fetch", "import antigravity\n", "pyflakes3", "pyflakes3"),
-    ("packaging/release", "if true; then\n", "syntax", "bash"),
-    ("packaging/release", "echo $1\n", "shellcheck", "shellcheck"),
-    ("packaging/debian/postrm", "while true; do\n", "syntax", "sh"),
-    ("front_door/find.js", "const = 1;\n", "syntax", "node"),
+    ("update/fetch", f"# {'x' * MOST_COLUMNS}\n", "columns"),
+    ("update/fetch", "def f(:\n", "python3"),
+    ("update/fetch", "try:\n    pass\nexcept* OSError:\n    pass\n", "python3"),  # of Python 3.11
+    ("update/fetch", "import antigravity\n", "pyflakes3"),
+    ("packaging/release", "if true; then\n", "bash"),
+    ("packaging/release", "echo $1\n", "shellcheck"),
+    ("packaging/debian/postrm", "while true; do\n", "sh"),
+    ("packaging/debian/postrm", "echo $1\n", "shellcheck"),
+    ("front_door/find.js", "const = 1;\n", "node"),
 )
 SUFFIXES = {".py": "python3", ".js": "node"}
 FIRST_LINE = re.compile(r"#!.*\b(python3|bash|sh)\b|# shellcheck shell=(bash|sh)$")
 # What builds make, and git's own files.
-LEFT_OUT = {".git", "__pycache__", "built", "out", "release"}
+LEFT_OUT = {".git", "__pycache__", ".mypy_cache", "built", "out", "release"}
 
 
-def language(path, text):
+class Script(NamedTuple):
+    path: str
+    kind: str  # what reads it: a key of LEAST
+    text: str
+
+
+def language(path: str, text: str) -> str | None:
     first = FIRST_LINE.match(text.partition("\n")[0])
-    return SUFFIXES.get(os.path.splitext(path)[1]) or first and (first[1] or first[2])
+    return SUFFIXES.get(os.path.splitext(path)[1]) or (first[1] or first[2] if first else None)
 
 
-def scripts():
-    """Yields each script: its path, its language and its text."""
+@functools.cache
+def scripts() -> tuple[Script, ...]:
+    return (*_scripts(),)
+
+
+def _scripts() -> Iterator[Script]:
     for folder, below, names in os.walk("."):
         below[:] = sorted(it for it in below if it not in LEFT_OUT)
         for path in (os.path.relpath(os.path.join(folder, it)) for it in sorted(names)):
             if os.path.isfile(path) and not os.path.islink(path):
                 with open(path, encoding="utf-8", errors="replace") as file:
                     text = file.read()
-                if language(path, text):
-                    yield path, language(path, text), text
+                kind = language(path, text)
+                if kind:
+                    yield Script(path, kind, text)
 
 
-def faults_of_columns(path, text):
-    for number, line in enumerate(text.splitlines(), 1):
-        if len(line) > MOST_COLUMNS:
-            yield f"{path}:{number}: {len(line)} columns, and {MOST_COLUMNS} are allowed"
+def faults_of_columns(found: Sequence[Script]) -> list[str]:
+    return [
+        f"{path}:{number}: {len(line)} columns, and {MOST_COLUMNS} are allowed"
+        for path, _, text in found
+        for number, line in enumerate(text.splitlines(), 1)
+        if len(line) > MOST_COLUMNS
+    ]
 
 
-def said(words, text=None):
+def said(words: list[str], text: str | None = None) -> str:
     """Returns what a command says if it fails."""
-    how = {"input": text, "stdout": subprocess.PIPE, "stderr": subprocess.STDOUT, "encoding": "utf-8"}
-    ran = subprocess.run(words, **how)
+    ran = subprocess.run(words, input=text, stdout=subprocess.PIPE, stderr=subprocess.STDOUT, encoding="utf-8")
     return ran.stdout.strip() or f"{words[0]} ended with status {ran.returncode}" if ran.returncode else ""
 
 
-def fault_of_syntax(path, kind, text):
-    if kind == "python3":
+def fault_of_syntax(script: Script, reader: str) -> str:
+    """What its reader, a command, says of the syntax of a script. Python is read here."""
+    if script.kind == "python3":
         try:
-            ast.parse(text, path, feature_version=PYTHON)
+            ast.parse(script.text, script.path, feature_version=PYTHON)
         except SyntaxError as error:
-            return f"{path}:{error.lineno}: {error.msg}"
+            return f"{script.path}:{error.lineno}: {error.msg}"
         return ""
-    if not shutil.which(kind):
-        return ""
-    if kind != "node":
-        return said([kind, "-n", path])
+    if script.kind != "node":
+        return said([reader, "-n", script.path])
     # node accepts whatever follows an import in a file, but not in its standard input.
-    fault = said(["node", "--check", "--input-type=module", "-"], text)
-    return fault.replace("[stdin]", path)
+    return said([reader, "--check", "--input-type=module", "-"], script.text).replace("[stdin]", script.path)
 
 
-def faults_of_linter(name, kinds):
-    """What a linter says of scripts, whose kinds are known by their paths."""
-    words, of_kinds = LINTERS[name]
-    chosen = [path for path, kind in kinds.items() if kind in of_kinds]
-    return [said([*words, *chosen])] if chosen and shutil.which(name) else []
+def faults_of_syntax(kind: str, found: Sequence[Script], reader: str) -> list[str]:
+    faults = [fault_of_syntax(it, reader) for it in found if it.kind == kind]
+    return [it for it in faults if it]
 
 
-def faults_in(found):
-    """The faults of scripts, each a path, a kind and a text: those of columns, of syntax, and of each linter."""
-    faults, kinds = {"columns": [], "syntax": []}, {path: kind for path, kind, _ in found}
-    for path, kind, text in found:
-        faults["columns"] += faults_of_columns(path, text)
-        faults["syntax"].append(fault_of_syntax(path, kind, text))
-    faults.update((name, faults_of_linter(name, kinds)) for name in LINTERS)
-    return {name: [it for it in lines if it] for name, lines in faults.items()}
+def faults_of_linter(name: str, found: Sequence[Script], command: str) -> list[str]:
+    """What a linter, or another command in its place, says of the scripts that it reads."""
+    words, kinds = LINTERS[name]
+    fault = said([command, *words[1:], *(it.path for it in found if it.kind in kinds)])
+    return [fault] if fault else []
 
 
-def faults_of_this():
-    """Yields what this check does not see in spoilt copies of scripts, which have no other mistake."""
-    for path, addition, refused_by, tool in SPOILT:
-        if tool and not shutil.which(tool):
-            continue
-        with open(path, encoding="utf-8") as file, tempfile.TemporaryDirectory() as folder:
-            text = file.read() + addition
-            copy = os.path.join(folder, os.path.basename(path))
-            with open(copy, "w", encoding="utf-8") as spoilt:
-                spoilt.write(text)
-            if not faults_in([(copy, language(path, text), text)])[refused_by]:
-                yield f"a copy of {path} with {addition!r} is not refused ({refused_by})"
+def faults(check: str, found: Sequence[Script], command: str = "") -> list[str]:
+    """What a check says: that of columns, of a kind's syntax, or of a linter. A command may take the tool's place."""
+    if check == "columns":
+        return faults_of_columns(found)
+    if check in LINTERS:
+        return faults_of_linter(check, found, command or check)
+    return faults_of_syntax(check, found, command or check)
 
 
-def main():
-    os.chdir(os.path.join(os.path.dirname(os.path.abspath(__file__)), ".."))
-    every = list(scripts())
-    found = [line for lines in faults_in(every).values() for line in lines]
-    missing = {*AMONG} - {path for path, _, _ in every}
-    found += [f"{it} is not found" for it in sorted(missing)]
-    if len(every) < LEAST:
-        found.append(f"{len(every)} scripts, and there are at least {LEAST}")
-    found += faults_of_this() if not found else []
-    for fault in found:
-        print(f"tests/scripts: {fault}", file=sys.stderr)
-    lacking = [it for it in TOOLS if not shutil.which(it)]
-    if not found:
-        print(f"tests/scripts: {len(every)} scripts" + "".join(f"; {it} is not installed" for it in lacking))
-    return 1 if found else 0
+def faults_of_numbers(found: Sequence[Script]) -> Iterator[str]:
+    """Too few scripts: then the other checks say nothing."""
+    missing = {*AMONG} - {it.path for it in found}
+    yield from (f"{it} is not found" for it in sorted(missing))
+    for kind, least in LEAST.items():
+        count = sum(it.kind == kind for it in found)
+        if count < least:
+            yield f"{count} scripts for {kind}, and there are at least {least}"
 
 
-if __name__ == "__main__":
-    sys.exit(main())
+def unseen(check: str, command: str = "") -> Iterator[str]:
+    """The spoilt copies in which a check sees nothing. They have no other mistake."""
+    for path, addition, refused_by in SPOILT:
+        if refused_by == check:
+            with open(path, encoding="utf-8") as file, tempfile.TemporaryDirectory() as folder:
+                text = file.read()
+                copy = os.path.join(folder, os.path.basename(path))
+                shutil.copy(path, copy)
+                kind = language(path, text) or ""
+                if faults(check, [Script(copy, kind, text)], command):
+                    yield f"a copy of {path} is refused as it is"
+                with open(copy, "a", encoding="utf-8") as spoilt:
+                    spoilt.write(addition)
+                if not faults(check, [Script(copy, kind, text + addition)], command):
+                    yield f"a copy of {path} with {addition!r} is not refused"
+
+
+class Scripts(Case):
+    """Each check, of all scripts that it reads and of their spoilt copies."""
+
+    def check(self, name: str) -> None:
+        found = scripts()
+        self.expect("their numbers", [*faults_of_numbers(found)], [])
+        self.expect("what is wrong", faults(name, found), [])
+        self.expect("spoilt copies", sum(refused_by == name for _, _, refused_by in SPOILT) > 0)
+        self.expect("what it does not see", [*unseen(name)], [])
+
+    def test_columns(self) -> None:
+        self.check("columns")
+
+    def test_syntax_of_python(self) -> None:
+        self.check("python3")
+
+    @needs.command("bash")
+    def test_syntax_of_bash(self) -> None:
+        self.check("bash")
+
+    def test_syntax_of_sh(self) -> None:
+        self.check("sh")
+
+    @needs.command("node")
+    def test_syntax_of_javascript(self) -> None:
+        self.check("node")
+
+    @needs.command("shellcheck")
+    def test_shellcheck(self) -> None:
+        self.check("shellcheck")
+
+    @needs.command("pyflakes3")
+    def test_pyflakes(self) -> None:
+        self.check("pyflakes3")
+
+
+class Checks(Case):
+    """What would let a check pass whatever the scripts have."""
+
+    def test_a_tool_that_accepts_everything(self) -> None:
+        for tool in ("bash", "sh", "node", *LINTERS):
+            copies = [it for it in SPOILT if it[2] == tool]
+            self.expect(f"{tool} is true", len([*unseen(tool, "true")]), len(copies))
+
+    def test_a_tool_that_refuses_everything(self) -> None:
+        for tool in ("bash", "sh", "node", *LINTERS):
+            copies = [it for it in SPOILT if it[2] == tool]
+            self.expect(f"{tool} is false", len([*unseen(tool, "false")]), len(copies))
+
+    def test_too_few_scripts(self) -> None:
+        found = scripts()
+        for kind in LEAST:
+            fewer = [it for it in found if it.kind != kind or it.path in AMONG]
+            said_of = [*faults_of_numbers(fewer)]
+            self.expect(f"none for {kind}", [it.split(" for ")[1].split(",")[0] for it in said_of], [kind])
+        without = [it for it in found if it.path not in AMONG]
+        self.expect("without those that are named", len([*faults_of_numbers(without)]), len(AMONG))
+
+    def test_languages(self) -> None:
+        for path, text, wanted in (
+            ("a.py", "", "python3"),
+            ("a.js", "", "node"),
+            ("a", "#!/usr/bin/env python3\n", "python3"),
+            ("a", "#!/usr/bin/env bash\n", "bash"),
+            ("a", "#!/bin/sh\n", "sh"),
+            ("a", "# shellcheck shell=bash\n", "bash"),
+            ("a.md", "# python3\n", None),
+            ("a", "", None),
+        ):
+            self.expect(f"{path} with {text!r}", language(path, text), wanted)
