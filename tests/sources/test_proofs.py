@@ -1,264 +1,257 @@
-#!/usr/bin/env python3
-"""Compares docs/contracts.txt with the sources. It has each public call that has a contract, with the names of the
-clauses that the contract ensures, and no other call. With --write, it writes this file instead.
+"""docs/contracts.txt has each public call that has a contract, with the names of the clauses that the contract ensures,
+and no other call. docs/PROOFS.md names only calls and clauses of that list, as `CRATE::CALL`, `CLAUSE`. The lists of
+docs/ARCHITECTURE.md have the crates of crates.txt, in its groups and its order. The sources have the clauses that
+README.md quotes, the `unsafe` that docs/DECISIONS.md names, and no other, and the public calls of allocating_calls.txt.
+Each of these is refused in a spoilt copy."""
+from __future__ import annotations
 
-docs/PROOFS.md names only calls and clauses of that list, as `CRATE::CALL`, `CLAUSE`. The lists of docs/ARCHITECTURE.md
-have the crates of crates.txt, in its groups and its order. The sources have the clauses that README.md quotes, and the
-`unsafe` that docs/DECISIONS.md names, and no other."""
-import glob
 import os
 import re
-import sys
+import shutil
+import tempfile
+from collections.abc import Iterator
 
-sys.dont_write_bytecode = True
-os.chdir(os.path.join(os.path.dirname(os.path.abspath(__file__)), ".."))
-sys.path.insert(0, "tests/proofs.d")
-import allocating_calls
-import unsafe_blocks
-from allocating_calls import errors, result_of
+from fixtures import TOP
+from fixtures.cases import Case
+from sources import allocating_calls
+from sources import contracts
+from sources import unsafe_blocks
+from sources.contracts import Known
+from sources.contracts import Sources
+from sources.contracts import text_of
 
 PAGE = "docs/PROOFS.md"
-CONTRACTS = "docs/contracts.txt"
-HEAD = """\
-# Each public call that has a contract, with the names of the clauses that the contract ensures. If no name follows, it
-# is one clause. The crates are in the order of crates.txt. `tests/proofs --write` writes this file.
-"""
 MAP = "docs/ARCHITECTURE.md"
-IMPL = re.compile(r"impl\s*(?:<[^{]*?>\s+(?=[A-Z\w:&]))?(.*)")
-FUNCTION = re.compile(r"(\s*)(pub )?(?:ghost )?(?:const )?fn (\w+)")
-CLAUSE = re.compile(r"\bensures\s+(?:(\w+)\s+)?\{")
+README = "README.md"
+# The least numbers of what is compared.
+LEAST_CALLS, LEAST_PROMISES, LEAST_CRATES, LEAST_QUOTES, LEAST_UNSAFE, LEAST_ALLOCATING = 300, 50, 50, 5, 3, 80
 
 
-def crates():
-    with open("crates.txt", encoding="utf-8") as file:
-        lines = [line.partition("#")[0].strip() for line in file]
-    return [line.partition(":")[0].split()[0] for line in lines if line]
-
-
-def without_comments(path):
-    with open(path, encoding="utf-8") as file:
-        return re.sub(r"//[^\n]*", "", file.read())
-
-
-def given_out(crate):
-    """Returns the names that a crate's root gives out, and its public modules."""
-    root = without_comments(f"crates/{crate}/src/lib.rt") if os.path.exists(f"crates/{crate}/src/lib.rt") else ""
-    names = set()
-    for group in re.findall(r"pub use [\w:]+::(\{[^}]*\}|\w+)", root):
-        names |= {it.strip().split(" as ")[-1] for it in group.strip("{}").split(",") if it.strip()}
-    return names, set(re.findall(r"^pub mod (\w+)", root, re.M))
-
-
-def owner_of(head):
-    """Returns the kind of a block, its trait and its type, from its head without type parameters."""
-    if "trait" in head.split("{")[0].split("<")[0].split():
-        return "trait", re.search(r"trait (\w+)", head)[1], None
-    found = IMPL.search(head)[1]
-    found = re.sub(r"<[^<>]*(?:<[^<>]*>[^<>]*)*>", "", found)
-    both = re.match(r"\s*([\w:&' ]+?)\s+for\s+([\w:&' ]+)", found)
-    if both:
-        return "impl", both[1].strip(), both[2].strip()
-    return "impl", None, re.match(r"\s*([\w:]*)", found)[1]
-
-
-def clauses_from(lines, number, indent):
-    """Returns the names of the clauses of the function that begins on this line; one without a name is empty."""
-    found = []
-    for at in range(number, len(lines)):
-        line = lines[at]
-        found += [name or "" for name in CLAUSE.findall(line)]
-        is_head = "ensures" in line or at == number and not re.search(r"[{;]\s*$|\{\s*\}$", line)
-        if line == indent + "{" or line.strip() == "{}" or line.rstrip().endswith(";"):
-            break
-        if not is_head and re.search(r"\)\s*(?:->.*)?\{\s*\}?$", line) or at > number and line.startswith(indent + "}"):
-            break
-        if at == number and re.search(r"\{\s*$", line) and "ensures" not in line:
-            break
-    return found
-
-
-def functions(crate):
-    """Yields each function of a crate: its module, its block as owner_of, whether it is public, its name, its clauses
-    and the type of its result."""
-    source = f"crates/{crate}/src"
-    for path in sorted(glob.glob(f"{source}/**/*.rt", recursive=True)):
-        block, lines = None, without_comments(path).split("\n")
-        for number, line in enumerate(lines):
-            if re.match(r"(?:pub )?(?:unsafe )?(?:impl|trait)\b", line):
-                end = next(at for at in range(number, len(lines)) if "{" in lines[at])
-                block = owner_of(" ".join(lines[number:end + 1]))
-            elif line.startswith("}"):
-                block = None
-            found = FUNCTION.match(line)
-            if found:
-                module, clauses = os.path.relpath(path, source)[:-3], clauses_from(lines, number, found[1])
-                yield module, block, bool(found[2]), found[3], clauses, result_of(lines, number)
-
-
-def public_calls(crate):
-    """Yields each public call of a crate: its type or trait, if it has one, its name, its clauses and the type of its
-    result."""
-    names, modules = given_out(crate)
-    for module, block, is_public, name, clauses, result in functions(crate):
-        kind, trait, owner = block or (None, None, None)
-        if block is None:
-            is_given_out = is_public and (name in names or module in modules or module == "lib")
-        elif kind == "trait":
-            is_given_out = trait in names
-        else:
-            is_given_out = trait is None and is_public and (owner in names or module in modules)
-        if is_given_out:
-            yield trait or owner, name, clauses, result
-
-
-def contracts(crate, of_traits):
-    """Returns the clauses of each public call of a crate, by its type or trait, if it has one, and its name."""
-    calls = {}
-    for owner, name, clauses, _ in public_calls(crate):
-        calls[owner, name] = [it for it in clauses if it], bool(clauses)
-    names, _ = given_out(crate)
-    for _, block, _, name, clauses, _ in functions(crate):
-        kind, trait, owner = block or (None, None, None)
-        if kind == "impl" and trait and owner in names:
-            # What the trait ensures, its own row says.
-            more = [it for it in clauses if it and (it not in of_traits.get((trait, name), ()) or trait == "Watch")]
-            if more:
-                calls[owner, name] = more, True
-    return calls
-
-
-def calls_that_allocate():
-    """Yields the path of each public call whose result may be that an allocation failed."""
-    paths = glob.glob("crates/*/src/**/*.rt", recursive=True)
-    failed = errors(map(without_comments, paths))
-    for crate in crates():
-        if not crate.endswith("_tests"):
-            for owner, name, _, result in public_calls(crate):
-                if failed & {*re.findall(r"\w+", result)}:
-                    yield "::".join(it for it in (crate, owner, name) if it)
-
-
-def trait_clauses():
-    found = {}
-    for crate in crates():
-        for _, block, _, name, clauses, _ in functions(crate):
-            if block and block[0] == "trait":
-                found.setdefault((block[1], name), set()).update(clauses)
-    return found
-
-
-def items(text):
-    """Yields the crate of each item of a list of crates, and what the item says of it."""
+def items(text: str) -> Iterator[str]:
+    """Yields the crate of each item of a list of crates."""
     for line in text.split("\n"):
         found = re.match(r"- (?:\[`(\w+)`\]\([^)]*\)|`(\w+)`): (.*)", line)
         if found:
-            yield found[1] or found[2], found[3]
+            yield found[1] or found[2]
 
 
-def all_contracts():
-    """Returns the clauses of each public call of all crates but those of tests, and whether it has any, by its crate,
-    its type or trait, and its name."""
-    known, of_traits = {}, trait_clauses()
-    for crate in crates():
-        if not crate.endswith("_tests"):
-            known.update({(crate, *call): value for call, value in contracts(crate, of_traits).items()})
-    return known
-
-
-def full_name(call):
-    return "::".join(it for it in call if it)
-
-
-def lines_of(known):
-    """Returns the lines of contracts.txt."""
-    return [f"{full_name(call)}{': ' if clauses else ''}{' '.join(clauses)}"
-            for call, (clauses, has_clause) in known.items() if has_clause]
-
-
-def promises(text):
+def promises(text: str) -> Iterator[tuple[contracts.Call, list[str]]]:
     """Yields each call that the list of promises names, and the clauses named after it."""
     for path, clauses in re.findall(r"`([a-z]\w+::[\w:]+)`((?:, `\w+`)*)", text):
         crate, *owner, name = path.replace("::laws::", "::").split("::")
         yield (crate, owner[0] if owner else None, name), re.findall(r"\w+", clauses)
 
 
-def faults_of_the_list(expected):
-    with open(CONTRACTS, encoding="utf-8") as file:
-        listed = [line for line in file.read().splitlines() if line and not line.startswith("#")]
+def too_few(count: int, least: int, noun: str) -> list[str]:
+    return [f"{count} {noun}, and there are at least {least}"] if count < least else []
+
+
+def faults_of_the_list(expected: list[str], text: str) -> Iterator[str]:
+    """What differs in the text of contracts.txt from the lines that the sources have."""
+    listed = [line for line in text.splitlines() if line and not line.startswith("#")]
     for line in [it for it in expected if it not in listed]:
-        yield f"{CONTRACTS}: a line is missing: {line}"
+        yield f"{contracts.PATH}: a line is missing: {line}"
     for line in [it for it in listed if it not in expected]:
-        yield f"{CONTRACTS}: no source has the line: {line}"
+        yield f"{contracts.PATH}: no source has the line: {line}"
     if sorted(listed) == sorted(expected) and listed != expected:
-        yield f"{CONTRACTS}: its lines are not in the order of the sources"
+        yield f"{contracts.PATH}: its lines are not in the order of the sources"
+    if len({*listed}) != len(listed):
+        yield f"{contracts.PATH}: it has a line twice"
+    yield from too_few(len(expected), LEAST_CALLS, "calls with a contract")
 
 
-def faults_of_promises(known):
-    with open(PAGE, encoding="utf-8") as file:
-        named = [*promises(file.read())]
-    if not named:
-        yield f"{PAGE}: it names no call"
+def faults_of_promises(known: Known, text: str) -> Iterator[str]:
+    """What the page of promises, whose text this is, names and the sources do not have."""
+    named = [*promises(text)]
     for call, clauses in named:
         if call not in known:
-            yield f"{PAGE}: there is no call {full_name(call)}"
-        for clause in set(clauses) - set(known.get(call, (clauses,))[0]):
-            yield f"{PAGE}: {full_name(call)} has no clause {clause}"
+            yield f"{PAGE}: there is no call {contracts.full_name(call)}"
+        for clause in sorted({*clauses} - {*known.get(call, (clauses, True))[0]}):
+            yield f"{PAGE}: {contracts.full_name(call)} has no clause {clause}"
+    yield from too_few(len(named), LEAST_PROMISES, "promises")
 
 
-def faults_of_the_map():
-    """The crates of docs/ARCHITECTURE.md and their groups are those of crates.txt, in that order."""
-    with open("crates.txt", encoding="utf-8") as file:
-        parts = re.findall(r"\n\n# (.*)|^(\w+):", file.read(), re.M)
+def faults_of_the_map(crates: str, page: str) -> Iterator[str]:
+    """The crates of docs/ARCHITECTURE.md and their groups are those of crates.txt, in that order. Both are texts."""
+    parts = re.findall(r"\n\n# (.*)|^(\w+):", crates, re.M)
     expected = [group or crate for group, crate in parts]
-    with open(MAP, encoding="utf-8") as file:
-        lists = file.read().partition("## The crates")[2].partition("\n## ")[0]
-    listed = []
+    lists = page.partition("## The crates")[2].partition("\n## ")[0]
+    listed: list[str] = []
     for line in lists.split("\n"):
         group = re.fullmatch(r"\*\*(.*)\*\*", line)
-        listed += [group[1]] if group else [crate for crate, _ in items(line)]
+        listed += [group[1]] if group else items(line)
     if listed != expected:
-        yield f"{MAP}: its crates and groups are not those of crates.txt: {[it for it in expected if it not in listed]}"
+        missing, more = [it for it in expected if it not in listed], [it for it in listed if it not in expected]
+        yield f"{MAP}: its crates and groups are not those of crates.txt: {missing}, {more}"
+    yield from too_few(sum(bool(crate) for _, crate in parts), LEAST_CRATES, "crates")
 
 
-def faults_of_the_quotes():
-    """The clauses that README.md quotes are in the sources, up to spaces and ends of lines."""
-    with open("README.md", encoding="utf-8") as file:
-        quotes = re.findall(r"^ensures .*?(?=^ensures|^```)", file.read(), re.M | re.S)
-    paths = glob.glob("crates/*/src/**/*.rt", recursive=True)
-    text = " ".join(" ".join(without_comments(path).split()) for path in paths)
-    if not quotes:
-        yield "README.md: it quotes no clause"
+def faults_of_the_quotes(readme: str, sources: str) -> Iterator[str]:
+    """The clauses that the text of README.md quotes are in the sources, up to spaces and ends of lines."""
+    quotes = re.findall(r"^ensures .*?(?=^ensures|^```)", readme, re.M | re.S)
+    text = " ".join(sources.split())
     for quote in quotes:
         if " ".join(quote.split()) not in text:
-            yield f"README.md: no contract has the clause {quote.split(' {')[0]} as it is quoted"
+            yield f"{README}: no contract has the clause {quote.split(' {')[0]} as it is quoted"
+    yield from too_few(len(quotes), LEAST_QUOTES, "clauses that are quoted")
 
 
-def faults_of_unsafe():
-    sources = []
-    for path in sorted(glob.glob("crates/*/src/**/*.rt", recursive=True)):
-        with open(path, encoding="utf-8") as file:
-            sources.append((path, file.read()))
-    with open(unsafe_blocks.PAGE, encoding="utf-8") as file:
-        return unsafe_blocks.faults(sources, file.read())
+def faults_of_unsafe(sources: list[tuple[str, str]], page: str) -> Iterator[str]:
+    yield from unsafe_blocks.faults(sources, page)
+    yield from too_few(len([*unsafe_blocks.in_sources(sources)]), LEAST_UNSAFE, "unsafe blocks")
 
 
-def main(arguments):
-    known = all_contracts()
-    lines = lines_of(known)
-    if arguments == ["--write"]:
-        with open(CONTRACTS, "w", encoding="utf-8") as file:
-            file.write("\n".join([HEAD, *lines]) + "\n")
-        return 0
-    found = [*faults_of_the_list(lines), *faults_of_promises(known), *faults_of_the_map(), *faults_of_the_quotes()]
-    found += allocating_calls.faults([*calls_that_allocate()])
-    found += faults_of_unsafe()
-    for fault in found:
-        print(f"tests/proofs: {fault}", file=sys.stderr)
-    if found or len(lines) < 100:
-        return 1
-    print(f"tests/proofs: {len(lines)} calls")
-    return 0
+def faults_of_allocations(expected: list[str], text: str) -> Iterator[str]:
+    yield from allocating_calls.faults(expected, text)
+    yield from too_few(len(expected), LEAST_ALLOCATING, "calls that may report a failed allocation")
 
 
-if __name__ == "__main__":
-    sys.exit(main(sys.argv[1:]))
+class Proofs(Case):
+    """What the sources have, and the texts that are compared with it."""
+
+    sources: Sources
+    known: Known
+    files: list[tuple[str, str]]  # a path and a text
+
+    @classmethod
+    def setUpClass(cls) -> None:
+        cls.sources = Sources(TOP)
+        cls.known = cls.sources.contracts()
+        cls.files = [(os.path.relpath(it, TOP), text_of(it)) for it in contracts.source_paths(TOP)]
+
+    def refuses(self, what: str, found: list[str], *wanted: str) -> None:
+        """Each fault that is wanted is part of one that was found, and there is no other."""
+        is_right = len(found) == len(wanted) and all(part in it for part, it in zip(wanted, found))
+        self.expect(f"{what}: {found[:5]}", is_right)
+
+    def test_contracts(self) -> None:
+        lines, text = contracts.lines_of(self.known), text_of(contracts.PATH)
+        self.expect("the list", [*faults_of_the_list(lines, text)], [])
+        for line in (lines[0], lines[-1], next(it for it in lines if ": " in it)):
+            cut = [*faults_of_the_list(lines, text.replace(f"\n{line}\n", "\n", 1))]
+            self.refuses(f"without {line}", cut, f"a line is missing: {line}")
+            fewer = [*faults_of_the_list([it for it in lines if it != line], text)]
+            self.refuses(f"no longer in a source: {line}", fewer, f"no source has the line: {line}")
+        changed = text.replace(f"\n{lines[0]}\n{lines[1]}\n", f"\n{lines[1]}\n{lines[0]}\n", 1)
+        self.refuses("another order", [*faults_of_the_list(lines, changed)], "not in the order")
+        self.refuses("a line twice", [*faults_of_the_list(lines, f"{text}{lines[0]}\n")], "a line twice")
+        self.refuses("no source", [*faults_of_the_list([], "")], "0 calls with a contract")
+
+    def test_promises(self) -> None:
+        text = text_of(PAGE)
+        self.expect("the page", [*faults_of_promises(self.known, text)], [])
+        call, clauses = next(it for it in promises(text) if it[1])
+        for more, wanted in (
+            ("`menu::no_such_call`", "there is no call menu::no_such_call"),
+            (f"`{contracts.full_name(call)}`, `no_such_clause`", "has no clause no_such_clause"),
+        ):
+            self.refuses(more, [*faults_of_promises(self.known, text + more)], wanted)
+        weaker: Known = {**self.known, call: ([], True)}
+        missing = {clause for it, those in promises(text) if it == call for clause in those}
+        found = {*faults_of_promises(weaker, text)}
+        self.expect(
+            "clauses that are no more",
+            found,
+            {f"{PAGE}: {contracts.full_name(call)} has no clause {it}" for it in missing},
+        )
+        self.refuses("an empty page", [*faults_of_promises(self.known, "")], "0 promises")
+
+    def test_crates_of_the_map(self) -> None:
+        crates, page = text_of("crates.txt"), text_of(MAP)
+        self.expect("the page", [*faults_of_the_map(crates, page)], [])
+        first, second, *_ = [line for line in page.split("\n") if [*items(line)]]
+        for what, changed in (
+            ("without a crate", page.replace(f"{first}\n", "", 1)),
+            ("another order", page.replace(f"{first}\n{second}\n", f"{second}\n{first}\n", 1)),
+            ("another group", re.sub(r"^\*\*(.*)\*\*$", "**Others**", page, count=1, flags=re.M)),
+        ):
+            self.refuses(what, [*faults_of_the_map(crates, changed)], "are not those of crates.txt")
+        self.refuses("a crate more", [*faults_of_the_map(f"{crates}\nother: menu\n", page)], "['other'], []")
+        self.refuses("no crates", [*faults_of_the_map("", "")], "0 crates")
+
+    def test_quotes(self) -> None:
+        readme = text_of(README)
+        sources = " ".join(contracts.without_comments(it) for it in contracts.source_paths(TOP))
+        self.expect("the page", [*faults_of_the_quotes(readme, sources)], [])
+        changed = re.sub(r"^ensures (\w+) \{", r"ensures \1 { true;", readme, count=1, flags=re.M)
+        self.refuses("a changed quote", [*faults_of_the_quotes(changed, sources)], "as it is quoted")
+        self.expect("no sources", len([*faults_of_the_quotes(readme, "")]) >= LEAST_QUOTES)
+        self.refuses("no quotes", [*faults_of_the_quotes("", sources)], "0 clauses that are quoted")
+
+    def test_unsafe(self) -> None:
+        page = text_of(unsafe_blocks.PAGE)
+        self.expect("the page", [*faults_of_unsafe(self.files, page)], [])
+        path = next(it for it, _, _ in unsafe_blocks.in_sources(self.files))
+        more = [*self.files, ("crates/menu/src/other.rt", "fn f() {\n    unsafe { g() }\n}\n")]
+        self.refuses("one more", [*faults_of_unsafe(more, page)], "the unsafe blocks are")
+        fewer = [it for it in self.files if it[0] != path]
+        self.refuses("one fewer", [*faults_of_unsafe(fewer, page)], "the unsafe blocks are", "2 unsafe blocks")
+        weaker = [(it, text.replace("IsUriText", "IsText")) for it, text in self.files]
+        self.refuses("another condition", [*faults_of_unsafe(weaker, page)], "does not require IsUriText")
+        commented = [*self.files, ("crates/menu/src/other.rt", '// unsafe\nfn f() { g("unsafe") }\n')]
+        self.expect("the word alone", [*faults_of_unsafe(commented, page)], [])
+        self.expect("no sources", [it for it in faults_of_unsafe([], page) if "none was compared" in it] != [])
+
+    def test_allocations(self) -> None:
+        expected, text = [*self.sources.calls_that_allocate()], text_of(allocating_calls.LIST)
+        self.expect("the list", [*faults_of_allocations(expected, text)], [])
+        call, path, command = next(it for it in allocating_calls.listed(text) if it[2])
+        called, caller, _ = next(it for it in allocating_calls.listed(text) if not it[2])
+        line = next(it for it in text.split("\n") if it.startswith(f"{call} "))
+        for what, changed, wanted in (
+            ("without a line", text.replace(f"{line}\n", ""), f"{call} is missing"),
+            ("a line more", f"{text}menu::other {path} {command}\n", "menu::other is no public call"),
+            ("a line twice", f"{text}{line}\n", f"{call} is listed twice"),
+            ("no such file", text.replace(line, line.replace(path, "tests/none.py")), "there is no tests/none.py"),
+            ("another command", text.replace(line, f"{call} {path} other"), f"{path} does not run other"),
+            ("another caller", re.sub(rf"^{called} .*", f"{called} {path}", text, flags=re.M), f"{path} does not call"),
+        ):
+            self.refuses(what, [*faults_of_allocations(expected, changed)], wanted)
+        self.expect("a caller", os.path.isfile(caller))
+        self.refuses("nothing", [*faults_of_allocations([], "")], "0 calls that may report")
+
+
+# Something that is appended to a source of the crate budget, and the line that contracts.txt then lacks.
+APPENDED = (
+    (
+        "pub fn other(count: usize) -> usize\n    ensures least { result ≥ 1 }\n{\n    count\n}\n",
+        "budget::other: least",
+    ),
+    ("pub fn other(count: usize) -> usize\n    ensures { result ≥ 1 }\n{\n    count\n}\n", "budget::other"),
+    ("pub fn other(count: usize) -> usize\n{\n    count\n}\n", None),
+    ("fn other(count: usize) -> usize\n    ensures least { result ≥ 1 }\n{\n    count\n}\n", None),
+    ("// pub fn other()\n//    ensures least { true }\n", None),
+    ("pub trait Other {\n    fn other(&self)\n        ensures same { true };\n}\n", None),
+    (
+        "pub use other::Other;\npub trait Other {\n    fn other(&self)\n        ensures same { true };\n}\n",
+        "budget::Other::other: same",
+    ),
+    (
+        "pub use a::Given;\nimpl Given {\n    pub fn other(&self)\n        ensures same { true }\n    {}\n}\n",
+        "budget::Given::other: same",
+    ),
+)
+
+
+class Readers(Case):
+    """The calls and the clauses that are read in a changed copy of the crates."""
+
+    def test_appended_calls(self) -> None:
+        with tempfile.TemporaryDirectory() as top:
+            shutil.copy("crates.txt", top)
+            shutil.copytree("crates/budget/src", f"{top}/crates/budget/src")
+            path = f"{top}/crates/budget/src/lib.rt"
+            text = text_of(path)
+            before = contracts.lines_of(Sources(top).contracts())
+            self.expect(f"{len(before)} calls", len(before) > 0)
+            for addition, wanted in APPENDED:
+                with open(path, "w", encoding="utf-8") as file:
+                    file.write(f"{text}\n{addition}")
+                found = contracts.lines_of(Sources(top).contracts())
+                self.expect(addition, [it for it in found if it not in before], [wanted] if wanted else [])
+
+    def test_errors_of_allocations(self) -> None:
+        text = "pub enum A {\n    Full,\n    Lower(B),\n}\npub enum B {\n    NoMemory,\n}\npub enum C {\n    Full,\n}\n"
+        self.expect("types", allocating_calls.errors([text]) - allocating_calls.FAILED, {"A", "B"})
+        head = ["pub fn f(a: &A)", "    -> Result<(), B>", "    ensures { true }", "{"]
+        self.expect("a result", allocating_calls.result_of(head, 0), "Result<(), B>")
