@@ -10,7 +10,6 @@ import re
 import shutil
 import subprocess
 import tempfile
-import unittest
 
 from fixtures import needs
 from fixtures.cases import Case
@@ -306,7 +305,7 @@ class Objects(Case):
                     found = None
                 self.expect(f"YAML {text!r}", found, wanted)
 
-    @unittest.skipUnless(shutil.which("kubectl"), "no kubectl on this machine, so the overlay is not built")
+    @needs.kubectl()
     def test_built(self) -> None:
         """What kubectl makes of the base and of the overlay, each alone and both together."""
         base, second = built(f"{FOLDER}/base"), built(f"{FOLDER}/second")

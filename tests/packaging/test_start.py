@@ -7,7 +7,6 @@ import os
 import shutil
 import signal
 import subprocess
-import unittest
 from collections.abc import Callable
 
 from fixtures import needs
@@ -75,16 +74,8 @@ exec /bin/sleep "$1"
 """
 
 
-def has_namespaces() -> bool:
-    if os.geteuid() != 0 or not all(shutil.which(it) for it in ("setpriv", "unshare", "nsenter")):
-        return False
-    return subprocess.run([*NAMESPACE, "true"], capture_output=True, check=False).returncode == 0
-
-
-@needs.root()
-@unittest.skipUnless(
-    has_namespaces(), "no namespace of processes: it needs root, and unshare, nsenter and setpriv of util-linux"
-)
+@needs.command("setpriv", "unshare", "nsenter")
+@needs.namespaces_of_processes()
 class Container(Case):
     """A folder that stands for a container of two processes, with a version in use."""
 

@@ -108,19 +108,19 @@ class RunnerCase(Case):
 class Reports(RunnerCase):
     def test_what_passes(self) -> None:
         self.module("sums", GOOD)
-        self.write("tests/proofs", "#!/bin/sh\necho tests/proofs: 7 calls\n", 0o755)
+        self.write("tests/pages", "#!/bin/sh\necho tests/pages: 7 calls\n", 0o755)
         status, lines = self.given()
         self.expect("the lines", sorted(lines[:-1]),
-                    ["proofs: passed: 1 test: 7 calls", "sources.test_sums: passed: 3 tests, 4 comparisons"])
+                    ["pages: passed: 1 test: 7 calls", "sources.test_sums: passed: 3 tests, 4 comparisons"])
         self.expect("the end", (status, lines[-1]), (0, "4 passed, 0 failed"))
 
     def test_what_fails(self) -> None:
         for name, (text, _) in BAD.items():
             self.module(name, text)
-        self.write("tests/proofs", "#!/bin/sh\necho tests/proofs: 7 calls\nexit 3\n", 0o755)
+        self.write("tests/pages", "#!/bin/sh\necho tests/pages: 7 calls\nexit 3\n", 0o755)
         status, lines = self.given()
         text = "\n".join(lines)
-        expected = {**{f"sources.test_{name}": said for name, (_, said) in BAD.items()}, "proofs": "status 3"}
+        expected = {**{f"sources.test_{name}": said for name, (_, said) in BAD.items()}, "pages": "status 3"}
         for name, said in expected.items():
             part = re.search(rf"^{re.escape(name)}: (.*(?:\n  .*)*)", text, re.M)
             self.expect(f"{name} is failed: {part and part[1]}", bool(part and part[1].startswith("failed: ")))
@@ -130,12 +130,12 @@ class Reports(RunnerCase):
 
     def test_what_is_skipped(self) -> None:
         self.module("skipped", SKIPPED)
-        self.write("tests/proofs", "#!/bin/sh\necho tests/proofs: skipped: no proof\n", 0o755)
+        self.write("tests/pages", "#!/bin/sh\necho tests/pages: skipped: no page\n", 0o755)
         status, lines = self.given()
         lacking = ("nosuch-command", "other-command")
         reasons = "; ".join(f"no {it} on this machine: apt-get install {it}" for it in lacking)
         self.expect("the lines", sorted(lines[:-2]), [
-            "proofs: skipped: 1 test; no proof", f"sources.test_skipped: skipped: 2 tests, 0 comparisons; {reasons}"])
+            "pages: skipped: 1 test; no page", f"sources.test_skipped: skipped: 2 tests, 0 comparisons; {reasons}"])
         hint = "./test: for the skipped tests, as root: apt-get install nosuch-command other-command"
         self.expect("the end", (status, lines[-2:]), (0, [hint, "0 passed, 0 failed, 3 skipped"]))
 
@@ -169,7 +169,7 @@ class Reports(RunnerCase):
 NAMES = [
     (["sources"], 6), (["sums"], 3), (["sources.test_sums"], 3), (["sources.sums"], 3), (["sources.Sums"], 4),
     (["sources.Sums.test_two"], 2), (["sources.test_sums.Sums.test_two"], 1), (["sources.Words", "sources.Sums"], 6),
-    (["proofs"], 1), (["proofs", "sums", "sources.test_sums.Words"], 4), (["-k", "two"], 2), (["-k", "*Words.*one"], 2),
+    (["pages"], 1), (["pages", "sums", "sources.test_sums.Words"], 4), (["-k", "two"], 2), (["-k", "*Words.*one"], 2),
     (["sums", "-k", "one"], 2), (["--early", "-k", "two", "-k", "Words"], 4),
 ]
 WRONG = [["nowhere"], ["sources.Nowhere"], ["sources.Sums.test_three"], ["sums", "nowhere"], ["-k", "nowhere"],
@@ -181,7 +181,7 @@ class Names(RunnerCase):
         super().setUp()
         self.module("sums", GOOD)
         self.module("more", GOOD)
-        self.write("tests/proofs", "#!/bin/sh\necho tests/proofs: 7 calls\n", 0o755)
+        self.write("tests/pages", "#!/bin/sh\necho tests/pages: 7 calls\n", 0o755)
 
     def test_chosen(self) -> None:
         for arguments, count in NAMES:
@@ -193,33 +193,104 @@ class Names(RunnerCase):
             status, lines = self.given(*arguments)
             self.expect(f"{arguments}: {lines}", (status, any("passed" in it for it in lines)), (2, False))
 
-    def test_a_script_of_a_module(self) -> None:
-        """A script with the name of a module of sources/ is no test of its own; one with that of another is."""
-        self.write("tests/sums", "#!/bin/sh\nexit 1\n", 0o755)
-        self.expect("all tests", self.given()[1][-1], "7 passed, 0 failed")
-        self.write("tests/others/__init__.py", "")
-        self.write("tests/others/test_links.py", IMPORTS + GOOD)
-        self.write("tests/links", "#!/bin/sh\nexit 1\n", 0o755)
-        self.expect("with the name of another module", self.given()[1][-1], "10 passed, 1 failed")
+
+# Tests that lack several things, one of them no package.
+SEVERAL = '''
+@needs.program()
+@needs.command("first-command")
+class A(Case):
+    @needs.command("second-command")
+    @needs.python_module("nosuch_module", "third-package")
+    def test_a(self):
+        self.expect("a", 1, 2)
+    def test_b(self):
+        self.expect("b", 1, 2)
+class B(Case):
+    def test_b(self):
+        self.skipTest("no fourth-command: apt-get install fourth-package")
+'''
+# Those that decorators name. A test says another one when it runs.
+DECORATED = ["first-command", "second-command", "third-package"]
+# Notes its words, and whether there is a policy then. It has no package NONE.
+APT = """#!/bin/sh
+here=$(dirname "$0")/..
+for word; do line="$line $word"; done
+if [ -x "$here/policy-rc.d" ]; then line="$line policy"; fi
+echo "$line" >>"$here/calls"
+case " $line " in *" NONE "*) exit 100 ;; esac
+"""
 
 
 class Installation(RunnerCase):
-    def test_packages_of_skipped_tests(self) -> None:
-        self.module("skipped", SKIPPED)
-        self.write("bin/apt-get", f"#!/bin/sh\necho \"$@\" >>{self.top}/calls\n", 0o755)
-        self.given("--install", "-k", "A.test_a")
+    """./test --install with a stand-in for apt-get, and a policy in the copy's folder."""
+
+    def setUp(self) -> None:
+        super().setUp()
+        path = f"{self.top}/tools/run_tests/packages.py"
+        with open(path, encoding="utf-8") as file:
+            text = file.read()
+        self.assertEqual(text.count('"/usr/sbin/policy-rc.d"'), 1)
+        self.policy = f"{self.top}/policy-rc.d"
+        self.write("tools/run_tests/packages.py", text.replace('"/usr/sbin/policy-rc.d"', repr(self.policy)))
+
+    def calls(self, *arguments: str, unknown: str = "none") -> list[list[str]]:
+        """What apt-get is told, without options."""
+        self.write("bin/apt-get", APT.replace("NONE", unknown), 0o755)
+        self.write("calls", "")
+        self.given("--install", *arguments)
         with open(f"{self.top}/calls", encoding="utf-8") as file:
-            calls = file.read().splitlines()
-        told = ("update", "install", "nosuch-command", "other-command")
-        named = [[it for it in line.split() if it in told] for line in calls]
-        self.expect("the calls", named, [["update"], ["install", "nosuch-command", "other-command"]])
+            words = [re.sub(r" -o \S+| -\S+", "", line).split() for line in file.read().splitlines()]
+        return words
+
+    def test_packages_of_skipped_tests(self) -> None:
+        """Those of all tests, whichever are chosen."""
+        self.module("skipped", SKIPPED)
+        self.module("sums", GOOD)
+        wanted = [["update", "policy"], ["install", "nosuch-command", "other-command", "policy"]]
+        for arguments in (["-k", "A.test_a"], ["sums"], ["--early"]):
+            self.expect(f"the calls of {arguments}", self.calls(*arguments), wanted)
+
+    def test_packages_of_a_test_that_lacks_several_things(self) -> None:
+        self.module("several", SEVERAL)
+        self.expect("the calls", self.calls(), [["update", "policy"], ["install", *DECORATED, "policy"]])
+        status, lines = self.given()
+        words = " ".join(sorted([*DECORATED, "fourth-package"]))
+        self.expect("the command", (status, lines[-2]), (0, f"./test: for the skipped tests, as root: "
+                                                            f"apt-get install {words}"))
+
+    def test_nothing_lacks(self) -> None:
+        self.module("sums", GOOD)
+        self.expect("the calls", self.calls(), [])
+        status, lines = self.given()
+        self.expect("the lines", (status, [it for it in lines if "apt-get" in it]), (0, []))
+
+    def test_a_package_that_is_unknown(self) -> None:
+        """The others are installed."""
+        self.module("skipped", SKIPPED)
+        names = ["nosuch-command", "other-command"]
+        calls = self.calls(unknown="nosuch-command")
+        self.expect("the calls", calls, [["update", "policy"], *(["install", *those, "policy"]
+                                                                 for those in (names, names[:1], names[1:]))])
+        lines = self.given("--install")[1]
+        self.expect("what is said", {"./test: not installed: nosuch-command", "./test: installed other-command"}
+                    <= {*lines})
 
     def test_a_failed_installation(self) -> None:
         self.module("skipped", SKIPPED)
         self.write("bin/apt-get", "#!/bin/sh\nexit 1\n", 0o755)
         status, lines = self.given("--install")
-        self.expect("the first line", lines[0].startswith("./test: not installed: nosuch-command other-command"))
+        self.expect("the first line", lines[0], "./test: not installed: nosuch-command other-command")
         self.expect("the end", (status, lines[-1]), (0, "0 passed, 0 failed, 2 skipped"))
+
+    def test_policy(self) -> None:
+        """It is removed, and one that the machine has stays."""
+        self.module("skipped", SKIPPED)
+        self.calls()
+        self.expect("it is removed", os.path.lexists(self.policy), False)
+        self.write("policy-rc.d", "#!/bin/sh\n", 0o755)
+        self.calls()
+        with open(self.policy, encoding="utf-8") as file:
+            self.expect("it stays", file.read(), "#!/bin/sh\n")
 
 
 def is_running(process: int) -> bool:

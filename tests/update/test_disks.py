@@ -14,12 +14,11 @@ from fixtures.library import Library
 
 
 @contextlib.contextmanager
-def disk(case, library, options):
-    """A folder that is a disk of its own. The test is skipped if none can be mounted here."""
+def disk(library, options):
+    """A folder that is a disk of its own."""
     folder = library.aside("disk")
     os.mkdir(folder)
-    if subprocess.run(["mount", "-t", "tmpfs", "-o", options, "tmpfs", folder], stderr=subprocess.DEVNULL).returncode:
-        case.skipTest("no tmpfs can be mounted here, which needs root")
+    subprocess.run(["mount", "-t", "tmpfs", "-o", options, "tmpfs", folder], check=True)
     try:
         yield folder
     finally:
@@ -61,21 +60,23 @@ def fill(case, library, rooms, fill_up):
 @needs.nginx()
 @needs.program()
 class Disks(Case):
+    @needs.file_systems()
     def test_full_disk(self) -> None:
         """Less and less room, until nothing can be made: then the version before is served and nothing is left."""
         with Library() as aside:
-            with disk(self, aside, "size=2m") as folder:
+            with disk(aside, "size=2m") as folder:
                 with Library(folder=os.path.join(folder, "library")) as library:
                     rooms = (0, 16, 64, 120, 180, 240, 300, 360, 420, 480)
                     statuses = fill(self, library, rooms, lambda room: fill_bytes(folder, room * 1024))
                     self.expect(f"a full disk: {statuses}", (set(statuses[:-1]), len(statuses) > 4, statuses[-1]),
                                 ({4}, True, 0))
 
+    @needs.file_systems()
     def test_no_file_left(self) -> None:
         """A disk that has room for more bytes, but only for some files; and one that is filled while processes are
         restarted, so that not even a link to the version before can be made."""
         with Library() as aside:
-            with disk(self, aside, "size=8m,nr_inodes=1000") as folder:
+            with disk(aside, "size=8m,nr_inodes=1000") as folder:
                 with Library(folder=os.path.join(folder, "library")) as library:
                     statuses = fill(self, library, (0, 20, 40, 80, 100, 108, 120, 130),
                                     lambda room: fill_files(folder, room))

@@ -11,8 +11,6 @@ import sys
 
 # Tests in this package of tests/ need neither proofs nor the program; those of this one compile without proofs.
 EARLY, UNPROVED = "sources", "unproved"
-# The same of scripts directly in tests/. All others run the program.
-EARLY_SCRIPTS = ("names", "proofs", "python", "scripts")
 MODULE = "tools/run_tests/module.py"
 
 
@@ -29,7 +27,7 @@ class Test:
 
     def group(self) -> str:
         package = self.name.split(".")[0] if self.kind == "module" else ""
-        if package == EARLY or self.kind == "script" and self.name in EARLY_SCRIPTS:
+        if package == EARLY:
             return "--early"
         return "--crates" if package == UNPROVED or self.kind == "crate" else "--program"
 
@@ -48,12 +46,10 @@ def modules() -> list[Test]:
     return found
 
 
-def scripts(beside: list[Test]) -> list[Test]:
-    """The scripts directly in tests/. One that has the name of a module of sources/ runs that module alone, and is no
-    test."""
-    taken = {it.name.removeprefix(f"{EARLY}.") for it in beside if it.name.startswith(f"{EARLY}.")}
+def scripts() -> list[Test]:
+    """The scripts directly in tests/, which run the program."""
     names = sorted(it for it in os.listdir("tests") if os.path.isfile(f"tests/{it}"))
-    return [Test(it, "script", [f"tests/{it}"]) for it in names if "." not in it and f"test_{it}" not in taken]
+    return [Test(it, "script", [f"tests/{it}"]) for it in names if "." not in it]
 
 
 def crates() -> list[Test]:
@@ -69,8 +65,7 @@ def crates() -> list[Test]:
 
 
 def everything() -> list[Test]:
-    found = modules()
-    return [*crates(), *found, *scripts(found)]
+    return [*crates(), *modules(), *scripts()]
 
 
 def _methods_of(test: Test, name: str) -> list[str] | None:

@@ -11,12 +11,12 @@ import time
 from typing import Any
 
 import machine
+import packages
 from catalogue import Test
 
 # The limit of a process in seconds, and how many of its last lines are shown if it fails.
 MOST_SECONDS = 1200
 MOST_LINES = 40
-PACKAGES = re.compile(r"apt-get install ([\w.+ -]+)$")
 
 
 def counted(number: int, noun: str) -> str:
@@ -34,16 +34,11 @@ class Totals:
         for end in ("passed", "failed", "skipped"):
             self.counts[end] += result[end]
         for reason in result["reasons"]:
-            self.packages.update(dict.fromkeys(packages_in(reason)))
+            self.packages.update(dict.fromkeys(packages.named_in(reason)))
 
     def line(self) -> str:
         told = [f"{self.counts['passed']} passed", f"{self.counts['failed']} failed"]
         return ", ".join(told + [f"{self.counts['skipped']} skipped"] * (self.counts["skipped"] > 0))
-
-
-def packages_in(reason: str) -> list[str]:
-    found = PACKAGES.search(reason)
-    return found[1].split() if found else []
 
 
 class Run:

@@ -19,6 +19,7 @@ TESTS = os.path.join(os.path.dirname(os.path.dirname(os.path.dirname(os.path.abs
 sys.dont_write_bytecode = True
 sys.path.insert(0, TESTS)
 from fixtures import cases
+from fixtures import needs
 
 
 class Outcomes(unittest.TestResult):
@@ -59,7 +60,7 @@ class Outcomes(unittest.TestResult):
 
     def addSkip(self, test: Any, reason: str) -> None:
         self.note(test, "skipped")
-        self.reasons.append(reason)
+        self.reasons += [reason, *needs.reasons(test)] if isinstance(test, unittest.TestCase) else [reason]
 
     def addExpectedFailure(self, test: Any, err: Any) -> None:
         self.note(test, "passed")
@@ -134,12 +135,8 @@ def run(name: str, chosen: list[str]) -> dict[str, Any]:
 
 def reasons() -> list[str]:
     """Why tests of any module are skipped, as its decorators say. A module that cannot be imported says nothing."""
-    found: list[str] = []
-    for test in each_test(unittest.defaultTestLoader.discover(TESTS, top_level_dir=TESTS)):
-        for it in (type(test), getattr(test, test._testMethodName, None)):
-            if getattr(it, "__unittest_skip__", False):
-                found.append(getattr(it, "__unittest_skip_why__", ""))
-    return [*dict.fromkeys(found)]
+    tests = each_test(unittest.defaultTestLoader.discover(TESTS, top_level_dir=TESTS))
+    return [*dict.fromkeys(reason for test in tests for reason in needs.reasons(test))]
 
 
 def main(arguments: list[str]) -> int:
