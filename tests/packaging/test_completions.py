@@ -111,6 +111,12 @@ class Completions(Case):
                 )
                 self.expect(f"{what}, begun", self.offered(command, *words, "o"), everything[1:] if paths else [])
 
+    def test_a_path_below_a_folder(self) -> None:
+        with open(f"{self.folder}/folder/two.rules", "w", encoding="utf-8"):
+            pass
+        self.expect("link", self.offered("link", "folder/t"), ["folder/two.rules"])
+        self.expect("expand", self.offered("expand", "folder/t"), [])
+
     def test_the_option_of_expand(self) -> None:
         for words, wanted in (
             ([""], ["--list"]),
