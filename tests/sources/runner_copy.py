@@ -1,0 +1,75 @@
+"""A copy of the script test, of its modules and of what tests share, in which its tests are others."""
+from __future__ import annotations
+
+import os
+import re
+import shutil
+import signal
+import subprocess
+import sys
+import tempfile
+from typing import Any
+
+from fixtures.cases import Case
+
+IMPORTS = "import os, subprocess, sys, time, unittest\nfrom fixtures import needs\nfrom fixtures.cases import Case\n"
+GOOD = '''
+class Sums(Case):
+    def test_one(self):
+        self.expect("one", 1, 1)
+    def test_two(self):
+        self.expect("two", 2, 2)
+        self.expect("three", 3, 3)
+class Words(Case):
+    def test_one(self):
+        self.expect("a word", "a", "a")
+'''
+# Tests that are skipped.
+SKIPPED = '''
+class A(Case):
+    @needs.command("nosuch-command")
+    def test_a(self):
+        self.expect("a", 1, 2)
+@needs.command("other-command")
+class B(Case):
+    def test_b(self):
+        self.expect("b", 1, 2)
+'''
+
+
+class RunnerCase(Case):
+    """A copy of the runner and of what tests share."""
+
+    def setUp(self) -> None:
+        room = tempfile.TemporaryDirectory()
+        self.addCleanup(room.cleanup)
+        self.top = room.name
+        for path in ("tools/run_tests", "tools/prove", "tests/fixtures"):
+            shutil.copytree(path, f"{self.top}/{path}", ignore=shutil.ignore_patterns("__pycache__"))
+        shutil.copy("test", self.top)
+        os.makedirs(f"{self.top}/update")
+        self.write("tests/sources/__init__.py", "")
+        self.write("openlink", "#!/bin/sh\nexit 0\n", 0o755)
+
+    def write(self, path: str, text: str, mode: int = 0o644) -> None:
+        os.makedirs(os.path.dirname(f"{self.top}/{path}"), exist_ok=True)
+        with open(f"{self.top}/{path}", "w", encoding="utf-8") as file:
+            file.write(text)
+        os.chmod(f"{self.top}/{path}", mode)
+
+    def module(self, name: str, text: str) -> None:
+        self.write(f"tests/sources/test_{name}.py", IMPORTS + text)
+
+    def start(self, *arguments: str) -> subprocess.Popen[str]:
+        """Starts the runner. What a shell starts in the background ignores an interrupt; the runner does not here."""
+        path = f"{self.top}/bin:{os.environ['PATH']}"
+        how: dict[str, Any] = {"cwd": self.top, "env": {**os.environ, "PATH": path, "OPENLINK_JOBS": "4"},
+                               "stdout": subprocess.PIPE, "stderr": subprocess.STDOUT, "encoding": "utf-8",
+                               "preexec_fn": lambda: signal.signal(signal.SIGINT, signal.SIG_DFL)}
+        return subprocess.Popen([sys.executable, "-B", "test", *arguments], **how)
+
+    def given(self, *arguments: str) -> tuple[int, list[str]]:
+        """The status, and the lines without seconds."""
+        process = self.start(*arguments)
+        printed = process.communicate()[0]
+        return process.returncode, re.sub(r" in \d+ s:", ":", printed).splitlines()
