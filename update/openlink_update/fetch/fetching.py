@@ -24,6 +24,7 @@ from openlink_update.fetch.sources import Source
 from openlink_update.input_files import InputFolder
 from openlink_update.outcome import ALL_NEW, DEVICE, KEPT, USAGE, Failure, Interrupted, Unreadable
 from openlink_update.report import prepare_streams, report
+from openlink_update.shown_text import amount
 
 _INPUT = "/etc/openlink/input"
 _FOLDER, _LOCK, _STATE = ".fetch", "lock", "state.json"
@@ -85,7 +86,7 @@ def table_in(data: bytes, source: Source) -> bytes:
     # Loaded here, since a run that gets no file needs no reader of tables.
     from openlink_update.received import archives, texts
 
-    inner: bytes = archives.unpacked(data, source.member or "*")
+    inner = archives.unpacked(data, source.member or "*")
     text = texts.text_of(inner)[0]
     if not text.strip():
         raise Unreadable("empty")
@@ -93,12 +94,8 @@ def table_in(data: bytes, source: Source) -> bytes:
         raise Unreadable("a web page, not a table: the address may want a login")
     rows = _rows_in(text)
     if rows < source.least:
-        raise Unreadable(f"{_number(rows, 'row')}, and at least {source.least} must be there")
+        raise Unreadable(f"{amount(rows, 'row')}, and at least {source.least} must be there")
     return inner if source.member else data
-
-
-def _number(count: int, noun: str) -> str:
-    return f"{count} {noun}" if count == 1 else f"{count} {noun}s"
 
 
 class _Fetch:
@@ -235,5 +232,5 @@ class _Fetch:
             for file, line in sorted(lines, key=lambda pair: order.index(pair[0])):
                 self._report(line if file is None else f"{file}: {line}")
         failures = sum(file is not None for file, _ in self._faults)
-        number = f"{_number(count, 'file')} asked for"
+        number = f"{amount(count, 'file')} asked for"
         self._report(f"{number}, {len(self._changes)} new or changed, {failures} not fetched")

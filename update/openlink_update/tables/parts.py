@@ -84,7 +84,7 @@ def places_of(table: Table, most_bytes: int, most_rows: int) -> list[Sequence[in
     if len(bins) > max(-(-sum(sizes) // room), -(-len(sizes) // most_rows)):
         by_size = sorted(groups, key=lambda group: group[1], reverse=True)
         bins = min(bins, _packed(by_size, room, most_rows), key=len)
-    return list(sorted(map(sorted, bins)))
+    return [*sorted(sorted(rows) for rows in bins)]
 
 
 def parts_of(target: str, table: Table, size: int) -> dict[str, Sequence[int]]:

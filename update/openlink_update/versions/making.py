@@ -29,6 +29,7 @@ from openlink_update.index import title_index
 from openlink_update.input_files import InputFile
 from openlink_update.outcome import Failure, Refused
 from openlink_update.received import patterns
+from openlink_update.shown_text import amount
 from openlink_update.tables import date_order, dropped_rows, row_changes
 from openlink_update.tables.parts import base_of
 from openlink_update.tables.preparation import Prepared
@@ -277,12 +278,12 @@ class Maker:
     def _say_changes(self, name: str, old: Files | None, new: Files) -> None:
         table = new.prepared.table
         if old is None:
-            self._report(f"{name}: new, {_rows(len(table.rows))}")
+            self._report(f"{name}: new, {amount(len(table.rows), 'row')}")
         else:
             changes = [] if new.rules == old.rules else ["rules changed"]
             if new.tables != old.tables:
                 added, gone = row_changes.changes(old.table_or_empty, table)
-                changes.append(f"{_rows(added)} added, {gone} gone")
+                changes.append(f"{amount(added, 'row')} added, {gone} gone")
             self._report(f"{name}: {', '.join(changes)}")
         lines = self._judge.write_changes(name) if old else []
         prepared = new.prepared.lines if old is None or new.tables != old.tables else []
@@ -298,10 +299,6 @@ class Maker:
         self._report(f"{name}: {how}")
         for reason in reasons:
             self._report(f"  {reason}")
-
-
-def _rows(count: int) -> str:
-    return f"{count} row" if count == 1 else f"{count} rows"
 
 
 def is_same(one: str | os.PathLike[str], other: str | os.PathLike[str]) -> bool:

@@ -8,7 +8,7 @@ import hashlib
 import json
 import os
 from collections.abc import Iterable, Sequence
-from typing import Any
+from typing import TypedDict
 
 from openlink_update.tables import preparation
 from openlink_update.tables.preparation import Prepared
@@ -16,6 +16,17 @@ from openlink_update.tables.table import Table
 
 _MARKS = "marks"
 folder: str | os.PathLike[str] | None = None  # that of this run
+
+
+class _Stored(TypedDict):
+    """A prepared table in JSON."""
+
+    columns: list[str]
+    rows: list[list[str]]
+    lines: list[str]
+    dropped: list[list[str]]
+    count: int
+    reversed: list[tuple[str, str]]
 
 
 def _sum_of(path: str) -> str:
@@ -48,23 +59,34 @@ def prepare(files: Sequence[tuple[str, bytes]]) -> Prepared:
         return preparation.prepare(files)
     try:
         with open(path, encoding="utf-8") as file:
-            return _of_json(json.load(file))
+            return _of_stored(json.load(file))
     except FileNotFoundError:
         pass
     prepared = preparation.prepare(files)
     try:
         with open(f"{path}.new", "w", encoding="utf-8") as file:
-            json.dump({**vars(prepared), "table": vars(prepared.table)}, file)
+            json.dump(_stored(prepared), file)
         os.replace(f"{path}.new", path)
     except OSError:
         pass  # no room: the next update prepares it again
     return prepared
 
 
-def _of_json(value: dict[str, Any]) -> Prepared:
-    table = Table(tuple(value["table"]["columns"]), value["table"]["rows"])
-    pairs = [(first, last) for first, last in value["reversed"]]
-    return Prepared(**{**value, "table": table, "reversed": pairs})
+def _stored(prepared: Prepared) -> _Stored:
+    return {
+        "columns": list(prepared.table.columns),
+        "rows": prepared.table.rows,
+        "lines": prepared.lines,
+        "dropped": prepared.dropped,
+        "count": prepared.count,
+        "reversed": prepared.reversed,
+    }
+
+
+def _of_stored(stored: _Stored) -> Prepared:
+    table = Table(tuple(stored["columns"]), stored["rows"])
+    pairs = [(first, last) for first, last in stored["reversed"]]
+    return Prepared(table, stored["lines"], stored["dropped"], stored["count"], pairs)
 
 
 def _path_of(files: Sequence[tuple[str, bytes]]) -> str | None:
