@@ -190,7 +190,7 @@ class _Fetch:
     def _take(self, source: Source, download: Download) -> None:
         """Takes a download that is done, and remembers it."""
         if download.is_unchanged:
-            self._state.set_date(source, "checked")
+            self._state.note_check(source)
         elif download.is_whole and download.transfer:
             try:
                 data = table_in(download.body.read_bytes(), source)
@@ -211,7 +211,7 @@ class _Fetch:
         if self._state.sum_of(source) == hashlib.sha256(data).hexdigest():
             return
         self._folder.replace(source.file, data, download.body)
-        self._state.set_date(source, "changed")
+        self._state.note_change(source)
         self._changes.append((source.file, f"{'new' if is_new else 'changed'}, {len(data):,} bytes"))
 
     def _keep(self, source: Source, reason: str) -> None:
@@ -223,7 +223,7 @@ class _Fetch:
         """What could not be fetched comes first."""
         old: list[tuple[str | None, str]] = []
         for source in listed:
-            days = self._state.days_since(source, "changed")
+            days = self._state.days_since_change(source)
             if days and days > max(_MOST_DAYS, source.every):
                 old.append((source.file, f"not changed for {days} days"))
         order = [None, *(source.file for source in listed)]

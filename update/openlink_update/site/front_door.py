@@ -9,7 +9,6 @@ import subprocess
 import time
 from collections.abc import Iterable
 from pathlib import Path
-from typing import Any
 
 from openlink_update import children
 from openlink_update.outcome import DEVICE, Failure
@@ -120,7 +119,7 @@ class FrontDoor:
         """With the module of a site, in a folder that does not exist."""
         self._site, self._folder = site, folder
         self._doors: list[_Door] = []
-        self._child: "subprocess.Popen[Any] | None" = None
+        self._child: "subprocess.Popen[bytes] | None" = None
         nginx = shutil.which("nginx", path=os.environ.get("PATH", os.defpath) + ":/usr/sbin")
         module = _module_of(nginx) if nginx else None
         if not nginx or not module:
@@ -164,7 +163,7 @@ class FrontDoor:
             reasons = " ".join(text for text in map(_read, (log, self._folder / "error.log")) if text)
             raise Failure(f"the front door for probes does not start: {reasons or 'nginx gives no reason'}", DEVICE)
 
-    def _has_begun(self, child: "subprocess.Popen[Any]") -> bool:
+    def _has_begun(self, child: "subprocess.Popen[bytes]") -> bool:
         """Whether nginx serves: it listens before it writes its number, and ends if it cannot write it."""
         if not all(children.wait_for(door.port, child, _SECONDS) for door in self._doors):
             return False
