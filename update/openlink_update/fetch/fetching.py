@@ -103,7 +103,6 @@ class _Fetch:
 
     def __init__(self, folder: InputFolder, report: Callable[[str], None], seconds: float, pause: float) -> None:
         self._folder, self._report, self._seconds, self._pause = folder, report, seconds, pause
-        self._place = folder.place(_FOLDER)
         self._faults: list[tuple[str | None, str]] = []  # pairs of a file and a line
         self._changes: list[tuple[str | None, str]] = []
         self._has_failed = False  # whether a file could not be written
@@ -116,7 +115,7 @@ class _Fetch:
         if unknown:
             raise Failure(f"{self._folder.place(sources.LIST)} has no {', '.join(unknown)}", USAGE)
         self._folder.make(_FOLDER)
-        with open(self._place / _LOCK, "a") as lock:
+        with self._folder.open_lock(f"{_FOLDER}/{_LOCK}") as lock:
             self._lock(lock)
             self._clear()
             state = f"{_FOLDER}/{_STATE}"
@@ -135,9 +134,9 @@ class _Fetch:
 
     def _clear(self) -> None:
         """Removes what a run that was ended or killed has left."""
-        for path in self._place.iterdir():
-            if path.name not in (_LOCK, _STATE):
-                path.unlink()
+        for name in self._folder.names(_FOLDER):
+            if name not in (_LOCK, _STATE):
+                self._folder.remove(f"{_FOLDER}/{name}")
 
     def _run(self, chosen: list[Source]) -> None:
         """Downloads files side by side. A file whose secrets are missing is not fetched."""
@@ -176,7 +175,7 @@ class _Fetch:
             source.address_with(secrets),
             source.headers_with(secrets),
             self._state.conditions(source),
-            self._place / str(number),
+            self._folder.place(_FOLDER, str(number)),
             self._seconds,
             self._pause,
         )
@@ -193,7 +192,7 @@ class _Fetch:
             self._state.note_check(source)
         elif download.is_whole and download.transfer:
             try:
-                data = table_in(download.body.read_bytes(), source)
+                data = table_in(self._folder.read(download.body), source)
             except Unreadable as fault:
                 self._keep(source, str(fault))
             else:
@@ -202,8 +201,7 @@ class _Fetch:
         else:
             self._has_failed |= download.has_failed
             self._keep(source, download.fault or "")
-        if os.path.lexists(download.body):
-            os.unlink(download.body)
+        self._folder.remove(download.body)
 
     def _replace(self, source: Source, data: bytes, download: Download) -> None:
         """Gives the file of a source these bytes, unless it has them."""

@@ -2,6 +2,8 @@
 import dataclasses
 from pathlib import Path
 
+from openlink_update.input_files import cells_in
+
 
 @dataclasses.dataclass(frozen=True)
 class Entry:
@@ -11,6 +13,5 @@ class Entry:
 
 
 def entries_of(path: Path) -> list[Entry]:
-    """The lines of a registry that are not blank."""
-    lines = path.read_text(encoding="utf-8").splitlines()
-    return [Entry(*line.split("\t")) for line in lines if line.strip()]
+    """The lines of a registry. A Failure names one that is damaged."""
+    return [Entry(*cells) for cells in cells_in(path, 3)]

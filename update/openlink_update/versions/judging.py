@@ -6,6 +6,7 @@ from collections.abc import Collection, Iterable
 from pathlib import Path
 
 from openlink_update import shown_text
+from openlink_update.input_files import cells_in
 from openlink_update.tables.identifiers import form_of, standard
 from openlink_update.outcome import Refused
 from openlink_update.tables.cells import IDENTIFIERS
@@ -92,13 +93,9 @@ def _reasons_in(warnings: list[_Line], totals: dict[str, int], limits: dict[str,
 def _allowed_in(version: Path) -> dict[str, dict[str, int]]:
     """By target, the numbers up to which words without one allow warnings in a version; none in an older one."""
     numbers: dict[str, dict[str, int]] = {}
-    try:
-        with open(version / "allowed.tsv", encoding="utf-8") as file:
-            for line in file:
-                target, words, number = line.rstrip("\n").split("\t")
-                numbers.setdefault(target, {})[words] = int(number)
-    except FileNotFoundError:
-        pass
+    path = version / "allowed.tsv"
+    for target, words, number in cells_in(path, 3) if path.exists() else ():
+        numbers.setdefault(target, {})[words] = int(number)
     return numbers
 
 
