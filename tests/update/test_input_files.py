@@ -86,7 +86,6 @@ class Reading(InputFiles):
             self.expect(f"the size of {name!r}", self.folder.status(name).st_size, 4)
         self.expect("an empty file", self.folder.read("empty"), b"")
         self.expect("no bytes of a device", self.folder.read("/dev/null"), b"")
-        self.expect("some bytes of an endless device", self.folder.read("/dev/zero", 3), bytes(3))
 
     def test_a_pipe_is_read_to_its_end(self) -> None:
         os.mkfifo(self.path / "pipe")
