@@ -6,12 +6,12 @@ from openlink_update.input_files import cells_in
 
 
 @dataclasses.dataclass(frozen=True)
-class Entry:
+class _Entry:
     name: str
     code: str  # a path, as that of the table relative to the version
     table: str
 
 
-def entries_of(path: Path) -> list[Entry]:
+def entries_of(path: Path) -> list[_Entry]:
     """The lines of a registry. A Failure names one that is damaged."""
-    return [Entry(*cells) for cells in cells_in(path, 3)]
+    return [_Entry(*cells) for cells in cells_in(path, 3)]
