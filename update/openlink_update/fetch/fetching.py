@@ -16,13 +16,12 @@ from collections.abc import Callable, Sequence
 from pathlib import Path
 from typing import IO
 
-from openlink_update import interrupts
 from openlink_update.fetch import downloads, sources
 from openlink_update.fetch.downloads import Download
 from openlink_update.fetch.fetch_state import State
 from openlink_update.fetch.sources import Source
 from openlink_update.input_files import InputFolder
-from openlink_update.outcome import ALL_NEW, DEVICE, KEPT, USAGE, Failure, Interrupted, Unreadable
+from openlink_update.outcome import ALL_NEW, DEVICE, KEPT, USAGE, Failure, Interrupted, Unreadable, raise_signals
 from openlink_update.report import prepare_streams, report
 from openlink_update.shown_text import amount
 
@@ -51,7 +50,7 @@ def main(words: list[str] | None = None) -> int:
         parser.error("--seconds is above 0, and --pause at least 0")
     os.umask(0o022)
     prepare_streams()
-    interrupts.end_the_run()
+    raise_signals()
     try:
         return fetch(options.input, report, options.seconds, options.pause, options.files)
     except Interrupted as ending:

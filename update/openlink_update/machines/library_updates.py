@@ -10,9 +10,9 @@ import tempfile
 from pathlib import Path
 from typing import IO
 
-from openlink_update import children, interrupts
+from openlink_update import children
 from openlink_update.machines.libraries import REPORT, SHARED, SITE, Libraries
-from openlink_update.outcome import ALL_NEW, DEVICE, WENT_BACK, Interrupted
+from openlink_update.outcome import ALL_NEW, DEVICE, WENT_BACK, Interrupted, raise_signals
 from openlink_update.places import COMMANDS
 from openlink_update.report import report
 from openlink_update.shown_text import printable
@@ -30,7 +30,7 @@ class Updates:
 
     def run(self, names: list[str], with_fetch: bool) -> int:
         """Updates these libraries. Returns the greatest of their exit statuses."""
-        interrupts.end_the_run()
+        raise_signals()
         statuses = []
         try:
             for path in (self._libraries.path(name, REPORT) for name in names if name != ALONE):

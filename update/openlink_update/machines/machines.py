@@ -28,11 +28,11 @@ from collections.abc import Callable, Sequence
 from pathlib import Path
 from typing import IO
 
-from openlink_update import children, interrupts
+from openlink_update import children
 from openlink_update.disk import sync
 from openlink_update.input_files import InputFolder
 from openlink_update.machines.libraries import SHARED, SITE, Libraries
-from openlink_update.outcome import ALL_NEW, KEPT, Failure
+from openlink_update.outcome import ALL_NEW, KEPT, Failure, reset_signals
 from openlink_update.report import report
 from openlink_update.shown_text import line_of
 from openlink_update.site.front_door import FrontDoor, Site
@@ -312,7 +312,7 @@ def deliver(options: Options, status: int) -> int:
     whole run. A signal may end it at any time: what is half sent is not used."""
     if not options.to:
         return status
-    interrupts.have_their_default()
+    reset_signals()
     try:
         sent = Delivery(options).run()
     except Failure as failure:
