@@ -33,9 +33,9 @@ class Updates:
         raise_signals()
         statuses = []
         try:
-            for path in (self._libraries.path(name, REPORT) for name in names if name != ALONE):
-                if os.path.lexists(path):
-                    os.unlink(path)
+            for name in names:
+                if name != ALONE:
+                    self._libraries.path(name, REPORT).unlink(missing_ok=True)
             if with_fetch:
                 statuses.append(self._fetch())
             with contextlib.ExitStack() as stack:

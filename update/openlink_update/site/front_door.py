@@ -49,8 +49,7 @@ _DOOR = """    upstream door{port} {{
 def _text_with_includes(path: str | Path) -> str:
     """The text of a site, and after it that of the files that it includes; nothing if there is no such file."""
     try:
-        with open(path, encoding="utf-8") as file:
-            text = file.read()
+        text = Path(path).read_text(encoding="utf-8")
     except FileNotFoundError:
         return ""
     for included in re.findall(r"^\s*include\s+([^\s;*?]+)\s*;", text, re.M):
@@ -88,8 +87,7 @@ class Site:
     def differences(names: list[str], path: str | Path) -> list[str]:
         """Lines about the targets of a version that this targets.json does not name, and the other way round."""
         try:
-            with open(path, encoding="utf-8") as file:
-                known = json.load(file)["targets"].keys()
+            known = json.loads(Path(path).read_text(encoding="utf-8"))["targets"].keys()
         except (OSError, ValueError, LookupError, TypeError, AttributeError):
             return []  # nginx says what is wrong with it
         unnamed, unused = [name for name in names if name not in known], [name for name in known if name not in names]

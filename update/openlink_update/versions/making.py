@@ -114,8 +114,8 @@ class Maker:
 
     def __init__(
         self,
-        folder: str | os.PathLike[str],
-        older: str | os.PathLike[str] | None,
+        folder: str | Path,
+        older: str | Path | None,
         program: Program,
         today: datetime.date,
         report: Callable[[str], object],
@@ -301,7 +301,7 @@ class Maker:
             self._report(f"  {reason}")
 
 
-def is_same(one: str | os.PathLike[str], other: str | os.PathLike[str]) -> bool:
+def is_same(one: str | Path, other: str | Path) -> bool:
     """Whether two versions serve the same. The first may have no index yet, but its format."""
     versions, folders = (Path(one), Path(other)), ("code", "tables", "received")
     names = [
