@@ -55,11 +55,11 @@ def reasons_against(dropped: list[list[str]], rows: int, allowed: Collection[str
     counts = ", ".join(f"{reason}: {count}" for reason, count in totals.items() if count)
     return [
         f"{len(dropped)} of {rows} rows dropped, and {most} may be: {counts}; to allow it: dropped up to "
-        f"{len(dropped)}; the first: {_shown(dropped[0][1:])}"
+        f"{len(dropped)}; the first: {shown(dropped[0][1:])}"
     ]
 
 
-def _shown(cells: list[str]) -> str:
+def shown(cells: list[str]) -> str:
     """The beginning of a row for the mail."""
     return printable(" ".join(filter(None, cells))[:_MOST_CHARACTERS])
 
