@@ -66,7 +66,7 @@ def said_by(case, command):
     machines.report, machines.SECONDS_TO_ASK, machines.MOST_BYTES = lines.append, seconds, 2**16
     try:
         machine = Other(command)
-        case.expect("it fails", machines.does(machine, machines.Delivery.complete, machine, []), False)
+        case.expect("it fails", machines.does(machine, lambda each: machines.Delivery.complete(each, [])), False)
     finally:
         machines.report, machines.SECONDS_TO_ASK, machines.MOST_BYTES = kept
     return lines

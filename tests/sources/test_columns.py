@@ -36,14 +36,14 @@ def quoted(text: str) -> list[str]:
 
 def columns(top: str) -> tuple[list[str], list[str]]:
     """The columns of the crate: those of the recommendation, and those that the update adds."""
-    known, added = quoted(part(top, CRATE, r"&\[(.*?)\]\s*\}")), quoted(part(top, UPDATE, r"\bCOLUMNS = \((.*?)\)"))
+    known, added = quoted(part(top, CRATE, r"&\[(.*?)\]\s*\}")), quoted(part(top, UPDATE, r"\b_COLUMNS = \((.*?)\)"))
     return known[: len(known) - len(added)], known[len(known) - len(added) :]
 
 
 def faults_of_columns(top: str) -> list[str]:
     expected, last = columns(top)
     listed = part(top, FRONT_DOOR, r"\bconst COLUMNS = ' ' \+ \((.*?)\) \+ ' ';")
-    added = quoted(part(top, UPDATE, r"\bCOLUMNS = \((.*?)\)"))
+    added = quoted(part(top, UPDATE, r"\b_COLUMNS = \((.*?)\)"))
     same = {
         f"the last columns of {CRATE}, and those that {UPDATE} adds": (last, added),
         HEADERS: (quoted(part(top, HEADERS, r"\nCOLUMNS = \((.*?)\n\)")), expected),

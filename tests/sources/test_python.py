@@ -1,6 +1,7 @@
 """Checks the package of the update and its commands: mypy, black and pyflakes have nothing to say; no file changes the
-path of imports or loads a script as a module; each public name of a module is used outside of it; and openlink-fetch
-loads few modules. Each of these refuses a copy with a mistake in it."""
+path of imports or loads a script as a module; each public name of a module is used outside of it; `__all__` of a
+subpackage has the modules that others use; and openlink-fetch loads few modules. Each of these refuses a copy with a
+mistake in it."""
 from __future__ import annotations
 
 import ast
@@ -19,20 +20,20 @@ from fixtures.cases import Case
 
 TOP = Path(fixtures.TOP)
 PACKAGE = "openlink_update"
-COMMANDS = ("update", "fetch", "library", "holdings", "probe", "targets")
+COMMANDS = ("update", "fetch", "library", "holdings", "probe", "targets", "update.d/targets_file.py")
 AMONG = ("weekly_run.py", "report.py", "input_files.py", "fetch/sources.py", "versions/library.py")
-LEAST = 55  # modules
-MOST_MODULES = 15  # of the package, that openlink-fetch loads; that of a reply loads the readers of tables too
+LEAST, LEAST_SUBPACKAGES = 55, 9
+MOST_MODULES, MOST_WITH_A_REPLY = 15, 19  # of the package, that openlink-fetch loads
 # Modules without annotations, and in a form of their own.
 LATER = re.compile(
-    rf"{PACKAGE}/((received|tables|index|exports)/|versions/(making|served|judging|shared_tables|earlier_files)\.py)"
+    rf"{PACKAGE}/(index|exports)/"
 )
-FORBIDDEN = ("sys.path", "SourceFileLoader", "spec_from_")
+FORBIDDEN = ("sys.path", "SourceFileLoader", "spec_from_", "type: ignore", "cast(")
 USERS = ("tests", "benches")  # beside the package: what a test uses is public
 SETTINGS = str(TOP / "pyproject.toml")
 TOOLS = {
     "mypy": ["mypy", "--config-file", SETTINGS, "--no-incremental", "--cache-dir", os.devnull,
-             "--no-error-summary", "--scripts-are-modules"],
+             "--no-error-summary", "--scripts-are-modules", "--disallow-any-explicit"],
     "black": ["black", "--config", SETTINGS, "--check", "--quiet"],
     "pyflakes3": ["pyflakes3"],
 }
@@ -40,11 +41,18 @@ TOOLS = {
 SPOILT = (
     ("outcome.py", "\n\ndef status() -> int:\n    return 'none'\n\n\nstatus()\n", "mypy"),
     ("outcome.py", "\n\ndef _status():\n    return 0\n", "mypy"),
+    ("outcome.py", "\nfrom typing import Any\n\nANYTHING: Any = 0\n", "mypy"),
     ("disk.py", "\nNUMBER=1\n", "black"),
     ("disk.py", "\nimport shlex\n", "pyflakes3"),
     ("outcome.py", "\n# by sys.path\n", "words"),
+    ("outcome.py", "\nSIXTH: int = ''  # type: ignore\n", "words"),
     ("outcome.py", "\nSIXTH = 6\n", "names"),
-    ("interrupts.py", "\nfrom openlink_update.versions import library\n\nprint(library)\n", "modules"),
+    ("disk.py", "\nfrom openlink_update.received import limits\n\nprint(limits)\n", "exports"),
+    ("disk.py", "\nfrom openlink_update.fetch.hosts import host_of\n\nprint(host_of)\n", "exports"),
+    ("received/__init__.py", '\n__all__ = ["archives", "headers", "limits", "patterns", "texts"]\n', "exports"),
+    ("received/__init__.py", "\n__all__ = []\n", "exports"),
+    ("children.py", "\nfrom openlink_update.versions import library\n\nprint(library)\n", "modules"),
+    ("received/headers.py", "\nfrom openlink_update.tables import preparation\n\nprint(preparation)\n", "modules"),
 )
 
 
@@ -100,7 +108,7 @@ def uses_in(tree: ast.Module) -> Iterator[tuple[str, str]]:
         if isinstance(node, ast.Attribute) and isinstance(node.value, ast.Name) and node.value.id in of_names:
             yield of_names[node.value.id], node.attr
         elif isinstance(node, ast.Attribute) and isinstance(node.value, ast.Attribute):  # of a module in a module
-            yield f"{PACKAGE}.{node.value.attr}", node.attr
+            yield node.value.attr, node.attr
 
 
 def python_files(folder: Path) -> Iterator[Path]:
@@ -122,24 +130,72 @@ def faults_of_names(folder: Path) -> Iterator[str]:
             continue
         name = ".".join(path.relative_to(folder).with_suffix("").parts)
         for public in public_names(ast.parse(path.read_text(encoding="utf-8"))):
-            if not public.startswith("_") and (name, public) not in used:
+            if not public.startswith("_") and not {(name, public), (path.stem, public)} & used:
                 yield f"{path.relative_to(folder)}: {public} is used nowhere else, and has no _"
 
 
-def faults_of_modules(folder: Path) -> Iterator[str]:
-    """Those of the modules that a fetch loads before it has a reply."""
+def modules_used(path: Path) -> Iterator[tuple[str, str]]:
+    """Yields pairs of a subpackage and a module of it that a file imports."""
+    for node in ast.walk(ast.parse(path.read_text(encoding="utf-8"))):
+        if isinstance(node, ast.ImportFrom) and (node.module or "").startswith(f"{PACKAGE}."):
+            for alias in node.names:
+                subpackage, *module = [*str(node.module).split(".")[1:], alias.name]
+                yield subpackage, module[0]
+
+
+def exported(path: Path) -> list[str]:
+    """What the last `__all__` of a module has."""
+    found: list[str] = []
+    for node in ast.parse(path.read_text(encoding="utf-8")).body:
+        if isinstance(node, ast.Assign) and ast.unparse(node.targets[0]) == "__all__":
+            found = ast.literal_eval(node.value)
+    return found
+
+
+def faults_of_exports(folder: Path) -> Iterator[str]:
+    heads = {path.parent.name: path for path in (folder / PACKAGE).glob("*/__init__.py")}
+    used: dict[str, set[str]] = {name: set() for name in heads}
+    for path in [*modules(folder), *(folder / name for name in COMMANDS)]:
+        for subpackage, module in modules_used(path):
+            if subpackage in heads and path.parent != heads[subpackage].parent:
+                used[subpackage].add(module)
+    if len(heads) < LEAST_SUBPACKAGES:
+        yield f"{len(heads)} subpackages, and there are at least {LEAST_SUBPACKAGES}"
+    for name, path in heads.items():
+        public = {*exported(path)}
+        for module in sorted(used[name] ^ public):
+            what = "in __all__, and no other uses it" if module in public else "used by others, and not in __all__"
+            yield f"{name}: {module} is {what}"
+
+
+def modules_loaded(folder: Path, work: str) -> list[str]:
+    """The modules of the package that openlink-fetch has loaded after some work."""
     code = f"""import sys, {PACKAGE}.fetch.fetching
+{work}
 print(*(name for name in sys.modules if name.startswith("{PACKAGE}")))"""
     words = [sys.executable, "-S", "-B", "-c", code]
     process = subprocess.run(words, capture_output=True, text=True, cwd=folder, check=True)
-    loaded = process.stdout.split()
-    if len(loaded) > MOST_MODULES:
-        yield f"openlink-fetch loads {len(loaded)} modules, and {MOST_MODULES} are allowed: {' '.join(loaded)}"
-    if f"{PACKAGE}.fetch.sources" not in loaded:
-        yield "openlink-fetch loads no fetch.sources"
+    return process.stdout.split()
 
 
-OTHERS = {"words": faults_of_words, "names": faults_of_names, "modules": faults_of_modules}
+def faults_of_modules(folder: Path) -> Iterator[str]:
+    """Those of the modules that a fetch loads before it has a reply, and then."""
+    reply = f'{PACKAGE}.fetch.fetching.table_in(b"a\\tb\\nc\\td\\n", {PACKAGE}.fetch.sources.Source("a", "b"))'
+    works = ("", MOST_MODULES, "fetch.sources"), (reply, MOST_WITH_A_REPLY, "received.headers")
+    for work, most, among in works:
+        loaded = modules_loaded(folder, work)
+        if len(loaded) > most:
+            yield f"openlink-fetch loads {len(loaded)} modules, and {most} are allowed: {' '.join(loaded)}"
+        if f"{PACKAGE}.{among}" not in loaded:
+            yield f"openlink-fetch loads no {among}"
+
+
+OTHERS = {
+    "words": faults_of_words,
+    "names": faults_of_names,
+    "exports": faults_of_exports,
+    "modules": faults_of_modules,
+}
 
 
 def faults_of(kind: str, folder: Path, paths: list[Path], command: str = "") -> list[str]:
@@ -199,6 +255,9 @@ class Python(Case):
 
     def test_public_names_are_used(self) -> None:
         self.check("names")
+
+    def test_exports(self) -> None:
+        self.check("exports")
 
     def test_modules_that_a_fetch_loads(self) -> None:
         self.check("modules")

@@ -7,9 +7,9 @@ import signal
 import socket
 import subprocess
 import time
-from collections.abc import Callable, Sequence
+from collections.abc import Callable, Mapping, Sequence
 from pathlib import Path
-from typing import Any
+from typing import IO
 
 from openlink_update.outcome import DEVICE, Failure
 
@@ -37,11 +37,27 @@ def tied(most_bytes: int | None = None) -> Callable[[], None]:
 
 
 def start(
-    words: Sequence[str | Path], folder: str | Path, most_bytes: int | None = None, **how: Any
-) -> "subprocess.Popen[Any]":
-    """Starts a command that ends with this process."""
-    how = {"stdin": subprocess.DEVNULL, "start_new_session": True, **how}
-    return subprocess.Popen(words, cwd=folder, preexec_fn=tied(most_bytes), **how)
+    words: Sequence[str | Path],
+    folder: str | Path,
+    most_bytes: int | None = None,
+    stdin: int = subprocess.DEVNULL,
+    stdout: "int | IO[bytes] | None" = None,
+    stderr: int | None = None,
+    env: Mapping[str, str] | None = None,
+    restore_signals: bool = True,
+) -> "subprocess.Popen[bytes]":
+    """Starts a command that ends with this process. The last five are those of Popen."""
+    return subprocess.Popen(
+        words,
+        cwd=folder,
+        preexec_fn=tied(most_bytes),
+        start_new_session=True,
+        stdin=stdin,
+        stdout=stdout,
+        stderr=stderr,
+        env=env,
+        restore_signals=restore_signals,
+    )
 
 
 def write(child: "subprocess.Popen[bytes]", data: bytes) -> None:
@@ -54,7 +70,7 @@ def write(child: "subprocess.Popen[bytes]", data: bytes) -> None:
             pass
 
 
-def stop(child: "subprocess.Popen[Any]") -> None:
+def stop(child: "subprocess.Popen[bytes]") -> None:
     if child.poll() is None:
         child.terminate()
         try:
@@ -92,7 +108,7 @@ def free_port() -> int:
     )
 
 
-def wait_for(port: int, child: "subprocess.Popen[Any]", seconds: float) -> bool:
+def wait_for(port: int, child: "subprocess.Popen[bytes]", seconds: float) -> bool:
     """Whether a child listens at a port before it ends and before the time is over."""
     end = time.monotonic() + seconds
     while time.monotonic() < end and child.poll() is None:

@@ -1,6 +1,7 @@
 """Texts as a person reads them, in a mail, on a terminal or in a spreadsheet. Tables, servers and other machines send
 any characters: some are commands of a terminal, reverse the order of what follows, or begin a formula."""
 import csv
+import dataclasses
 import io
 import re
 from collections.abc import Iterable
@@ -8,6 +9,25 @@ from collections.abc import Iterable
 # Controls of ASCII but the end of a line, those of Latin-1, and those that end a line or set its direction.
 _UNSAFE = re.compile("[\x00-\x09\x0b-\x1f\x7f-\x9f\u061c\u200e\u200f\u2028-\u202e\u2066-\u2069]")
 _FORMULA = tuple("=+-@＝＋－＠")  # how a cell begins that some spreadsheets run as a formula
+
+
+@dataclasses.dataclass(frozen=True)
+class Count:
+    """What was done, and to how many cells, rows or lines."""
+
+    what: str
+    number: int
+    noun: str
+
+
+def amount(number: int, noun: str) -> str:
+    """A number of things, such as 1 row or 2 rows."""
+    return f"{number} {noun}" if number == 1 else f"{number} {noun}s"
+
+
+def lines_of_counts(*counts: Count) -> list[str]:
+    """A line for each count above 0."""
+    return [f"{count.what}: {amount(count.number, count.noun)}" for count in counts if count.number]
 
 
 def printable(text: str) -> str:

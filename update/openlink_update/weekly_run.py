@@ -6,11 +6,11 @@ import functools
 from collections.abc import Callable, Sequence
 from pathlib import Path
 
-from openlink_update import children, interrupts
+from openlink_update import children
 from openlink_update.exports import export_files
 from openlink_update.fetch import sources
 from openlink_update.input_files import InputFolder
-from openlink_update.outcome import ALL_NEW, KEPT, Failure
+from openlink_update.outcome import ALL_NEW, KEPT, Failure, ignore_signals
 from openlink_update.report import report
 from openlink_update.site.front_door import FrontDoor, Site
 from openlink_update.site.names_file import NAME, NamesFile
@@ -112,7 +112,7 @@ class Run:
             library.complete(new)
             self.put_in_use(new, old)
             self.try_again(probes, trials)
-        interrupts.are_ignored()
+        ignore_signals()
         library.settle()
         remove()
         return self._say_end(maker, f"{new} is in use")
@@ -234,7 +234,7 @@ class Run:
     def go_back(self, ports: list[int]) -> None:
         """Serves the version that `before` names, at these ports, and then at the others: a process that has ended in
         the meantime may have started with the new version. What fails is said, and does not stop it, nor do signals."""
-        interrupts.are_ignored()
+        ignore_signals()
         stamp = self.library.version_of("before")
         self.library.move_back(stamp)
         is_well = True

@@ -107,8 +107,7 @@ def _remove(options: _Options, places: files.Places, libraries: Libraries) -> No
         raise Failure(f"{remains} exists, of a library that was removed before: move it away")
     lock = Library(folder).lock()
     for link in ("current", "before"):
-        if os.path.lexists(folder / link):
-            os.unlink(folder / link)
+        (folder / link).unlink(missing_ok=True)
     run(["systemctl", "reload-or-restart", "nginx"])
     ports = files.unit_ports(places, folder)
     if ports:

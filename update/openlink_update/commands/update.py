@@ -1,7 +1,6 @@
 """The work of openlink-update: one library, several, or other machines."""
 import os
 
-from openlink_update import interrupts
 from openlink_update import update_options
 from openlink_update.fetch import fetching, sources
 from openlink_update.input_files import InputFolder
@@ -9,7 +8,17 @@ from openlink_update.machines.libraries import Libraries
 from openlink_update.machines.library_updates import ALONE, Updates
 from openlink_update.machines.machines import deliver
 from openlink_update.machines.receiving import Receiver
-from openlink_update.outcome import ALL_NEW, DEVICE, KEPT, USAGE, WENT_BACK, Failure, Interrupted
+from openlink_update.outcome import (
+    ALL_NEW,
+    DEVICE,
+    KEPT,
+    USAGE,
+    WENT_BACK,
+    Failure,
+    Interrupted,
+    ignore_signals,
+    raise_signals,
+)
 from openlink_update.report import prepare_streams, report
 from openlink_update.site.front_door import Site
 from openlink_update.update_options import Options
@@ -96,7 +105,7 @@ def _end_of(run: Run, options: Options) -> tuple[int, str | None]:
         try:
             return _work(run, options), None
         finally:
-            interrupts.are_ignored()
+            ignore_signals()
     except Interrupted as ending:
         return WENT_BACK, f"ended by {ending}"
     except Failure as failure:
@@ -114,13 +123,13 @@ def _work(run: Run, options: Options) -> int:
         report("the last run was killed while it restarted processes: going back first")
         run.processes.wait_for_all()
         run.go_back(run.processes.ports)
-    interrupts.end_the_run()
+    raise_signals()
     library.versions()
     library.clear()
     if options.receive and isinstance(run, Receiver):
         return run.receive(options.receive, options.keep)
     if options.back:
-        interrupts.are_ignored()
+        ignore_signals()
         library.remember(_version_before(library))
         run.go_back(run.processes.ports)
         return WENT_BACK if library.is_unsettled() else ALL_NEW

@@ -1,1 +1,3 @@
 """Fetching the tables of providers."""
+
+__all__ = ["fetching", "sources"]

@@ -63,8 +63,7 @@ class Download:
         return host_of(self.address)
 
     def start(self) -> None:
-        if os.path.lexists(self.body):
-            os.unlink(self.body)
+        self.body.unlink(missing_ok=True)
         headers = self.headers if place_of(self.address) == place_of(self.first) else []
         self.transfer = Transfer(
             self.address, headers + self.conditions, self.body, self.seconds, self.bytes, self.addresses

@@ -1,17 +1,48 @@
 """What the fetch remembers of each file, in a file of JSON: where it came from, its sum, what the server called it, and
 the dates on which it was last asked for and last changed."""
+import dataclasses
 import datetime
 import hashlib
 import json
 from collections.abc import Mapping
-from typing import Any
 
 from openlink_update.fetch.sources import Source
 from openlink_update.input_files import InputFolder
 
-# What a server calls a file: a key here, the header of the reply, and that of the next request.
-_NAMES = (("etag", "etag", "If-None-Match"), ("modified", "last-modified", "If-Modified-Since"))
-_MOST_CHARACTERS = 1000  # of such a name
+_MOST_CHARACTERS = 1000  # of what a server calls a file
+
+
+@dataclasses.dataclass
+class _Entry:
+    """What is remembered of one file; None is unknown."""
+
+    source: str | None = None
+    sum: str | None = None
+    secrets: int | None = None
+    checked: str | None = None  # a date
+    changed: str | None = None
+    etag: str | None = None  # what the server calls it
+    modified: str | None = None
+
+    @classmethod
+    def parse(cls, value: object) -> "_Entry":
+        """That of a value of JSON. What has another type is unknown."""
+        members = value if isinstance(value, dict) else {}
+        secrets = members.get("secrets")
+        texts = {name: _text_of(members.get(name)) for name in _TEXTS}
+        return cls(secrets=secrets if isinstance(secrets, int) else None, **texts)
+
+    def conditions(self) -> list[str]:
+        """The headers by which the server says that it has this file."""
+        names = {"If-None-Match": self.etag, "If-Modified-Since": self.modified}
+        return [f"{header}: {name}" for header, name in names.items() if name]
+
+
+_TEXTS = tuple(field.name for field in dataclasses.fields(_Entry) if field.name != "secrets")
+
+
+def _text_of(value: object) -> str | None:
+    return value if isinstance(value, str) else None
 
 
 def _name_in(reply: Mapping[str, str], header: str) -> str | None:
@@ -28,20 +59,21 @@ class State:
         self._folder, self._name, self._version, self._today = folder, name, version, today
         self._entries = self._read()
 
-    def _read(self) -> dict[str, dict[str, Any]]:
+    def _read(self) -> dict[str, _Entry]:
         """What earlier runs knew; nothing if the file is missing or damaged."""
         try:
             entries = json.loads(self._folder.read(self._name))
-            return {name: dict(entry) for name, entry in entries.items()}
-        except (OSError, ValueError, AttributeError, TypeError):
+        except (OSError, ValueError):
             return {}
+        return {name: _Entry.parse(entry) for name, entry in entries.items()} if isinstance(entries, dict) else {}
 
     def write(self) -> None:
-        text = json.dumps(self._entries, indent=1, sort_keys=True)
+        entries = {name: dataclasses.asdict(entry) for name, entry in self._entries.items()}
+        text = json.dumps(entries, indent=1, sort_keys=True)
         self._folder.replace(self._name, text.encode(), self._folder.place(f"{self._name}.new"))
 
-    def _entry(self, source: Source) -> dict[str, Any]:
-        return self._entries.setdefault(source.file, {})
+    def _entry(self, source: Source) -> _Entry:
+        return self._entries.setdefault(source.file, _Entry())
 
     def sum_of(self, source: Source) -> str | None:
         """The SHA-256 sum of the file of a source, or None if there is none."""
@@ -54,35 +86,45 @@ class State:
             return None
         return total.hexdigest()
 
-    def days_since(self, source: Source, event: str) -> int | None:
-        """The days since a file was last `checked` or `changed`; None if that is unknown."""
+    def days_since_check(self, source: Source) -> int | None:
+        """The days since a file was last asked for; None if that is unknown."""
+        return self._days_since(self._entry(source).checked)
+
+    def days_since_change(self, source: Source) -> int | None:
+        """The days since a file last changed; None if that is unknown."""
+        return self._days_since(self._entry(source).changed)
+
+    def _days_since(self, date: str | None) -> int | None:
         try:
-            return (self._today - datetime.date.fromisoformat(self._entry(source)[event])).days
-        except (KeyError, TypeError, ValueError):
+            return (self._today - datetime.date.fromisoformat(date or "")).days
+        except ValueError:
             return None
 
     def is_due(self, source: Source) -> bool:
-        days = self.days_since(source, "checked")
-        is_known = self._entry(source).get("source") == source.text() and self._folder.exists(source.file)
+        days = self.days_since_check(source)
+        is_known = self._entry(source).source == source.text() and self._folder.exists(source.file)
         return days is None or not is_known or days >= source.every
 
     def conditions(self, source: Source) -> list[str]:
         """The headers by which the server says that nothing has changed: none if the file did not come from this
         source, or if secrets have changed."""
         entry = self._entry(source)
-        is_known = entry.get("source") == source.text() and entry.get("sum") == self.sum_of(source)
-        if not is_known or source.names() and entry.get("secrets") != self._version:
+        is_known = entry.source == source.text() and entry.sum == self.sum_of(source)
+        if not is_known or source.names() and entry.secrets != self._version:
             return []
-        return [f"{header}: {entry[key]}" for key, _, header in _NAMES if entry.get(key)]
+        return entry.conditions()
 
-    def set_date(self, source: Source, event: str) -> None:
-        self._entry(source)[event] = self._today.isoformat()
+    def note_check(self, source: Source) -> None:
+        self._entry(source).checked = self._today.isoformat()
+
+    def note_change(self, source: Source) -> None:
+        self._entry(source).changed = self._today.isoformat()
 
     def remember(self, source: Source, reply: Mapping[str, str]) -> None:
         """Remembers a file that came with the headers of a reply."""
         entry = self._entry(source)
-        if "changed" not in entry:  # it existed before the first run
-            entry["changed"] = datetime.date.fromtimestamp(self._folder.status(source.file).st_mtime).isoformat()
-        entry.update(source=source.text(), sum=self.sum_of(source), secrets=self._version)
-        entry.update((key, _name_in(reply, header)) for key, header, _ in _NAMES)
-        self.set_date(source, "checked")
+        if entry.changed is None:  # it existed before the first run
+            entry.changed = datetime.date.fromtimestamp(self._folder.status(source.file).st_mtime).isoformat()
+        entry.source, entry.sum, entry.secrets = source.text(), self.sum_of(source), self._version
+        entry.etag, entry.modified = _name_in(reply, "etag"), _name_in(reply, "last-modified")
+        self.note_check(source)

@@ -16,14 +16,14 @@ from collections.abc import Callable, Sequence
 from pathlib import Path
 from typing import IO
 
-from openlink_update import interrupts
 from openlink_update.fetch import downloads, sources
 from openlink_update.fetch.downloads import Download
 from openlink_update.fetch.fetch_state import State
 from openlink_update.fetch.sources import Source
 from openlink_update.input_files import InputFolder
-from openlink_update.outcome import ALL_NEW, DEVICE, KEPT, USAGE, Failure, Interrupted, Unreadable
+from openlink_update.outcome import ALL_NEW, DEVICE, KEPT, USAGE, Failure, Interrupted, Unreadable, raise_signals
 from openlink_update.report import prepare_streams, report
+from openlink_update.shown_text import amount
 
 _INPUT = "/etc/openlink/input"
 _FOLDER, _LOCK, _STATE = ".fetch", "lock", "state.json"
@@ -50,7 +50,7 @@ def main(words: list[str] | None = None) -> int:
         parser.error("--seconds is above 0, and --pause at least 0")
     os.umask(0o022)
     prepare_streams()
-    interrupts.end_the_run()
+    raise_signals()
     try:
         return fetch(options.input, report, options.seconds, options.pause, options.files)
     except Interrupted as ending:
@@ -85,7 +85,7 @@ def table_in(data: bytes, source: Source) -> bytes:
     # Loaded here, since a run that gets no file needs no reader of tables.
     from openlink_update.received import archives, texts
 
-    inner: bytes = archives.unpacked(data, source.member or "*")
+    inner = archives.unpacked(data, source.member or "*")
     text = texts.text_of(inner)[0]
     if not text.strip():
         raise Unreadable("empty")
@@ -93,12 +93,8 @@ def table_in(data: bytes, source: Source) -> bytes:
         raise Unreadable("a web page, not a table: the address may want a login")
     rows = _rows_in(text)
     if rows < source.least:
-        raise Unreadable(f"{_number(rows, 'row')}, and at least {source.least} must be there")
+        raise Unreadable(f"{amount(rows, 'row')}, and at least {source.least} must be there")
     return inner if source.member else data
-
-
-def _number(count: int, noun: str) -> str:
-    return f"{count} {noun}" if count == 1 else f"{count} {noun}s"
 
 
 class _Fetch:
@@ -106,7 +102,6 @@ class _Fetch:
 
     def __init__(self, folder: InputFolder, report: Callable[[str], None], seconds: float, pause: float) -> None:
         self._folder, self._report, self._seconds, self._pause = folder, report, seconds, pause
-        self._place = folder.place(_FOLDER)
         self._faults: list[tuple[str | None, str]] = []  # pairs of a file and a line
         self._changes: list[tuple[str | None, str]] = []
         self._has_failed = False  # whether a file could not be written
@@ -119,7 +114,7 @@ class _Fetch:
         if unknown:
             raise Failure(f"{self._folder.place(sources.LIST)} has no {', '.join(unknown)}", USAGE)
         self._folder.make(_FOLDER)
-        with open(self._place / _LOCK, "a") as lock:
+        with self._folder.open_lock(f"{_FOLDER}/{_LOCK}") as lock:
             self._lock(lock)
             self._clear()
             state = f"{_FOLDER}/{_STATE}"
@@ -138,9 +133,9 @@ class _Fetch:
 
     def _clear(self) -> None:
         """Removes what a run that was ended or killed has left."""
-        for path in self._place.iterdir():
-            if path.name not in (_LOCK, _STATE):
-                path.unlink()
+        for name in self._folder.names(_FOLDER):
+            if name not in (_LOCK, _STATE):
+                self._folder.remove(f"{_FOLDER}/{name}")
 
     def _run(self, chosen: list[Source]) -> None:
         """Downloads files side by side. A file whose secrets are missing is not fetched."""
@@ -179,7 +174,7 @@ class _Fetch:
             source.address_with(secrets),
             source.headers_with(secrets),
             self._state.conditions(source),
-            self._place / str(number),
+            self._folder.place(_FOLDER, str(number)),
             self._seconds,
             self._pause,
         )
@@ -193,10 +188,10 @@ class _Fetch:
     def _take(self, source: Source, download: Download) -> None:
         """Takes a download that is done, and remembers it."""
         if download.is_unchanged:
-            self._state.set_date(source, "checked")
+            self._state.note_check(source)
         elif download.is_whole and download.transfer:
             try:
-                data = table_in(download.body.read_bytes(), source)
+                data = table_in(self._folder.read(download.body), source)
             except Unreadable as fault:
                 self._keep(source, str(fault))
             else:
@@ -205,8 +200,7 @@ class _Fetch:
         else:
             self._has_failed |= download.has_failed
             self._keep(source, download.fault or "")
-        if os.path.lexists(download.body):
-            os.unlink(download.body)
+        self._folder.remove(download.body)
 
     def _replace(self, source: Source, data: bytes, download: Download) -> None:
         """Gives the file of a source these bytes, unless it has them."""
@@ -214,7 +208,7 @@ class _Fetch:
         if self._state.sum_of(source) == hashlib.sha256(data).hexdigest():
             return
         self._folder.replace(source.file, data, download.body)
-        self._state.set_date(source, "changed")
+        self._state.note_change(source)
         self._changes.append((source.file, f"{'new' if is_new else 'changed'}, {len(data):,} bytes"))
 
     def _keep(self, source: Source, reason: str) -> None:
@@ -226,7 +220,7 @@ class _Fetch:
         """What could not be fetched comes first."""
         old: list[tuple[str | None, str]] = []
         for source in listed:
-            days = self._state.days_since(source, "changed")
+            days = self._state.days_since_change(source)
             if days and days > max(_MOST_DAYS, source.every):
                 old.append((source.file, f"not changed for {days} days"))
         order = [None, *(source.file for source in listed)]
@@ -235,5 +229,5 @@ class _Fetch:
             for file, line in sorted(lines, key=lambda pair: order.index(pair[0])):
                 self._report(line if file is None else f"{file}: {line}")
         failures = sum(file is not None for file, _ in self._faults)
-        number = f"{_number(count, 'file')} asked for"
+        number = f"{amount(count, 'file')} asked for"
         self._report(f"{number}, {len(self._changes)} new or changed, {failures} not fetched")

@@ -12,8 +12,6 @@ lines and lines that begin with # are skipped in both."""
 import dataclasses
 import re
 import stat
-from collections.abc import Iterable
-from typing import Any
 from urllib.parse import quote, urlsplit
 
 from openlink_update.input_files import InputFolder, Line
@@ -22,7 +20,7 @@ LIST, SECRETS = "sources.tsv", "secrets.tsv"
 _LISTS = ("targets.tsv", "probes.tsv", LIST, SECRETS)
 _SECRET = re.compile(r"\{([A-Za-z0-9_.-]{1,64})\}")
 _HEADER = re.compile(r"header +([A-Za-z0-9-]+): *(.*\S)")
-_NUMBER = {"every": re.compile(r"every (\d{1,5}) days?"), "least": re.compile(r"least (\d{1,9}) rows?")}
+_EVERY, _LEAST = re.compile(r"every (\d{1,5}) days?"), re.compile(r"least (\d{1,9}) rows?")
 _PRINTABLE = re.compile(r"[!-~]+")
 
 
@@ -101,28 +99,27 @@ def _source_of(cells: list[str]) -> Source:
     parts = file.split("/")
     if "" in parts or any(part.startswith(".") for part in parts) or file in _LISTS:
         raise Wrong(f"{file} cannot be fetched: not a path below the folder, or a list")
-    options = _options_of(text.strip() for text in (cells[2].split(";") if len(cells) == 3 else ()))
-    source = Source(file, address, **options)
+    source = Source(file, address)
+    for text in filter(None, map(str.strip, cells[2].split(";") if len(cells) == 3 else ())):
+        source = _with_option(source, text)
     _check_address(address, source.is_plain)
     return source
 
 
-def _options_of(texts: Iterable[str]) -> dict[str, Any]:
-    options: dict[str, Any] = {"headers": ()}
-    for text in filter(None, texts):
-        header = _HEADER.fullmatch(text)
-        numbers = {name: int(match[1]) for name, form in _NUMBER.items() for match in [form.fullmatch(text)] if match}
-        if header:
-            options["headers"] += (_Header(header[1], header[2]),)
-        elif numbers:
-            options.update(numbers)
-        elif text.startswith("member "):
-            options["member"] = text[7:].strip()
-        elif text == "plain http":
-            options["is_plain"] = True
-        else:
-            raise Wrong(f"unknown option {text.split(' ')[0]}")
-    return options
+def _with_option(source: Source, text: str) -> Source:
+    """The source with one more option."""
+    header, every, least = (form.fullmatch(text) for form in (_HEADER, _EVERY, _LEAST))
+    if header:
+        return dataclasses.replace(source, headers=(*source.headers, _Header(header[1], header[2])))
+    if every:
+        return dataclasses.replace(source, every=int(every[1]))
+    if least:
+        return dataclasses.replace(source, least=int(least[1]))
+    if text.startswith("member "):
+        return dataclasses.replace(source, member=text[7:].strip())
+    if text == "plain http":
+        return dataclasses.replace(source, is_plain=True)
+    raise Wrong(f"unknown option {text.split(' ')[0]}")
 
 
 def _check_address(address: str, is_plain: bool) -> None:

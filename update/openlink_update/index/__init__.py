@@ -1,1 +1,3 @@
 """The index of a version, by which the front door finds titles."""
+
+__all__ = ["title_index", "titles"]

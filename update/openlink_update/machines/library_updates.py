@@ -1,17 +1,18 @@
 """The updates of several libraries, one after the other, each by a process of its own. So a bad file, a full disk or a
 bug in the update stops only the library that it concerns. Each leaves a report in its folder."""
 import contextlib
+import io
 import os
 import signal
 import subprocess
 import sys
 import tempfile
 from pathlib import Path
-from typing import Any
+from typing import IO
 
-from openlink_update import children, interrupts
+from openlink_update import children
 from openlink_update.machines.libraries import REPORT, SHARED, SITE, Libraries
-from openlink_update.outcome import ALL_NEW, DEVICE, WENT_BACK, Interrupted
+from openlink_update.outcome import ALL_NEW, DEVICE, WENT_BACK, Interrupted, raise_signals
 from openlink_update.places import COMMANDS
 from openlink_update.report import report
 from openlink_update.shown_text import printable
@@ -29,12 +30,12 @@ class Updates:
 
     def run(self, names: list[str], with_fetch: bool) -> int:
         """Updates these libraries. Returns the greatest of their exit statuses."""
-        interrupts.end_the_run()
+        raise_signals()
         statuses = []
         try:
-            for path in (self._libraries.path(name, REPORT) for name in names if name != ALONE):
-                if os.path.lexists(path):
-                    os.unlink(path)
+            for name in names:
+                if name != ALONE:
+                    self._libraries.path(name, REPORT).unlink(missing_ok=True)
             if with_fetch:
                 statuses.append(self._fetch())
             with contextlib.ExitStack() as stack:
@@ -86,26 +87,25 @@ class Updates:
         If this run is interrupted, so is the command, which goes back first."""
         command: list[str | Path] = [sys.executable, COMMANDS / words[0], *words[1:]]
         try:
-            child = children.start(
-                command, "/", stdout=subprocess.PIPE, stderr=subprocess.STDOUT, text=True, errors="replace"
-            )
+            child = children.start(command, "/", stdout=subprocess.PIPE, stderr=subprocess.STDOUT)
         except OSError as fault:
             report(f"openlink-update: {words[0]}: {fault.strerror}", "stderr")
             return DEVICE, str(DEVICE)
-        try:
-            self._print(child, lines)
-        except Interrupted as ending:
-            self._ending = ending
-            child.terminate()
-            self._print(child, lines)
+        with io.TextIOWrapper(child.stdout or io.BytesIO(), errors="replace") as output:
+            try:
+                self._print(output, lines)
+            except Interrupted as ending:
+                self._ending = ending
+                child.terminate()
+                self._print(output, lines)
         status = child.wait()
         if status >= 0:
             return status, str(status)
         return DEVICE, signal.Signals(-status).name.removeprefix("SIG")
 
     @staticmethod
-    def _print(child: "subprocess.Popen[Any]", lines: list[str]) -> None:
-        for line in child.stdout or ():
+    def _print(output: IO[str], lines: list[str]) -> None:
+        for line in output:
             line = printable(line.rstrip("\n"))
             lines.append(f"{line}\n")
             report(line)

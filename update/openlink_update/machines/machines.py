@@ -26,13 +26,13 @@ import subprocess
 import time
 from collections.abc import Callable, Sequence
 from pathlib import Path
-from typing import IO, Any
+from typing import IO
 
-from openlink_update import children, interrupts
+from openlink_update import children
 from openlink_update.disk import sync
 from openlink_update.input_files import InputFolder
 from openlink_update.machines.libraries import SHARED, SITE, Libraries
-from openlink_update.outcome import ALL_NEW, KEPT, Failure
+from openlink_update.outcome import ALL_NEW, KEPT, Failure, reset_signals
 from openlink_update.report import report
 from openlink_update.shown_text import line_of
 from openlink_update.site.front_door import FrontDoor, Site
@@ -80,7 +80,7 @@ def run(words: Sequence[str | Path], seconds: float) -> str:
     return output
 
 
-def _read(child: "subprocess.Popen[Any]", streams: list[IO[bytes]], seconds: float) -> list[str]:
+def _read(child: "subprocess.Popen[bytes]", streams: list[IO[bytes]], seconds: float) -> list[str]:
     """The texts that a child prints until it ends. TimeoutExpired or OverflowError if they are too late or too long:
     another machine may be in the hands of others."""
     end, texts = time.monotonic() + seconds, {stream.fileno(): b"" for stream in streams}
@@ -151,17 +151,19 @@ def _sendable(options: Options) -> list[_Sendable]:
     libraries = Libraries(options.library, options.site)
     every = []
     if libraries.has_one_alone() or options.input:
-        library = Library(options.library)
-        every.append((_ALONE, library, Site(options.site), options.input or library.path("input")))
+        every.append(_sendable_of(_ALONE, options.library, Site(options.site), options.input))
     for name in libraries.names():
-        library = Library(libraries.path(name))
-        every.append((name, library, Site(libraries.path(name, SITE), options.site), library.path("input")))
-    return [
-        _Sendable(name, library, stamp, site, folder)
-        for name, library, site, folder in every
-        for stamp in [library.current()]
-        if stamp and not library.is_unsettled()
-    ]
+        every.append(_sendable_of(name, libraries.path(name), Site(libraries.path(name, SITE), options.site)))
+    return [sendable for sendable in every if sendable]
+
+
+def _sendable_of(name: str, folder: Path, site: Site, input: Path | None = None) -> _Sendable | None:
+    """The library in a folder, or None if it has no version in use, or a run is about to leave it."""
+    library = Library(folder)
+    stamp = library.current()
+    if not stamp or library.is_unsettled():
+        return None
+    return _Sendable(name, library, stamp, site, input or library.path("input"))
 
 
 @dataclasses.dataclass(eq=False)
@@ -259,7 +261,7 @@ class Delivery:
             for sendable in libraries:
                 sendable.keep_probes(options)
             machines = [Machine(host, options.shell, options.there, folder, options.drained) for host in options.to]
-            complete = [machine for machine in machines if does(machine, self.complete, machine, libraries)]
+            complete = [machine for machine in machines if does(machine, lambda each: self.complete(each, libraries))]
             versions = "".join(f"{sendable.name} {sendable.stamp}\n" for sendable in libraries)
             named = self._name(complete, versions)
         missed = [machine.host for machine in machines if machine not in named]
@@ -283,7 +285,9 @@ class Delivery:
         older = filter(is_stamp, [named, *(machine.delivery for machine in machines)])
         stamp = named if is_old else stamp_after(older)
         having = [
-            machine for machine in machines if machine.delivery == stamp or does(machine, machine.name_delivery, stamp)
+            machine
+            for machine in machines
+            if machine.delivery == stamp or does(machine, lambda each: each.name_delivery(stamp))
         ]
         if stamp != named:
             _write(self._path, f"{stamp}\n{versions}")
@@ -291,10 +295,10 @@ class Delivery:
         return having
 
 
-def does(machine: Machine, step: Callable[..., None], *what: Any) -> bool:
+def does(machine: Machine, step: Callable[[Machine], None]) -> bool:
     """Whether a step with a machine succeeds. Whatever goes wrong is the fault of this machine alone."""
     try:
-        step(*what)
+        step(machine)
         return True
     except Failure as failure:
         report(f"{machine.host}: {failure}")
@@ -308,7 +312,7 @@ def deliver(options: Options, status: int) -> int:
     whole run. A signal may end it at any time: what is half sent is not used."""
     if not options.to:
         return status
-    interrupts.have_their_default()
+    reset_signals()
     try:
         sent = Delivery(options).run()
     except Failure as failure:

@@ -3,10 +3,9 @@ import os
 import shutil
 from pathlib import Path
 
-from openlink_update import interrupts
 from openlink_update.input_files import InputFolder
 from openlink_update.machines.machines import PROBES, text_in
-from openlink_update.outcome import ALL_NEW, Failure
+from openlink_update.outcome import ALL_NEW, Failure, ignore_signals
 from openlink_update.report import report
 from openlink_update.site.probing import Probes
 from openlink_update.versions import same_files
@@ -34,7 +33,7 @@ class Receiver(Run):
                 library.complete(stamp)
             self.put_in_use(stamp, old)
             self.try_again(probes, trials)
-        interrupts.are_ignored()
+        ignore_signals()
         library.settle()
         if sent.exists():
             os.rename(sent, library.path(PROBES))

@@ -1,9 +1,15 @@
 """The header of a table, which may come after other lines, with commas or semicolons, and in another spelling. A table
 with fewer than LEAST names of KBART is used as it is, with its first line as the header, such as ANY.tsv. Quotes that
 do not match reject a file: one that is not closed would take the rows after it into its cell."""
-import csv, itertools, re
+import csv
+import dataclasses
+import itertools
+import re
+from collections.abc import Iterable, Iterator, Sequence
+
 from openlink_update.outcome import Unreadable
 from openlink_update.received.limits import MOST_LINE_BYTES, check_columns
+from openlink_update.shown_text import Count, lines_of_counts
 
 # The 25 columns of NISO RP-9-2014.
 COLUMNS = (
@@ -33,21 +39,30 @@ COLUMNS = (
     "preceding_publication_title_id",
     "access_type",
 )
-LEAST = 3  # names of a header
-MOST_LINES = 20  # in which it is searched
-SEPARATORS = {"\t": "tabs", ",": "commas", ";": "semicolons"}
-AROUND = " \t\"'\xa0\u201c\u201d"
+_LEAST = 3  # names of a header
+_MOST_LINES = 20  # in which it is searched
+_SEPARATORS = {"\t": "tabs", ",": "commas", ";": "semicolons"}
+_AROUND = " \t\"'\xa0\u201c\u201d"
 
 
-def spelling(name):
+@dataclasses.dataclass(frozen=True)
+class Parsed:
+    """The table of one file as it came, and lines that say how it was read."""
+
+    columns: list[str]
+    rows: list[list[str]]
+    lines: list[str]
+
+
+def _spelling(name: str) -> str:
     """What two spellings of a name have in common: its letters and digits, in lower case."""
     return re.sub("[^a-z0-9]", "", name.lower())
 
 
-NAMES = {spelling(name): name for name in COLUMNS}
+NAMES = {_spelling(name): name for name in COLUMNS}
 
 
-def cells_of(lines, separator, before=0):
+def _cells_of(lines: Iterable[str], separator: str, before: int) -> Iterator[list[str]]:
     """Yields the cells of each line that is not blank. Commas and semicolons may be in quotes. `before` is the number
     of lines of the file before these."""
     if separator == "\t":
@@ -55,7 +70,7 @@ def cells_of(lines, separator, before=0):
         return
     size = 0  # of the row that is read
 
-    def counted():
+    def counted() -> Iterator[str]:
         nonlocal size
         for line in lines:
             size += len(line)
@@ -75,41 +90,40 @@ def cells_of(lines, separator, before=0):
         raise Unreadable(f"line {before + first}: quotes that do not match") from fault
 
 
-def find(lines):
+def find(lines: Iterable[str]) -> tuple[int | None, str]:
     """The number of lines before the header (None if there is no header of the standard), and its separator."""
-    for number, line in enumerate(itertools.islice(lines, MOST_LINES)):
+    for number, line in enumerate(itertools.islice(lines, _MOST_LINES)):
         for separator in "\t" if "\t" in line else ",;":
-            if len(known_names(line, separator)) >= LEAST:
+            if len(_known_names(line, separator)) >= _LEAST:
                 return number, separator
     return None, "\t"
 
 
-def known_names(line, separator):
-    try:
-        cells = (
-            next(csv.reader([f"{line}\n"], delimiter=separator, strict=True), [])
-            if separator != "\t"
-            else (line.split("\t"))
-        )
-    except csv.Error:
-        return set()
-    return {spelling(cell) for cell in cells} & NAMES.keys()
+def _known_names(line: str, separator: str) -> set[str]:
+    if separator == "\t":
+        cells = line.split("\t")
+    else:
+        try:
+            cells = next(csv.reader([f"{line}\n"], delimiter=separator, strict=True), [])
+        except csv.Error:
+            return set()
+    return {_spelling(cell) for cell in cells} & NAMES.keys()
 
 
-def spelled(cells):
+def spelled(cells: Sequence[str]) -> list[str]:
     """The names of columns as the standard spells them, without spaces and quotes around them. The first of two
     spellings of one name gets it, unless a column has the name itself."""
-    names = [cell.strip(AROUND) for cell in cells]
+    names = [cell.strip(_AROUND) for cell in cells]
     taken = set(names)
     for place, name in enumerate(names):
-        standard = NAMES.get(spelling(name))
+        standard = NAMES.get(_spelling(name))
         if standard and standard not in taken:
             names[place] = standard
             taken.add(standard)
     return names
 
 
-def lines_of(text):
+def _lines_of(text: str) -> Iterator[str]:
     """Yields the lines of a text, so that they are not in memory all at once."""
     start = 0
     while (end := text.find("\n", start)) >= 0:
@@ -118,34 +132,21 @@ def lines_of(text):
     yield text[start:]
 
 
-def table_of(text):
-    """The header and the rows of a text, and lines that say what was done. Without a header of the standard, the table
-    begins at the first line, with tabs."""
-    top = list(itertools.islice(lines_of(text), MOST_LINES))
+def table_of(text: str) -> Parsed:
+    """The table of a text. Without a header of the standard, it begins at the first line, with tabs."""
+    top = list(itertools.islice(_lines_of(text), _MOST_LINES))
     before, separator = find(top)
-    parsed = [*cells_of(itertools.islice(lines_of(text), before or 0, None), separator, before or 0)]
+    parsed = [*_cells_of(itertools.islice(_lines_of(text), before or 0, None), separator, before or 0)]
     if not parsed:
         raise Unreadable("it is empty")
     if before is None:
-        return parsed[0], parsed[1:], []
+        return Parsed(parsed[0], parsed[1:], [])
     names = spelled(parsed[0])
     above = sum(1 for line in top[:before] if line)
     changed = sum(name != cell for name, cell in zip(names, parsed[0]))
-    return (
-        names,
-        parsed[1:],
-        lines_of_counts(
-            (f"{SEPARATORS[separator]} between cells", len(parsed) - 1 if separator != "\t" else 0, "row"),
-            ("above the header, left out", above, "line"),
-            ("names of columns as the standard spells them", changed, "cell"),
-        ),
+    lines = lines_of_counts(
+        Count(f"{_SEPARATORS[separator]} between cells", len(parsed) - 1 if separator != "\t" else 0, "row"),
+        Count("above the header, left out", above, "line"),
+        Count("names of columns as the standard spells them", changed, "cell"),
     )
-
-
-def lines_of_counts(*counts: tuple[str, int, str]) -> list[str]:
-    """A line for each count above 0: what was done, and to how many."""
-    return [f"{what}: {number(count, noun)}" for what, count, noun in counts if count]
-
-
-def number(count: int, noun: str) -> str:
-    return f"{count} {noun}" if count == 1 else f"{count} {noun}s"
+    return Parsed(names, parsed[1:], lines)

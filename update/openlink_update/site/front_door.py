@@ -9,7 +9,6 @@ import subprocess
 import time
 from collections.abc import Iterable
 from pathlib import Path
-from typing import Any
 
 from openlink_update import children
 from openlink_update.outcome import DEVICE, Failure
@@ -50,8 +49,7 @@ _DOOR = """    upstream door{port} {{
 def _text_with_includes(path: str | Path) -> str:
     """The text of a site, and after it that of the files that it includes; nothing if there is no such file."""
     try:
-        with open(path, encoding="utf-8") as file:
-            text = file.read()
+        text = Path(path).read_text(encoding="utf-8")
     except FileNotFoundError:
         return ""
     for included in re.findall(r"^\s*include\s+([^\s;*?]+)\s*;", text, re.M):
@@ -89,8 +87,7 @@ class Site:
     def differences(names: list[str], path: str | Path) -> list[str]:
         """Lines about the targets of a version that this targets.json does not name, and the other way round."""
         try:
-            with open(path, encoding="utf-8") as file:
-                known = json.load(file)["targets"].keys()
+            known = json.loads(Path(path).read_text(encoding="utf-8"))["targets"].keys()
         except (OSError, ValueError, LookupError, TypeError, AttributeError):
             return []  # nginx says what is wrong with it
         unnamed, unused = [name for name in names if name not in known], [name for name in known if name not in names]
@@ -120,7 +117,7 @@ class FrontDoor:
         """With the module of a site, in a folder that does not exist."""
         self._site, self._folder = site, folder
         self._doors: list[_Door] = []
-        self._child: "subprocess.Popen[Any] | None" = None
+        self._child: "subprocess.Popen[bytes] | None" = None
         nginx = shutil.which("nginx", path=os.environ.get("PATH", os.defpath) + ":/usr/sbin")
         module = _module_of(nginx) if nginx else None
         if not nginx or not module:
@@ -164,7 +161,7 @@ class FrontDoor:
             reasons = " ".join(text for text in map(_read, (log, self._folder / "error.log")) if text)
             raise Failure(f"the front door for probes does not start: {reasons or 'nginx gives no reason'}", DEVICE)
 
-    def _has_begun(self, child: "subprocess.Popen[Any]") -> bool:
+    def _has_begun(self, child: "subprocess.Popen[bytes]") -> bool:
         """Whether nginx serves: it listens before it writes its number, and ends if it cannot write it."""
         if not all(children.wait_for(door.port, child, _SECONDS) for door in self._doors):
             return False

@@ -26,7 +26,6 @@ import re
 import sys
 from collections.abc import Collection, Iterator
 from pathlib import Path
-from typing import Any
 
 from openlink_update.places import FRONT_DOOR
 from openlink_update.report import report
@@ -51,7 +50,7 @@ def names_of_words() -> set[str]:
 
 
 def _texts(
-    place: str, value: Any, names: Collection[str], languages: Collection[str] | None, faults: list[str]
+    place: str, value: object, names: Collection[str], languages: Collection[str] | None, faults: list[str]
 ) -> None:
     """Errors of an object whose members are texts under known names, some of them by language if there are
     languages."""
@@ -67,7 +66,7 @@ def _texts(
             faults.append(f"{place}: {name} is not a text")
 
 
-def _by_language(place: str, value: dict[str, Any], languages: Collection[str], faults: list[str]) -> None:
+def _by_language(place: str, value: dict[str, object], languages: Collection[str], faults: list[str]) -> None:
     for language, text in value.items():
         if language not in languages:
             faults.append(f"{place}: {json.dumps(language)} is none of the languages")
@@ -75,10 +74,10 @@ def _by_language(place: str, value: dict[str, Any], languages: Collection[str], 
             faults.append(f"{place}: {language} is not a text")
 
 
-class _Members(dict[str, Any]):
+class _Members(dict[str, object]):
     """An object, which knows the names that it has more than once."""
 
-    def __init__(self, pairs: list[tuple[str, Any]]) -> None:
+    def __init__(self, pairs: list[tuple[str, object]]) -> None:
         super().__init__(pairs)
         counts = collections.Counter(name for name, _ in pairs)
         self.repeated = [name for name, count in counts.items() if count > 1]
@@ -88,7 +87,7 @@ class _Constant(str):
     """NaN, Infinity or -Infinity, which Python reads and JSON does not have."""
 
 
-def _values(value: Any) -> Iterator[str]:
+def _values(value: object) -> Iterator[str]:
     """Yields an error for each value that nginx refuses or reads in another way, after the names that lead to it."""
     stack = [(value, "", 1)]
     while stack:
@@ -108,7 +107,7 @@ def _quoted(name: str) -> str:
     return json.dumps(name[:_MOST_CHARACTERS])
 
 
-def parsed(data: bytes, faults: list[str]) -> dict[str, Any] | None:
+def parsed(data: bytes, faults: list[str]) -> dict[str, object] | None:
     """The JSON of a file that nginx preloads; None, and an error, if it refuses it."""
     if len(data) > MOST_BYTES:
         faults.append(f"more than {MOST_BYTES:,} bytes")
@@ -150,12 +149,13 @@ def faults_of_words(data: bytes) -> list[str]:
     _texts("words", words, expected, None, faults)
     faults += [f"words: no {name}" for name in expected if name not in words]
     for name, text in expected.items():
-        if isinstance(words.get(name), str) and words[name].count("{}") != text.count("{}"):
+        word = words.get(name)
+        if isinstance(word, str) and word.count("{}") != text.count("{}"):
             faults.append(f"words: {name} has not {text.count('{}')} of {{}}")
     return faults
 
 
-def _languages_of(site: dict[str, Any], loaded: Collection[str] | None, faults: list[str]) -> list[str]:
+def _languages_of(site: dict[str, object], loaded: Collection[str] | None, faults: list[str]) -> list[str]:
     """The languages that a targets.json offers, the default first."""
     languages = site.get("languages", ["en"])
     if not isinstance(languages, list) or not languages or not all(isinstance(each, str) for each in languages):
@@ -169,7 +169,7 @@ def _languages_of(site: dict[str, Any], loaded: Collection[str] | None, faults: 
     return languages
 
 
-def _problem_link(site: dict[str, Any], faults: list[str]) -> None:
+def _problem_link(site: dict[str, object], faults: list[str]) -> None:
     """Adds an error if the page would leave out the link "Report a problem"."""
     words_of_site = site.get("words")
     link = words_of_site.get("problemLink") if isinstance(words_of_site, dict) else None
@@ -178,7 +178,7 @@ def _problem_link(site: dict[str, Any], faults: list[str]) -> None:
             faults.append("words: problemLink is no address of http, https or mailto with {} for the request")
 
 
-def _logo_and_links(site: dict[str, Any], languages: list[str], faults: list[str]) -> None:
+def _logo_and_links(site: dict[str, object], languages: list[str], faults: list[str]) -> None:
     """Removes `links` from the texts, and adds an error for each link or logo that the page would leave out."""
     words = site.get("words")
     words = words if isinstance(words, dict) else {}
@@ -201,7 +201,7 @@ def _logo_and_links(site: dict[str, Any], languages: list[str], faults: list[str
                 faults.append(f"link {number}: url is no address of http or https")
 
 
-def _groups(site: dict[str, Any], languages: list[str], faults: list[str]) -> list[Any]:
+def _groups(site: dict[str, object], languages: list[str], faults: list[str]) -> list[object]:
     """The names of the groups; none, and an error, if it has no list of them."""
     groups = site.get("groups", [])
     if not isinstance(groups, list) or not groups:
@@ -217,7 +217,7 @@ def _groups(site: dict[str, Any], languages: list[str], faults: list[str]) -> li
     return names
 
 
-def _targets(site: dict[str, Any], groups: list[Any], languages: list[str], faults: list[str]) -> None:
+def _targets(site: dict[str, object], groups: list[object], languages: list[str], faults: list[str]) -> None:
     targets = site.get("targets", {})
     if not isinstance(targets, dict):
         faults.append("targets is not an object")

@@ -1,1 +1,16 @@
 """Holdings tables: as they come, prepared, and as they are served."""
+
+__all__ = [
+    "cells",
+    "coverage",
+    "date_order",
+    "dropped_rows",
+    "embargo",
+    "identifiers",
+    "parts",
+    "preparation",
+    "registry",
+    "row_changes",
+    "row_dates",
+    "table",
+]

@@ -23,7 +23,7 @@ def standard(text: str) -> str:
     if _STANDARD.fullmatch(text) and _is_date(text):
         return text
     text = _TIME.sub("", text)
-    years = set(_YEAR.findall(text))
+    years: set[str] = set(_YEAR.findall(text))
     readings = {it for it in _readings_of(text) if it}
     if len(readings) == 1:
         return readings.pop()

@@ -4,10 +4,9 @@ rows."""
 import re
 from collections.abc import Callable
 
-from openlink_update.received.headers import lines_of_counts
+from openlink_update.shown_text import Count, lines_of_counts
 from openlink_update.tables.cell_dates import standard as standard_date
-from openlink_update.tables.identifiers import form_of
-from openlink_update.tables.identifiers import standard as standard_number
+from openlink_update.tables.identifiers import form_of, standard as standard_number
 
 _Rows = list[list[str]]
 _Step = Callable[[list[str], _Rows], tuple[_Rows, list[str]]]
@@ -48,7 +47,7 @@ def _without_quotes(header: list[str], rows: _Rows) -> tuple[_Rows, list[str]]:
             if match:
                 row[place] = match[1].replace('""', '"')
                 count += 1
-    return rows, lines_of_counts(("quotes around a cell removed", count, "cell"))
+    return rows, lines_of_counts(Count("quotes around a cell removed", count, "cell"))
 
 
 def _without_spaces(header: list[str], rows: _Rows) -> tuple[_Rows, list[str]]:
@@ -62,7 +61,7 @@ def _without_spaces(header: list[str], rows: _Rows) -> tuple[_Rows, list[str]]:
         if any(row):
             left.append(row)
     return left, lines_of_counts(
-        ("spaces at the ends removed", count, "cell"), ("empty, left out", len(rows) - len(left), "row")
+        Count("spaces at the ends removed", count, "cell"), Count("empty, left out", len(rows) - len(left), "row")
     )
 
 
@@ -85,9 +84,9 @@ def _with_identifiers(header: list[str], rows: _Rows) -> tuple[_Rows, list[str]]
 
     _change_cells(header, rows, IDENTIFIERS, identifier)
     return rows, lines_of_counts(
-        ("dashes in identifiers replaced by hyphens", dashes, "cell"),
-        ("words after an identifier removed", words, "cell"),
-        ("ISBNs of ten digits written with thirteen", isbns, "cell"),
+        Count("dashes in identifiers replaced by hyphens", dashes, "cell"),
+        Count("words after an identifier removed", words, "cell"),
+        Count("ISBNs of ten digits written with thirteen", isbns, "cell"),
     )
 
 
@@ -118,9 +117,9 @@ def _with_dates(header: list[str], rows: _Rows) -> tuple[_Rows, list[str]]:
     changed = _change_cells(header, rows, _DATES, date)
     opened = _change_cells(header, rows, (_LAST,), lambda cell: "" if _OPEN_END.fullmatch(cell) else cell)
     return rows, lines_of_counts(
-        ("dates in the standard's form", changed - are_years, "cell"),
-        ("dates cut to their year", are_years, "cell"),
-        ("last dates that mean today removed", opened, "cell"),
+        Count("dates in the standard's form", changed - are_years, "cell"),
+        Count("dates cut to their year", are_years, "cell"),
+        Count("last dates that mean today removed", opened, "cell"),
     )
 
 
@@ -136,7 +135,7 @@ def _without_repetitions(header: list[str], rows: _Rows) -> tuple[_Rows, list[st
         elif same != row and tuple(row) not in others:
             others.add(tuple(row))
             left.append(row)
-    return left, lines_of_counts(("the same as an earlier row, left out", len(rows) - len(left), "row"))
+    return left, lines_of_counts(Count("the same as an earlier row, left out", len(rows) - len(left), "row"))
 
 
 STEPS: tuple[_Step, ...] = (_without_quotes, _without_spaces, _with_identifiers, _with_dates, _without_repetitions)

@@ -14,8 +14,8 @@ from openlink_update.tables.row_dates import NONE, date_in
 from openlink_update.tables.embargo import Embargo
 from openlink_update.tables.table import Table, cell
 
-COLUMNS = ("coverage_from", "coverage_to")
-DATES = ("date_first_issue_online", "date_last_issue_online", "embargo_info")
+_COLUMNS = ("coverage_from", "coverage_to")
+_DATES = ("date_first_issue_online", "date_last_issue_online", "embargo_info")
 _EARLIEST, _LATEST = 0, 99999999
 _NO_DAY = ("99999999", "0")
 _MOST_CHARACTERS = 40  # of a cell that is quoted
@@ -64,12 +64,12 @@ def _open_days(first: str, last: str, embargo: Embargo | None, today: datetime.d
 def served(table: Table, today: datetime.date, has_walls: bool = True) -> tuple[Table, list[str]]:
     """The table with the two columns after its own and, unless it is to have none, with walls; and a line for embargoes
     that are not used. Refused if it brings one of the columns."""
-    brought = [name for name in COLUMNS if name in table.columns]
+    brought = [name for name in _COLUMNS if name in table.columns]
     if brought:
         raise Refused([f"it has a column {name}, which only the update may write" for name in brought])
     if not table.columns:
         return table, []
-    width, (first, last, embargo) = len(table.columns), table.places(DATES)
+    width, (first, last, embargo) = len(table.columns), table.places(_DATES)
     rows, unused = [], []
     for number, row in enumerate(table.rows):
         text = cell(row, embargo)
@@ -81,7 +81,7 @@ def served(table: Table, today: datetime.date, has_walls: bool = True) -> tuple[
         if has_walls and rule is not None and last is not None and not end:
             made[last] = rule.wall(today)
         rows.append(made)
-    return Table((*table.columns, *COLUMNS), rows), _lines(unused)
+    return Table((*table.columns, *_COLUMNS), rows), _lines(unused)
 
 
 def _lines(unused: list[tuple[int, str]]) -> list[str]:
@@ -94,6 +94,6 @@ def _lines(unused: list[tuple[int, str]]) -> list[str]:
 def has_walls(data: bytes) -> bool:
     """Whether an embargo of a table, as it is served, counts in months or days, so that it ends within a year."""
     table = Table.parse(data)
-    place = table.place(DATES[2])
+    place = table.place(_DATES[2])
     embargoes = map(Embargo.parse, {cell(row, place) for row in table.rows})
     return any(embargo is not None and embargo.moves_daily for embargo in embargoes)

@@ -4,7 +4,7 @@ import re
 from collections.abc import Collection
 
 from openlink_update.tables.coverage import day_in
-from openlink_update.received.headers import number
+from openlink_update.shown_text import amount
 from openlink_update.tables.table import Table, cell
 
 _COLUMNS = ("date_first_issue_online", "date_last_issue_online")
@@ -27,7 +27,7 @@ def reversed_in(table: Table) -> list[tuple[str, str]]:
 
 def lines(pairs: list[tuple[str, str]]) -> list[str]:
     """What the mail says of them."""
-    return [f"{_WORDS}: {number(len(pairs), 'row')}, {_first_of(pairs)}"] if pairs else []
+    return [f"{_WORDS}: {amount(len(pairs), 'row')}, {_first_of(pairs)}"] if pairs else []
 
 
 def _first_of(pairs: list[tuple[str, str]]) -> str:

@@ -2,7 +2,7 @@
 import re
 from collections.abc import Collection
 
-from openlink_update.shown_text import printable
+from openlink_update.shown_text import amount, printable
 from openlink_update.tables.cells import ANY, IDENTIFIERS
 from openlink_update.tables.identifiers import form_of
 from openlink_update.tables.table import Table
@@ -66,5 +66,4 @@ def shown(cells: list[str]) -> str:
 
 def lines(dropped: list[list[str]]) -> list[str]:
     """What the mail says of them."""
-    count = len(dropped)
-    return [f"dropped: {count} {'row' if count == 1 else 'rows'}"] if count else []
+    return [f"dropped: {amount(len(dropped), 'row')}"] if dropped else []

@@ -8,8 +8,8 @@ from openlink_update.tables.cells import IDENTIFIERS
 from openlink_update.tables.identifiers import form_of, standard
 from openlink_update.tables.table import Table, cell
 
-MOST_BYTES, MOST_ROWS = 16_777_216, 200_000
-MOST_TARGETS, MOST_REGISTRY_BYTES, _MOST_NAME_BYTES = 256, 65_536, 64
+_MOST_BYTES, MOST_ROWS = 16_777_216, 200_000
+MOST_TARGETS, _MOST_REGISTRY_BYTES, _MOST_NAME_BYTES = 256, 65_536, 64
 _NAME = re.compile(r"(.+)\.(?:[2-9]|[1-9]\d{1,2})", re.A)
 _Group = tuple[list[int], tuple[int, int]]  # rows, and their bytes and number
 
@@ -84,14 +84,14 @@ def places_of(table: Table, most_bytes: int, most_rows: int) -> list[Sequence[in
     if len(bins) > max(-(-sum(sizes) // room), -(-len(sizes) // most_rows)):
         by_size = sorted(groups, key=lambda group: group[1], reverse=True)
         bins = min(bins, _packed(by_size, room, most_rows), key=len)
-    return list(sorted(map(sorted, bins)))
+    return [*sorted(sorted(rows) for rows in bins)]
 
 
 def parts_of(target: str, table: Table, size: int) -> dict[str, Sequence[int]]:
     """The names of the parts of a table of so many bytes, each with the places of its rows."""
-    if size <= MOST_BYTES and len(table.rows) <= MOST_ROWS:
+    if size <= _MOST_BYTES and len(table.rows) <= MOST_ROWS:
         return {target: range(len(table.rows))}
-    places = places_of(table, MOST_BYTES, MOST_ROWS)
+    places = places_of(table, _MOST_BYTES, MOST_ROWS)
     names = [_name_of(target, number) for number in range(len(places))]
     if len(names[-1]) > _MOST_NAME_BYTES:
         raise Refused([f"it has {len(names)} parts, and the name {names[-1]} is too long"])
@@ -101,10 +101,10 @@ def parts_of(target: str, table: Table, size: int) -> dict[str, Sequence[int]]:
 def fault_of(counts: dict[str, int], registry: bytes) -> str:
     """Why the program would reject a registry of targets with these numbers of parts; '' if it would not."""
     names = sum(counts.values())
-    if names <= MOST_TARGETS and len(registry) <= MOST_REGISTRY_BYTES:
+    if names <= MOST_TARGETS and len(registry) <= _MOST_REGISTRY_BYTES:
         return ""
     several = ", ".join(f"{name} ({count})" for name, count in counts.items() if count > 1)
     return (
-        f"registry.tsv: {names} targets and {len(registry)} bytes, and {MOST_TARGETS} and {MOST_REGISTRY_BYTES} "
+        f"registry.tsv: {names} targets and {len(registry)} bytes, and {MOST_TARGETS} and {_MOST_REGISTRY_BYTES} "
         f"are possible; in parts: {several or 'none'}"
     )

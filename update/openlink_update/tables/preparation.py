@@ -7,6 +7,7 @@ from collections.abc import Sequence
 from openlink_update import shown_text
 from openlink_update.outcome import Refused, Unreadable
 from openlink_update.received import archives, headers, texts
+from openlink_update.received.headers import Parsed
 from openlink_update.tables import cells, date_order, dropped_rows
 from openlink_update.tables.table import Table
 
@@ -27,13 +28,13 @@ class Prepared:
         return "".join(f"{shown_text.row(row)}\n" for row in rows).encode()
 
 
-def read(data: bytes) -> tuple[list[str], list[list[str]], list[str]]:
-    """The header and rows of one file, and lines that say how it was read."""
+def read(data: bytes) -> Parsed:
+    """The table of one file."""
     text, lines = texts.text_of(archives.unpacked(data))
     if texts.is_web_page(text):
         raise Unreadable("a web page, not a table")
-    header, rows, more = headers.table_of(text)
-    return header, rows, lines + more
+    parsed = headers.table_of(text)
+    return dataclasses.replace(parsed, lines=lines + parsed.lines)
 
 
 def _numbered(header: list[str]) -> list[tuple[str, int]]:
@@ -68,12 +69,12 @@ def prepare(files: Sequence[tuple[str, bytes]]) -> Prepared:
     tables, lines, reasons = [], [], []
     for path, data in files:
         try:
-            header, rows, more = read(data)
+            parsed = read(data)
         except Unreadable as fault:
             reasons.append(f"{path}: {fault}")
             continue
-        tables.append((header, rows))
-        lines += more if len(files) == 1 else [f"{path}: {line}" for line in more]
+        tables.append((parsed.columns, parsed.rows))
+        lines += parsed.lines if len(files) == 1 else [f"{path}: {line}" for line in parsed.lines]
     if reasons:
         raise Refused(reasons)
     header, rows = joined(tables) if len(tables) > 1 else tables[0]

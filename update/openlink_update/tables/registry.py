@@ -2,15 +2,16 @@
 import dataclasses
 from pathlib import Path
 
+from openlink_update.input_files import cells_in
+
 
 @dataclasses.dataclass(frozen=True)
-class Entry:
+class _Entry:
     name: str
     code: str  # a path, as that of the table relative to the version
     table: str
 
 
-def entries_of(path: Path) -> list[Entry]:
-    """The lines of a registry that are not blank."""
-    lines = path.read_text(encoding="utf-8").splitlines()
-    return [Entry(*line.split("\t")) for line in lines if line.strip()]
+def entries_of(path: Path) -> list[_Entry]:
+    """The lines of a registry. A Failure names one that is damaged."""
+    return [_Entry(*cells) for cells in cells_in(path, 3)]

@@ -1,1 +1,3 @@
 """The versions of a library: made from its input, judged, and kept."""
+
+__all__ = ["library", "making", "program", "same_files", "served", "shared_tables", "tables_again", "target_list"]

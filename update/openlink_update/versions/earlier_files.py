@@ -5,6 +5,8 @@ import hashlib
 from collections.abc import Iterable
 from pathlib import Path
 
+from openlink_update.input_files import cells_in
+
 NAME = "earlier.tsv"
 _MOST = 26  # that are remembered of a target
 
@@ -15,8 +17,7 @@ class EarlierFiles:
         self.days: dict[str, dict[str, str]] = {}  # by target: the day of each sum
         self._now: dict[str, str] = {}  # by target: the sum of this version
         path = older / NAME if older else None
-        for line in path.read_text(encoding="utf-8").splitlines() if path and path.exists() else ():
-            target, total, day = line.split("\t")
+        for target, total, day in cells_in(path, 3) if path and path.exists() else ():
             self.days.setdefault(target, {})[total] = day
 
     def put(self, target: str, table: bytes) -> None:

@@ -1,10 +1,12 @@
 """Judges a target's new files by numbers: by their warnings, and by the numbers of titles that are gone."""
+import dataclasses
 import datetime
 import re
 from collections.abc import Collection, Iterable
 from pathlib import Path
 
 from openlink_update import shown_text
+from openlink_update.input_files import cells_in
 from openlink_update.tables.identifiers import form_of, standard
 from openlink_update.outcome import Refused
 from openlink_update.tables.cells import IDENTIFIERS
@@ -24,7 +26,21 @@ _TITLE = ("publication_title", "date_first_issue_online", "date_last_issue_onlin
 _HEADING = ("change", "title", "numbers", "first date", "last date", "embargo")
 _Limits = dict[str, int | None]  # by the words that allow a warning
 _Line = tuple[str, str]  # the file that a warning is about, and the warning
-_Row = tuple[str, ...]
+
+
+@dataclasses.dataclass(frozen=True)
+class _Change:
+    """A row that came or went, as the table of changes has it."""
+
+    sign: str
+    title: str
+    numbers: str
+    first: str
+    last: str
+    embargo: str
+
+    def cells(self) -> tuple[str, ...]:
+        return self.sign, self.title, self.numbers, self.first, self.last, self.embargo
 
 
 def _limits_of(allowed: Collection[str]) -> _Limits:
@@ -62,7 +78,7 @@ def _totals_of(lines: list[str], limits: Collection[str]) -> dict[str, int]:
     return totals
 
 
-def _reasons_in(warnings: list[_Line], totals: dict[str, int], limits: _Limits) -> list[str]:
+def _reasons_in(warnings: list[_Line], totals: dict[str, int], limits: dict[str, int]) -> list[str]:
     """The warnings, pairs of a place and a line, that are not allowed, or of which there are more than allowed."""
     reasons: list[str] = []
     for place, line in warnings:
@@ -77,13 +93,9 @@ def _reasons_in(warnings: list[_Line], totals: dict[str, int], limits: _Limits) 
 def _allowed_in(version: Path) -> dict[str, dict[str, int]]:
     """By target, the numbers up to which words without one allow warnings in a version; none in an older one."""
     numbers: dict[str, dict[str, int]] = {}
-    try:
-        with open(version / "allowed.tsv", encoding="utf-8") as file:
-            for line in file:
-                target, words, number = line.rstrip("\n").split("\t")
-                numbers.setdefault(target, {})[words] = int(number)
-    except FileNotFoundError:
-        pass
+    path = version / "allowed.tsv"
+    for target, words, number in cells_in(path, 3) if path.exists() else ():
+        numbers.setdefault(target, {})[words] = int(number)
     return numbers
 
 
@@ -93,7 +105,7 @@ def _parts_in(version: Path, target: str) -> list[str]:
 
 def _numbers_in(tables: Iterable[Table]) -> set[str]:
     """The ISSNs and ISBNs of tables, in their standard form."""
-    numbers = set()
+    numbers: set[str] = set()
     for table in tables:
         for place in [place for place in table.places(IDENTIFIERS) if place is not None]:
             forms = {form_of(row[place]) for row in table.rows if len(row) > place}
@@ -117,10 +129,17 @@ def _reasons_of_gone(before: set[str], after: set[str], limits: _Limits) -> list
     return [f"numbers gone {gone} of {len(before)}: {most}% are allowed; to allow it: {_GONE} up to {part}%"]
 
 
-def _changed_rows(sign: str, tables: Iterable[Table], others: set[str], day: datetime.date | None = None) -> list[_Row]:
+def _shown_date(text: str) -> str:
+    date = date_in(text)
+    return "" if date == NONE else date
+
+
+def _changed_rows(
+    sign: str, tables: Iterable[Table], others: set[str], day: datetime.date | None = None
+) -> list[_Change]:
     """The rows of tables of which no number is among others: title, numbers, dates and embargo, after a sign. The last
     dates of tables without walls get those of a day."""
-    rows: dict[_Row, None] = {}
+    rows: dict[_Change, None] = {}
     for table in tables:
         places, identifiers = table.places(_TITLE), table.places(IDENTIFIERS)
         has_walls = day is not None and places[2] is not None
@@ -132,8 +151,9 @@ def _changed_rows(sign: str, tables: Iterable[Table], others: set[str], day: dat
             embargo = Embargo.parse(text)
             if has_walls and day is not None and embargo is not None and not last:
                 last = embargo.wall(day)
-            cells = (date_in(first), date_in(last), embargo.index_text if embargo is not None else NONE)
-            rows[(sign, title, " ".join(numbers), *("" if it == NONE else it for it in cells))] = None
+            dates = _shown_date(first), _shown_date(last)
+            closed = embargo.index_text if embargo is not None else ""
+            rows[_Change(sign, title, " ".join(numbers), *dates, closed)] = None
     return list(rows)
 
 
@@ -145,7 +165,7 @@ class Judge:
         # By target: the number for each of its words without one, in the version before and in this one.
         self.before = _allowed_in(older) if older else {}
         self.allowed: dict[str, dict[str, int]] = {}
-        self._changes: dict[str, tuple[list[_Row], list[_Row]]] = {}  # by target: the rows that came and went
+        self._changes: dict[str, tuple[list[_Change], list[_Change]]] = {}  # by target: the rows that came and went
 
     def reasons(self, target: Target, parts: dict[str, Table], has_rules: bool, was_served: bool) -> list[str]:
         """Why new files of a target, whose table has these parts, cannot be used. They are without walls."""
@@ -153,7 +173,8 @@ class Judge:
         limits, before = _limits_of(target.allowed), self.before.get(target.name, {})
         totals = _totals_of([line for _, line in warnings], limits)
         self.allowed[target.name] = {words: before.get(words, totals[words]) for words in _without_number(limits)}
-        reasons += _reasons_in(warnings, totals, {**limits, **self.allowed[target.name]})
+        known = {words: most for words, most in limits.items() if most is not None}
+        reasons += _reasons_in(warnings, totals, {**known, **self.allowed[target.name]})
         if was_served and self._older is not None:
             tables = list(tables_in(self._older, _parts_in(self._older, target.name)))
             before_and_now = _numbers_in(tables), _numbers_in(parts.values())
@@ -163,7 +184,7 @@ class Judge:
 
     def _changes_between(
         self, old: list[Table], new: dict[str, Table], before: set[str], now: set[str]
-    ) -> tuple[list[_Row], list[_Row]]:
+    ) -> tuple[list[_Change], list[_Change]]:
         """The rows that came and went, for the numbers of the tables."""
         came = _changed_rows("came", new.values(), before, self._today) if now - before else []
         return came, _changed_rows("gone", old, now) if before - now else []
@@ -218,6 +239,7 @@ class Judge:
         path = self._folder / f"changes/{name}.txt"
         path.parent.mkdir(exist_ok=True)
         with open(path, "w", encoding="utf-8", errors="replace") as file:
-            file.writelines(f"{shown_text.row(cells)}\n" for cells in (_HEADING, *came, *went))
-        count = [len({cells[1:3] for cells in rows}) for rows in (came, went)]
+            lines = (_HEADING, *(change.cells() for change in (*came, *went)))
+            file.writelines(f"{shown_text.row(cells)}\n" for cells in lines)
+        count = [len({(change.title, change.numbers) for change in changes}) for changes in (came, went)]
         return [f"titles: {count[0]} came, {count[1]} gone: changes/{name}.txt"]

@@ -99,8 +99,7 @@ class Library:
         for name in os.listdir(self.path("versions")):
             if name.endswith(".new") and _VERSION.fullmatch(f"versions/{name[:-4]}"):
                 shutil.rmtree(self.version(name))
-        if os.path.lexists(self.path("current.new")):
-            os.unlink(self.path("current.new"))
+        self.path("current.new").unlink(missing_ok=True)
 
     def remove_newer(self) -> None:
         """Removes versions that are newer than the one in use: a run went back from them, or was killed before their
@@ -160,8 +159,7 @@ class Library:
 
     def forget_updates(self) -> None:
         """Another machine makes the versions from now on, and knows when."""
-        if os.path.lexists(self.path("updated")):
-            os.unlink(self.path("updated"))
+        self.path("updated").unlink(missing_ok=True)
 
     def settle(self) -> None:
         """All processes serve `current`: there is nothing to go back to."""

@@ -29,6 +29,7 @@ from openlink_update.index import title_index
 from openlink_update.input_files import InputFile
 from openlink_update.outcome import Failure, Refused
 from openlink_update.received import patterns
+from openlink_update.shown_text import amount
 from openlink_update.tables import date_order, dropped_rows, row_changes
 from openlink_update.tables.parts import base_of
 from openlink_update.tables.preparation import Prepared
@@ -45,7 +46,7 @@ _FEWER = "less than half of the rows"
 
 
 @dataclasses.dataclass(frozen=True)
-class Files:
+class _Files:
     """The files of a target, as they came, and what is prepared from them."""
 
     rules: bytes
@@ -74,7 +75,7 @@ class Files:
             return Table((), [])
 
 
-def _files_of(target: Target) -> Files:
+def _files_of(target: Target) -> _Files:
     """The files that the list names for a target. Refused if one of them cannot be read."""
     reasons, sources = [], []
     tables = [patterns.path_of(path, target.input.matches) for path in target.tables]
@@ -87,7 +88,7 @@ def _files_of(target: Target) -> Files:
     if reasons:
         raise Refused(reasons)
     rules, *data = [it.data for it in sources]
-    return Files(rules, tuple(data), target.has_code(), tuple(tables), tuple(sources))
+    return _Files(rules, tuple(data), target.has_code(), tuple(tables), tuple(sources))
 
 
 def _received_names(version: Path, name: str) -> list[str]:
@@ -96,7 +97,7 @@ def _received_names(version: Path, name: str) -> list[str]:
     return sorted(filter(pattern.fullmatch, os.listdir(version / "received")), key=lambda file: (len(file), file))
 
 
-def files_in(version: Path, name: str) -> Files | None:
+def files_in(version: Path, name: str) -> _Files | None:
     """The files of a target in a version, or None if it has none."""
     received = version / "received"
     for suffix, has_code in ((".rules", False), (".olk", True)):
@@ -104,7 +105,7 @@ def files_in(version: Path, name: str) -> Files | None:
         tables = [received / file for file in _received_names(version, name)]
         if rules.is_file() and tables:
             data = tuple(path.read_bytes() for path in tables)
-            return Files(rules.read_bytes(), data, has_code, tuple(map(str, tables)))
+            return _Files(rules.read_bytes(), data, has_code, tuple(map(str, tables)))
     return None
 
 
@@ -113,8 +114,8 @@ class Maker:
 
     def __init__(
         self,
-        folder: str | os.PathLike[str],
-        older: str | os.PathLike[str] | None,
+        folder: str | Path,
+        older: str | Path | None,
         program: Program,
         today: datetime.date,
         report: Callable[[str], object],
@@ -181,7 +182,7 @@ class Maker:
         """The names of the targets of the older version."""
         return targets_in(self._older) if self._older else []
 
-    def _files_before(self, name: str) -> Files | None:
+    def _files_before(self, name: str) -> _Files | None:
         return files_in(self._older, name) if self._older else None
 
     def _add(self, target: Target) -> None:
@@ -205,7 +206,7 @@ class Maker:
         else:
             self._discard(target.name)
 
-    def _put_again(self, target: Target, old: Files) -> None:
+    def _put_again(self, target: Target, old: _Files) -> None:
         """Puts the files of the version before, which were good then."""
         reasons = self._put(target, old)
         if reasons:
@@ -216,7 +217,7 @@ class Maker:
     def _write(self, name: str, data: bytes) -> None:
         (self._folder / name).write_bytes(data)
 
-    def _put(self, target: Target, files: Files) -> list[str]:
+    def _put(self, target: Target, files: _Files) -> list[str]:
         """Writes the files of a target and compiles its rules. Returns why the program rejects them."""
         name = target.name
         rules = f"received/{name}{'.olk' if files.has_code else '.rules'}"
@@ -254,7 +255,7 @@ class Maker:
             return [f"{path}: {refusal.reasons[0]}"]
         return []
 
-    def _reasons_against(self, target: Target, old: Files | None, new: Files) -> list[str]:
+    def _reasons_against(self, target: Target, old: _Files | None, new: _Files) -> list[str]:
         """Writes the new files of a target, and returns why they cannot be used."""
         try:
             prepared = new.prepared
@@ -274,15 +275,15 @@ class Maker:
             reasons.append(f"{target.table}: {_FEWER}: {after}, and {before} before; to allow it: {_FEWER}")
         return reasons
 
-    def _say_changes(self, name: str, old: Files | None, new: Files) -> None:
+    def _say_changes(self, name: str, old: _Files | None, new: _Files) -> None:
         table = new.prepared.table
         if old is None:
-            self._report(f"{name}: new, {_rows(len(table.rows))}")
+            self._report(f"{name}: new, {amount(len(table.rows), 'row')}")
         else:
             changes = [] if new.rules == old.rules else ["rules changed"]
             if new.tables != old.tables:
                 added, gone = row_changes.changes(old.table_or_empty, table)
-                changes.append(f"{_rows(added)} added, {gone} gone")
+                changes.append(f"{amount(added, 'row')} added, {gone} gone")
             self._report(f"{name}: {', '.join(changes)}")
         lines = self._judge.write_changes(name) if old else []
         prepared = new.prepared.lines if old is None or new.tables != old.tables else []
@@ -292,7 +293,7 @@ class Maker:
         for line in [*prepared, *self._tables.lines[name], *lines]:
             self._report(f"  {line}")
 
-    def _say_refusal(self, name: str, old: Files | None, reasons: list[str]) -> None:
+    def _say_refusal(self, name: str, old: _Files | None, reasons: list[str]) -> None:
         (self.left_out if old is None else self.kept).append(name)
         how = "left out, since it has no old files" if old is None else "kept its old rules and table"
         self._report(f"{name}: {how}")
@@ -300,11 +301,7 @@ class Maker:
             self._report(f"  {reason}")
 
 
-def _rows(count: int) -> str:
-    return f"{count} row" if count == 1 else f"{count} rows"
-
-
-def is_same(one: str | os.PathLike[str], other: str | os.PathLike[str]) -> bool:
+def is_same(one: str | Path, other: str | Path) -> bool:
     """Whether two versions serve the same. The first may have no index yet, but its format."""
     versions, folders = (Path(one), Path(other)), ("code", "tables", "received")
     names = [

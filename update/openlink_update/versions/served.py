@@ -2,7 +2,6 @@
 
 Run as a program it prints a file as it came, prepared and with coverage as of a day: served.py FILE YYYY-MM-DD"""
 import datetime
-import os
 import sys
 from collections.abc import Iterable, Iterator, Sequence
 from pathlib import Path
@@ -14,12 +13,12 @@ from openlink_update.tables.table import Table
 from openlink_update.versions.target_list import Target
 
 
-def names_in(version: str | os.PathLike[str]) -> list[str]:
+def names_in(version: str | Path) -> list[str]:
     """The names in the registry of a version, in the order of its menu."""
     return [entry.name for entry in entries_of(Path(version, "registry.tsv"))]
 
 
-def targets_in(version: str | os.PathLike[str]) -> list[str]:
+def targets_in(version: str | Path) -> list[str]:
     """The names of its targets, each once although its table has parts."""
     return list(dict.fromkeys(map(parts.base_of, names_in(version))))
 

@@ -8,37 +8,47 @@ import hashlib
 import json
 import os
 from collections.abc import Iterable, Sequence
-from typing import Any
+from pathlib import Path
+from typing import TypedDict
 
 from openlink_update.tables import preparation
 from openlink_update.tables.preparation import Prepared
 from openlink_update.tables.table import Table
 
 _MARKS = "marks"
-folder: str | os.PathLike[str] | None = None  # that of this run
+folder: str | Path | None = None  # that of this run
 
 
-def _sum_of(path: str) -> str:
-    with open(path, "rb") as file:
-        return hashlib.sha256(file.read()).hexdigest()
+class _Stored(TypedDict):
+    """A prepared table in JSON."""
+
+    columns: list[str]
+    rows: list[list[str]]
+    lines: list[str]
+    dropped: list[list[str]]
+    count: int
+    reversed: list[tuple[str, str]]
 
 
-def mark(place: str, shared: str | os.PathLike[str], versions: Iterable[str | os.PathLike[str]]) -> None:
+def _sum_of(data: bytes) -> str:
+    return hashlib.sha256(data).hexdigest()
+
+
+def mark(place: str | Path, shared: str | Path, versions: Iterable[str | Path]) -> None:
     """Writes the sums of the files that are shared: those below a folder, and those that several versions have."""
-    paths = [os.path.join(below, name) for below, _, names in os.walk(shared) for name in names]
-    owners: dict[int, list[str]] = collections.defaultdict(list)
-    for received in (os.path.join(version, "received") for version in versions):
-        for entry in os.scandir(received) if os.path.isdir(received) else ():
-            owners[entry.inode()].append(entry.path)
+    paths = [Path(below, name) for below, _, names in os.walk(shared) for name in names]
+    owners: dict[int, list[Path]] = collections.defaultdict(list)
+    for received in (Path(version, "received") for version in versions):
+        for path in received.iterdir() if received.is_dir() else ():
+            owners[path.lstat().st_ino].append(path)
     paths += [names[0] for names in owners.values() if len(names) > 1]
     sums = set()
     for path in paths:
         try:
-            sums.add(_sum_of(path))
+            sums.add(_sum_of(path.read_bytes()))
         except OSError:
             pass  # the update that needs the file says so
-    with open(os.path.join(place, _MARKS), "w", encoding="utf-8") as file:
-        file.writelines(f"{total}\n" for total in sorted(sums))
+    Path(place, _MARKS).write_text("".join(f"{total}\n" for total in sorted(sums)), encoding="utf-8")
 
 
 def prepare(files: Sequence[tuple[str, bytes]]) -> Prepared:
@@ -47,34 +57,44 @@ def prepare(files: Sequence[tuple[str, bytes]]) -> Prepared:
     if path is None:
         return preparation.prepare(files)
     try:
-        with open(path, encoding="utf-8") as file:
-            return _of_json(json.load(file))
+        return _of_stored(json.loads(path.read_text(encoding="utf-8")))
     except FileNotFoundError:
         pass
     prepared = preparation.prepare(files)
     try:
-        with open(f"{path}.new", "w", encoding="utf-8") as file:
-            json.dump({**vars(prepared), "table": vars(prepared.table)}, file)
-        os.replace(f"{path}.new", path)
+        new = path.with_suffix(".new")
+        with new.open("w", encoding="utf-8") as file:
+            json.dump(_stored(prepared), file)
+        new.replace(path)
     except OSError:
         pass  # no room: the next update prepares it again
     return prepared
 
 
-def _of_json(value: dict[str, Any]) -> Prepared:
-    table = Table(tuple(value["table"]["columns"]), value["table"]["rows"])
-    pairs = [(first, last) for first, last in value["reversed"]]
-    return Prepared(**{**value, "table": table, "reversed": pairs})
+def _stored(prepared: Prepared) -> _Stored:
+    return {
+        "columns": list(prepared.table.columns),
+        "rows": prepared.table.rows,
+        "lines": prepared.lines,
+        "dropped": prepared.dropped,
+        "count": prepared.count,
+        "reversed": prepared.reversed,
+    }
 
 
-def _path_of(files: Sequence[tuple[str, bytes]]) -> str | None:
+def _of_stored(stored: _Stored) -> Prepared:
+    table = Table(tuple(stored["columns"]), stored["rows"])
+    pairs = [(first, last) for first, last in stored["reversed"]]
+    return Prepared(table, stored["lines"], stored["dropped"], stored["count"], pairs)
+
+
+def _path_of(files: Sequence[tuple[str, bytes]]) -> Path | None:
     """Where the run keeps what is made of these files; None if they are not shared."""
     if folder is None:
         return None
-    sums = [hashlib.sha256(data).hexdigest() for _, data in files]
-    with open(os.path.join(folder, _MARKS), encoding="utf-8") as file:
-        if not {*sums} <= {line.rstrip("\n") for line in file}:
-            return None
+    sums = [_sum_of(data) for _, data in files]
+    if not {*sums} <= {*Path(folder, _MARKS).read_text(encoding="utf-8").splitlines()}:
+        return None
     # The messages about several files have their names.
     names = [path for path, _ in files] if len(files) > 1 else []
-    return os.path.join(folder, hashlib.sha256("\n".join([*sums, *names]).encode()).hexdigest())
+    return Path(folder, _sum_of("\n".join([*sums, *names]).encode()))
