@@ -57,7 +57,8 @@ class Limit(Case):
 
     def test_files(self) -> None:
         environment = {**os.environ, "PATH": f"{self.folder}/bin:{os.environ['PATH']}"}
-        run = subprocess.run(["tools/shorten", "small"], cwd=self.folder, env=environment, capture_output=True, text=True)
+        words = ["tools/shorten", "small"]
+        run = subprocess.run(words, cwd=self.folder, env=environment, capture_output=True, text=True)
         self.expect(f"the status, with {run.stderr!r}", run.returncode, 0)
         for path in "A", "f/D":
             self.expect(f"{path} has a call", self.read(path).endswith("\nquick n = grind (arith, common_steps)\n"))
