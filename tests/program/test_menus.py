@@ -1,10 +1,11 @@
 """The menus of the targets of examples/menu and of examples/library: for each NAME.query, what the program prints is
 NAME.menu, byte for byte, and the status is 1 for an empty menu and 0 for any other. Then a registry with the greatest
-number of targets, each with a table, and one with a target more. Runs in a copy of examples/, since the targets of
-examples/menu are compiled there."""
+number of targets, each with a table, and one with a target more. Runs in a copy of examples/, where the rules of
+examples/menu are compiled; the code files that are stored there are the same, byte for byte."""
 from __future__ import annotations
 
 import glob
+import os
 import subprocess
 
 from fixtures import needs
@@ -13,6 +14,7 @@ from program.test_readme import Room
 
 # At least this many menus are stored, and of these at least one is empty.
 LEAST = {"menu": 3, "library": 15}
+RULE_FILES = 4
 ROW = "catalogue-{}\texamples/menu/catalogue.olk\texamples/menu/catalogue.tsv\n"
 LINK = "catalogue-{}\thttps://catalogue.example.org/search?number=2901-0012\n"
 MOST = 256
@@ -36,6 +38,8 @@ class Menus(Case):
     def setUpClass(cls) -> None:
         cls.room = Room(cls)
         library = f"{cls.room.folder}/library"
+        for path in glob.glob(f"{cls.room.folder}/examples/menu/*.olk"):
+            os.remove(path)
         for words in ["examples/menu/compile", needs.PROGRAM], ["examples/library/build", needs.PROGRAM, library]:
             subprocess.run(words, cwd=cls.room.folder, check=True, capture_output=True)
 
@@ -55,6 +59,16 @@ class Menus(Case):
                 empty += not menu
             self.expect(f"{len(paths)} menus in {name}", len(paths) >= LEAST[name])
         self.expect(f"{empty} empty menus", empty >= 1)
+
+    def test_stored_code(self) -> None:
+        """The code files that stand beside the rules of examples/menu are what the program makes of them."""
+        paths = sorted(glob.glob("examples/menu/*.rules"))
+        for path in paths:
+            code = path.removesuffix("rules") + "olk"
+            with open(code, "rb") as stored, open(f"{self.room.folder}/{code}", "rb") as made:
+                self.expect(code, stored.read(), made.read())
+        self.expect(f"{len(paths)} rule files", len(paths), RULE_FILES)
+        self.expect("code files", len(glob.glob("examples/menu/*.olk")), len(paths))
 
     def test_a_spoilt_menu_is_another(self) -> None:
         query = read("examples/menu/article.query").rstrip("\n")

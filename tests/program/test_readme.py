@@ -1,7 +1,8 @@
 """The commands of README.md and of the pages of docs/ print what the pages say: a line '$ COMMAND' in a block of code,
 and the lines below it. If the line before a block of code ends with a link to `examples/NAME` in parentheses and a
 colon, the block is that file without its comments. The commands run in a temporary folder that has a copy of examples/,
-update/ and packaging/."""
+update/ and packaging/. The first command of README.md compiles the program, so unproved.test_first_menu runs it; its
+second one opens the reader's page, and its third one is ./test."""
 from __future__ import annotations
 
 import dataclasses
@@ -9,18 +10,22 @@ import glob
 import os
 import re
 import shutil
+import signal
 import subprocess
 import tempfile
+import urllib.request
 from typing import Any
 
 from fixtures import TOP, needs
 from fixtures.cases import Case
-from fixtures.patience import patience
+from fixtures.patience import patience, wait_until
 
 FILE = re.compile(r".*\(\[`(examples/[a-z_/-]*(?:\.rules)?)`\]\([^()]*\)\):$")
 # The least commands of pages that must have some, and the least files of all pages.
 LEAST = {"README.md": 6, "docs/RULES.md": 15, "docs/TARGETS.md": 6}
 LEAST_FILES = 8
+# The first commands of README.md. The first one is shown with what it prints.
+TRY, SERVE, TEST = "examples/menu/try", "examples/library/serve ./openlink", "./test"
 
 
 @dataclasses.dataclass
@@ -85,7 +90,8 @@ class Room:
         return ran.stdout.decode(errors="replace").rstrip("\n")
 
     def faults_of_commands(self, page: Page) -> list[str]:
-        got = [(command, self.printed(command), wanted.removesuffix("\n")) for command, wanted in page.commands]
+        got = [(command, self.printed(command), wanted.removesuffix("\n")) for command, wanted in page.commands
+               if command != TRY]
         return [f"{command} prints {printed!r}, not {wanted!r}" for command, printed, wanted in got
                 if printed != wanted]
 
@@ -113,6 +119,79 @@ class Pages(Case):
         for path, least in LEAST.items():
             self.expect(f"{commands.get(path)} commands of {path}", commands.get(path, 0) >= least)
         self.expect(f"{files} files", files >= LEAST_FILES)
+
+
+def blocks(text: str) -> list[str]:
+    """The first line of each block of code, as it is to be typed."""
+    found = re.findall(r"^```\n(.*?)^```$", text, re.M | re.S)
+    return [it.split("\n")[0].removeprefix("$ ") for it in found]
+
+
+def without_packages(folder: str, name: str) -> None:
+    """Writes an nginx without a JavaScript module, and a browser that notes the address."""
+    os.mkdir(f"{folder}/{name}")
+    for command, body in (("nginx", "echo --modules-path=/none >&2"), ("xdg-open", f'echo "$1" >{folder}/opened')):
+        with open(f"{folder}/{name}/{command}", "w", encoding="utf-8") as file:
+            file.write(f"#!/bin/sh\n{body}\n")
+        os.chmod(f"{folder}/{name}/{command}", 0o755)
+
+
+@needs.program()
+class FirstCommands(Case):
+    """The first three commands of README.md, as they stand there."""
+
+    def setUp(self) -> None:
+        with open("README.md", encoding="utf-8") as file:
+            self.text = file.read()
+        self.room = Room(self)
+        os.symlink(needs.PROGRAM, f"{self.room.folder}/openlink")
+
+    def served(self, lines: int, **environment: str) -> tuple[list[str], str, bytes]:
+        """What the second command prints: its first lines, the rest with errors, and the page of its last address."""
+        how: dict[str, Any] = {"cwd": self.room.folder, "stdout": subprocess.PIPE, "stderr": subprocess.PIPE}
+        run = subprocess.Popen(blocks(self.text)[1].split(), env={**os.environ, **environment}, text=True, **how)
+        try:
+            assert run.stdout is not None
+            first = [run.stdout.readline().rstrip("\n") for _ in range(lines)]
+            addresses = re.findall(r"http://.*", "\n".join(first))
+            with urllib.request.urlopen(addresses[-1], timeout=patience(20)) as reply:
+                page = reply.read()
+        finally:
+            run.send_signal(signal.SIGTERM)
+            rest = "".join(run.communicate(timeout=patience(60)))
+        return first, rest, page
+
+    def test_order(self) -> None:
+        self.expect("the first blocks", blocks(self.text)[:3], [TRY, SERVE, TEST])
+        self.expect("a command with what it prints", blocks("a\n```\n$ b c\nd\n```\n```\ne\n```\n"), ["b c", "e"])
+        self.expect("the tests are a command", os.access(f"{TOP}/{TEST}", os.X_OK))
+
+    def links(self) -> list[bytes]:
+        with open("examples/library/article.menu", encoding="utf-8") as file:
+            return [line.split("\t")[1].replace("&", "&amp;").encode() for line in file.read().splitlines()]
+
+    @needs.nginx()
+    def test_page(self) -> None:
+        without_packages(self.room.folder, "bin")
+        os.remove(f"{self.room.folder}/bin/nginx")
+        path = f"{self.room.folder}/bin:{os.environ['PATH']}"
+        first, rest, page = self.served(2, PATH=path, DISPLAY=":0")
+        opened = f"{self.room.folder}/opened"
+        self.expect("what it prints", [it.partition("http")[0] for it in first], ["open ", "for readers "])
+        self.expect("and after that", rest, "")
+        self.expect("links that the reader's page lacks", [it for it in self.links() if it not in page], [])
+        self.expect("a page is opened", wait_until(lambda: os.path.exists(opened) and os.path.getsize(opened)) > 0)
+        with open(opened, encoding="utf-8") as file:
+            self.expect("the page that is opened", f"for readers {file.read()}", first[1] + "\n")
+
+    def test_missing_packages(self) -> None:
+        without_packages(self.room.folder, "bin")
+        first, rest, page = self.served(2, PATH=f"{self.room.folder}/bin:{os.environ['PATH']}", DISPLAY=":0")
+        self.expect("what is missing", first[1], "no front door: apt-get install libnginx-mod-http-js")
+        self.expect("what it says before it builds", rest,
+                    "no reader's page without these packages: apt-get install libnginx-mod-http-js\n")
+        self.expect("links that the menu lacks", [it for it in self.links() if it not in page], [])
+        self.expect("a page is opened", os.path.exists(f"{self.room.folder}/opened"), False)
 
 
 PAGE = """\

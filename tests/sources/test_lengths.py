@@ -1,5 +1,5 @@
-"""The lengths of the files of crates. Sources have at most 120 columns, specifications and proofs 160, and files of
-proofs 250 lines. Each source begins with //! lines, and has no others."""
+"""The lengths of the files of crates, and of README.md. Sources have at most 120 columns, specifications and proofs
+160, and files of proofs 250 lines. Each source begins with //! lines, and has no others."""
 from __future__ import annotations
 
 import os
@@ -10,6 +10,7 @@ from fixtures.cases import Case
 
 COLUMNS = {".rt": 120, ".antt": 160}
 MOST_LINES = 250
+MOST_WORDS_OF_README = 1_900
 # An import of one name, and the lemmas that an attribute names: rt fmt keeps each on its line.
 UNBREAKABLE = re.compile(r"use [^,]*$|#\[tactic\(auto, using\(")
 # Of each of these there are more files than this.
@@ -63,6 +64,11 @@ class Lengths(Case):
         self.expect("the files", found, [])
         for part, count in counts.items():
             self.expect(f"{count} files in {part}", count > LEAST)
+
+    def test_readme(self) -> None:
+        with open("README.md", encoding="utf-8") as file:
+            count = len(file.read().split())
+        self.expect(f"{count} words of README.md", LEAST < count <= MOST_WORDS_OF_README)
 
     def test_examples(self) -> None:
         for path, lines, count in EXAMPLES:

@@ -1,7 +1,8 @@
 """Proves the crates that the program depends on, builds it, and runs it: python3 tools/prove [ARGUMENT ..]
 
 Proofs run side by side (schedule.py), each as a command of the toolchain (toolchain.py). What they prove stays in
-crates/openlink/out/proofs/, so after an interrupt the next run continues from there."""
+crates/openlink/out/proofs/, so after an interrupt the next run continues from there. What each took stays there too
+(costs.py)."""
 
 import os
 import signal
@@ -12,6 +13,7 @@ import time
 sys.dont_write_bytecode = True
 
 import machine
+from costs import Record
 from crates import Crates
 from schedule import Schedule
 from toolchain import Toolchain
@@ -49,7 +51,7 @@ class Proofs:
 
     def __init__(self, crates, toolchain, schedule):
         self.crates, self.toolchain, self.schedule = crates, toolchain, schedule
-        self.running = {}
+        self.record, self.running = Record(crates), {}
 
     def start_ready(self):
         while found := self.schedule.next():
@@ -61,13 +63,14 @@ class Proofs:
 
     def end_finished(self):
         for name, process in [*self.running.items()]:
-            status = process.poll()
-            if status is None:
+            seconds = machine.seconds_of(process)
+            if seconds is None:
                 continue
             del self.running[name]
-            if status:
-                raise Failed(self.failure(name, status))
+            if process.returncode:
+                raise Failed(self.failure(name, process.returncode))
             self.crates.mark_proved(name)
+            self.record.add(name, seconds, machine.is_busy(self.schedule.slots))
             self.schedule.end(name)
 
     def failure(self, name, status):

@@ -3,9 +3,11 @@
 import hashlib
 import os
 
+import costs
+
 PARTS = ("src", "specs", "proofs")
-# How much of the time of a proof the crates below add, per byte of their src/, and what each proof costs at least, in
-# bytes of src/. Compared with measured times, the bytes of src/ predict far better than those of specs/ and proofs/.
+# For a crate that has no measured share of the time: how much the crates below add, per byte of their src/, and what
+# each proof costs at least, in bytes of src/. The bytes of src/ predict far better than those of specs/ and proofs/.
 BELOW = 0.02
 LEAST = 1000
 
@@ -33,8 +35,7 @@ class Crates:
         self.of_toolchain = {name: [dep for dep in deps if dep not in named] for name, deps in named.items()}
         self.names, self.below = [], {}
         self._visit(program)
-        size = {name: self._size(name) for name in self.names}
-        self.weight = {it: LEAST + size[it] + BELOW * sum(size[low] for low in self.below[it]) for it in self.names}
+        self.weight = self._weights(costs.read_shares(root))
         self.chain = self._chains()
         self.own = {name: self.own_sum(name) for name in self.names}
         self.sums = {}
@@ -48,6 +49,14 @@ class Crates:
                 self._visit(dep)
         self.below[name] = {*self.deps[name]}.union(*(self.below[dep] for dep in self.deps[name]))
         self.names.append(name)
+
+    def _weights(self, shares):
+        """Returns what each crate takes of the time, in the unit of the shares that are known."""
+        size = {name: self._size(name) for name in self.names}
+        size = {it: LEAST + size[it] + BELOW * sum(size[low] for low in self.below[it]) for it in self.names}
+        known = [name for name in self.names if name in shares]
+        unit = sum(shares[it] for it in known) / sum(size[it] for it in known) if known else 1
+        return {name: shares.get(name, unit * size[name]) for name in self.names}
 
     def _chains(self):
         """Returns, for each crate, the weight of the longest chain of crates from it up to the program."""

@@ -51,6 +51,21 @@ def start(words, folder, log):
         return subprocess.Popen(words, cwd=folder, start_new_session=True, **how)
 
 
+def seconds_of(process):
+    """Returns what a command took of a processor, with all that it started and waited for, once it has ended; None
+    while it runs."""
+    found, status, used = os.wait4(process.pid, os.WNOHANG)
+    if not found:
+        return None
+    process.returncode = os.waitstatus_to_exitcode(status)
+    return used.ru_utime + used.ru_stime
+
+
+def is_busy(jobs):
+    """Returns whether, in the last minute, far more processes were ready to run than these jobs need."""
+    return os.getloadavg()[0] > 1.5 * jobs
+
+
 def end(processes):
     """Kills the commands and all that they started, in whatever process group, and waits until they are gone."""
     sessions = {it.pid for it in processes}
