@@ -22,14 +22,15 @@ SITE = Site("/nonexistent")
 
 
 def made_rows():
-    """Journals, of which each has the one ten before it as its earlier title; and two editions of one, of which the
-    last row has the online one. A part has eight rows."""
+    """Journals, of which each has the one ten before it as its earlier title; two editions of one; and last another row
+    of the first one, which has to be in its part."""
     for at in range(COUNT):
         before = f"t{at - 10}" if at >= 10 else ""
         yield (f"Title {at:02}", issn(at), "", str(1990 + at), "", "", f"t{at}", "P1Y" if at % 2 else "", "fulltext",
                "serial", before)
-    yield ("The Editions", issn(40), "", "1970", "1980", "", "e1", "", "fulltext", "serial")
-    yield ("Editions", "", issn(41), "1981", "", "", "e2", "", "fulltext", "serial")
+    yield ("The Waves", issn(40), "", "1970", "1980", "", "w1", "", "fulltext", "serial")
+    yield ("Waves", "", issn(41), "1981", "", "", "w2", "", "fulltext", "serial")
+    yield ("Title 00", issn(0), "", "2020", "", "", "again", "", "fulltext", "serial")
 
 
 @contextlib.contextmanager
@@ -75,21 +76,23 @@ def expected_cells(at, places):
     embargo = " - P1Y" if at % 2 else ""
     related = ([f"<{issn(at - 10)} Title {at - 10:02}"] if at >= 10 else
                [f">{issn(at + 10)} Title {at + 10:02}"] if at + 10 < COUNT else [])
-    return ["j", f"Title {at:02}", issn(at), f"{places[f't{at}']} {1990 + at}{embargo}",
-            *related]
+    again = f";{places['again']} 2020" if at == 0 else ""
+    return ["j", f"Title {at:02}", issn(at), f"{places[f't{at}']} {1990 + at}{embargo}{again}", *related]
 
 
 def test_index():
     with version_of(8) as weeks:
         places = places_of(weeks)
         expect("three parts have all rows", (len(places), {place.partition(" ")[0] for place in places.values()}),
-               (COUNT + 2, {*PARTS}))
+               (COUNT + 3, {*PARTS}))
+        expect("rows of one number are in one part", (places["t0"], places["again"]), ("big 0", "big 7"))
         for at in range(COUNT):
             expect(f"the cells of title {at}", cells_of(weeks, issn(at)), expected_cells(at, places))
-        expect("two editions in one part or in two", cells_of(weeks, issn(41)),
-               ["j", "The Editions", f"{issn(40)} {issn(41)}", f"{places['e1']} 1970 1980;{places['e2']} 1981"])
+        expect("two editions", cells_of(weeks, issn(41)),
+               ["j", "The Waves", f"{issn(40)} {issn(41)}", f"{places['w1']} 1970 1980;{places['w2']} 1981"])
         letters = weeks.read("index/list/j/letters").decode().split("\n")
-        expect("the list has each title once", letters[1:4:2], [f"{COUNT + 1}\t1", f"t\t1\t1\t{COUNT}\tti"])
+        expect("the list has each title once", letters[1:4],
+               [f"{COUNT + 1}\t1", f"t\t0\t1\t{COUNT}\tti", "w\t1\t1\t1\twa"])
 
 
 def test_exports():
@@ -104,10 +107,11 @@ def test_exports():
     for name in ("kbart.txt", "scholar/holdings-1.xml"):
         expect(f"the lines of {name}", sorted(divided[name].splitlines()), sorted(whole[name].splitlines()))
     expect("each title is in the sheet", re.findall(r"^(.*?)\t", whole["titles.tsv"], re.M)[1:],
-           ["The Editions", *(f"Title {at:02}" for at in range(COUNT))])
-    expect("its coverage", [line.split("\t")[1:3] for line in divided["titles.tsv"].splitlines()[1:3]],
-           [[f"ISSN {issn(40)}; ISSN {issn(41)}", "big: 1970 to 1980; big: since 1981"],
-            [f"ISSN {issn(0)}", "big: since 1990"]])
+           [*(f"Title {at:02}" for at in range(COUNT)), "The Waves"])
+    lines = divided["titles.tsv"].splitlines()
+    expect("the coverage of all its rows", [lines[at].split("\t")[1:] for at in (1, -1)],
+           [[f"ISSN {issn(0)}", "big: since 1990; big: since 2020", "big"],
+            [f"ISSN {issn(40)}; ISSN {issn(41)}", "big: 1970 to 1980; big: since 1981", "big"]])
 
 
 TESTS = [test_index, test_exports]
