@@ -44,7 +44,7 @@ def index_entries(version):
 def exports_of(weeks):
     """The cells of the KBART file that the update writes, which is the one that openlink-holdings writes."""
     version, folder = Path(weeks.version), Path(weeks.path("exported"))
-    export_files.make(version, weeks.maker.tables_for_export(), Site("/nonexistent"), None)
+    export_files.make(version, weeks.maker.prepared_parts(), weeks.maker.titles, Site("/nonexistent"), None)
     export_files.WRITERS["kbart"](version, tables_of(version, DAY), Site("/nonexistent"), SiteNames(None), folder)
     texts = [path.read_text() for path in (version / "export/kbart.txt", folder / "kbart.txt")]
     expect("both write the same", texts[0], texts[1])

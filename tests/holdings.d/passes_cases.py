@@ -41,7 +41,8 @@ def whole_week(weeks):
     if older and making.is_same(weeks.version, older):
         return False
     weeks.maker.make_index(True)
-    export_files.make(Path(weeks.version), weeks.maker.tables_for_export(), Site("/nonexistent"), None)
+    maker = weeks.maker
+    export_files.make(Path(weeks.version), maker.prepared_parts(), maker.titles, Site("/nonexistent"), None)
     weeks.maker.remove_prepared()
     return True
 

@@ -245,11 +245,9 @@ def test_random_words():
 
 
 MEASURED = """
-import re, sys
+import re, runpy, sys
 sys.path.insert(0, "update")
-from openlink_update.index import title_index as index
-index.begin(sys.argv[2], True)
-index.make(sys.argv[2], True, index.tables_of(sys.argv[1]))
+runpy.run_module("openlink_update.index.title_index", run_name="__main__")
 with open("/proc/self/status") as status:
     print(int(re.search(r"VmHWM:\\s*(\\d+) kB", status.read())[1]) >> 10)
 """
