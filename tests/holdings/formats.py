@@ -31,19 +31,25 @@ monograph_edition
 first_editor
 parent_publication_title_id
 preceding_publication_title_id
-access_type""".split("\n")
+access_type""".split(
+    "\n"
+)
 
 # For each element, its children in their order: `?` at most once, `*` any number, `+` at least one, else exactly one.
 HOLDINGS = {
-    "institutional_holdings": "item*", "item": "title issn? coverage", "coverage": "from? to? embargo? comment?",
-    "from": "year month? volume? issue?", "to": "year month? volume? issue?", "embargo": "days_not_available",
+    "institutional_holdings": "item*",
+    "item": "title issn? coverage",
+    "coverage": "from? to? embargo? comment?",
+    "from": "year month? volume? issue?",
+    "to": "year month? volume? issue?",
+    "embargo": "days_not_available",
 }
 LINKS = {
     "institutional_links": "institution keywords? contact? electronic_link_label other_link_label openurl_base "
-                           "openurl_option* electronic_holdings patron_ip_range*",
+    "openurl_option* electronic_holdings patron_ip_range*",
     "electronic_holdings": "url+",
 }
-DOCTYPE = ('<!DOCTYPE {0} PUBLIC "-//GOOGLE//{1} 1.0" "http://scholar.google.com/scholar/{0}.dtd">')
+DOCTYPE = '<!DOCTYPE {0} PUBLIC "-//GOOGLE//{1} 1.0" "http://scholar.google.com/scholar/{0}.dtd">'
 MOST_BYTES = 1_000_000
 
 

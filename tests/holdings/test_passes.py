@@ -1,15 +1,19 @@
 """How often a week takes a table apart, puts it together and prepares it: counted at the only functions that do so."""
+from __future__ import annotations
+
 import contextlib
 from pathlib import Path
 from unittest import mock
 
-from counting import expect
+from fixtures import needs
+from fixtures.cases import Case
+from fixtures.made_versions import Weeks
+from fixtures.made_versions import table
 from openlink_update.exports import export_files
 from openlink_update.site.front_door import Site
 from openlink_update.tables import preparation
 from openlink_update.tables.table import Table
 from openlink_update.versions import making
-from versions import Weeks, table
 
 
 def rows(count):
@@ -25,12 +29,13 @@ def counted():
         def counted_work(*given):
             counts[place] += 1
             return work(*given)
+
         return counted_work
 
     parse, to_bytes, prepare = Table.parse, Table.to_bytes, preparation.prepare
-    with mock.patch.object(Table, "parse", counting(0, parse)), \
-            mock.patch.object(Table, "to_bytes", counting(1, to_bytes)), \
-            mock.patch.object(preparation, "prepare", counting(2, prepare)):
+    with mock.patch.object(Table, "parse", counting(0, parse)), mock.patch.object(
+        Table, "to_bytes", counting(1, to_bytes)
+    ), mock.patch.object(preparation, "prepare", counting(2, prepare)):
         yield counts
 
 
@@ -46,18 +51,20 @@ def whole_week(weeks):
     return True
 
 
-def test_passes():
-    with Weeks() as weeks:
-        for name, data, expected_new, most in (
+@needs.program()
+class Passes(Case):
+    def test_passes(self) -> None:
+        with Weeks() as weeks:
+            for name, data, expected_new, most in (
                 ("a new target", table(*rows(20)), True, (2, 2, 1)),
                 ("a changed table", table(*rows(21)), True, (3, 2, 2)),
-                ("the same table", table(*rows(21)), False, (0, 2, 1))):
-            weeks.deliver("x", data)
-            with counted() as counts:
-                is_new = whole_week(weeks)
-            expect(f"{name}: whether a version is new", is_new, expected_new)
-            expect(f"{name}: parses, serialisations, preparations: {counts}, and {most} are possible",
-                   counts[2] > 0 and all(count <= limit for count, limit in zip(counts, most)))
-
-
-TESTS = [test_passes]
+                ("the same table", table(*rows(21)), False, (0, 2, 1)),
+            ):
+                weeks.deliver("x", data)
+                with counted() as counts:
+                    is_new = whole_week(weeks)
+                self.expect(f"{name}: whether a version is new", is_new, expected_new)
+                self.expect(
+                    f"{name}: parses, serialisations, preparations: {counts}, and {most} are possible",
+                    counts[2] > 0 and all(count <= limit for count, limit in zip(counts, most)),
+                )

@@ -1,55 +1,57 @@
 """What a person reads, in the mail, on a terminal, and in the lists of rows: no character there is a command, and no
 cell of a list is a formula. The table and its rules are a hostile provider's."""
-import contextlib, csv, io, os, subprocess, sys, unicodedata
-from counting import expect
+from __future__ import annotations
+
+import contextlib
+import csv
+import io
+import os
+import subprocess
+import sys
+import unicodedata
+
+from fixtures import needs
+from fixtures.cases import Case
+from fixtures.made_versions import HEADER
+from fixtures.made_versions import Weeks
+from fixtures.made_versions import table
 from openlink_update import shown_text
 from openlink_update.report import report
-from versions import HEADER, Weeks, table
 
 # ESC, CR, BEL, NUL, DEL, C1 (CSI, NEL), and what ends a line or sets its direction.
-UNSAFE = "\x1b\r\x07\x00\x0b\x0c\x7f\x80\x85\x9b\x9f\u061c\u200e\u200f\u2028\u2029\u202a\u202b\u202c\u202d\u202e" \
-         "\u2066\u2067\u2068\u2069"
-FORMULAS = ("=1", "+1", "-1", "@SUM(A1)", " =1", "\t=1", " \t+1", "\u3000=1", "\xa0-1", "＝1", "＋1", "－1", "＠1",
-            "\x1b=1")
+UNSAFE = (
+    "\x1b\r\x07\x00\x0b\x0c\x7f\x80\x85\x9b\x9f\u061c\u200e\u200f\u2028\u2029\u202a\u202b\u202c\u202d\u202e"
+    "\u2066\u2067\u2068\u2069"
+)
+FORMULAS = (
+    "=1",
+    "+1",
+    "-1",
+    "@SUM(A1)",
+    " =1",
+    "\t=1",
+    " \t+1",
+    "\u3000=1",
+    "\xa0-1",
+    "＝1",
+    "＋1",
+    "－1",
+    "＠1",
+    "\x1b=1",
+)
 PLAIN = ("-", "Études – L’eau", "日本語", "می‌خواهم", "a=b", "Q & A", "", "'x", "50% + 1")
 
 
 def is_unsafe(text):
-    return [char for char in text if char != "\n" and (unicodedata.category(char) in ("Cc", "Zl", "Zp")
-                                                       or unicodedata.bidirectional(char) in (
-        "LRE", "RLE", "PDF", "LRO", "RLO", "LRI", "RLI", "FSI", "PDI"))]
-
-
-def test_printable():
-    for char in UNSAFE:
-        expect(f"the character {char!r}", shown_text.printable(f"a{char}b"), "a?b")
-    every = "".join(map(chr, (*range(0xd800), *range(0xe000, 0x3000))))
-    expect("of all characters", is_unsafe(shown_text.printable(every)), [])
-    for text in PLAIN:
-        expect(f"the text {text!r}", shown_text.printable(text), text)
-    expect("a tab, and lines", shown_text.printable("a\tb\nc"), "a b\nc")
-
-
-def test_cells():
-    for text in FORMULAS:
-        found = next(csv.reader([shown_text.row((text, "x"))], dialect="excel-tab"))
-        expect(f"the cell {text!r}", (len(found), found[0].lstrip()[:1] in tuple("=+-@＝＋－＠")), (2, False))
-    for text in PLAIN:
-        expect(f"the cell {text!r}", shown_text.cell(text), text)
-    found = next(csv.reader([shown_text.row(('"=1', 'a"b', "c\nd"))], dialect="excel-tab"))
-    expect("quotation marks", found, ['"=1', 'a"b', "c d"])
-
-
-def test_report():
-    """A line of a run has no commands; a process prints it as the mail gets it."""
-    out = io.StringIO()
-    with contextlib.redirect_stdout(out):
-        report("first \x1b]0;owned\x07\x1b[2J\x9b1m\u202e months\r")
-    expect("a line", out.getvalue(), "first ?]0;owned??[2J?1m? months?\n")
-    code = "from openlink_update.report import report; report('x\\x1b[2J\\x85y', 'stderr')"
-    done = subprocess.run([sys.executable, "-S", "-B", "-c", code], capture_output=True,
-                          env={**os.environ, "PYTHONPATH": "update"})
-    expect("standard error", done.stderr, b"x?[2J?y\n")
+    return [
+        char
+        for char in text
+        if char != "\n"
+        and (
+            unicodedata.category(char) in ("Cc", "Zl", "Zp")
+            or unicodedata.bidirectional(char) in ("LRE", "RLE", "PDF", "LRO", "RLO", "LRI", "RLI", "FSI", "PDI")
+        )
+    ]
 
 
 def row(title, number, embargo="", first="1995"):
@@ -58,8 +60,11 @@ def row(title, number, embargo="", first="1995"):
 
 def hostile(start):
     tail = UNSAFE.replace("\r", "")
-    return [row(f"{text}{tail}{number}", f"{start + number}-0000", "six\x1b]0;owned months")
-            for number, text in enumerate(FORMULAS) if "\t" not in text]
+    return [
+        row(f"{text}{tail}{number}", f"{start + number}-0000", "six\x1b]0;owned months")
+        for number, text in enumerate(FORMULAS)
+        if "\t" not in text
+    ]
 
 
 def lists_of(weeks):
@@ -69,28 +74,66 @@ def lists_of(weeks):
         yield name, text.replace("\t", ""), list(csv.reader(io.StringIO(text), dialect="excel-tab"))
 
 
-def test_lists():
-    """Titles that came and went, and dropped rows."""
-    good = [row(f"Good {number}", f"{1000 + number}-0000") for number in range(20)]
-    lost = [(*cells[:1], "=2+3" if number % 2 else "@soon", *cells[2:]) for number, cells in enumerate(hostile(3000))]
-    lost.append(row('"=1+1', "soon"))
-    allowed = "gone up to 100; dropped up to 99; not an ISSN or ISBN; rows without an identifier; lines"
-    with Weeks() as weeks, contextlib.ExitStack() as stack:
-        weeks.deliver("press", table(*good, *hostile(2000)).replace(b"\0", b""), allowed)
-        weeks.make()
-        weeks.deliver("press", table(*good, *hostile(4000), *lost, header=HEADER).replace(b"\0", b""), allowed)
-        said = weeks.make()
-        expect(f"the second week: {said}", weeks.maker.kept, [])
-        out = stack.enter_context(contextlib.redirect_stdout(io.StringIO()))
-        for line in said:
-            report(line)
-        found = list(lists_of(weeks))
-    expect("the lines of the mail", (is_unsafe(out.getvalue()), len(out.getvalue().splitlines()) > 3), ([], True))
-    for (name, text, rows), count in zip(found, (1 + 2 * len(hostile(0)), 1 + len(lost))):
-        expect(f"{name}: rows, each with all cells", (len(rows), len({len(cells) for cells in rows})), (count, 1))
-        expect(f"{name}: characters", is_unsafe(text), [])
-        expect(f"{name}: formulas", [cell for cells in rows for cell in cells
-                                     if cell.lstrip()[:1] in tuple("=+-@＝＋－＠")], [])
+class Shown(Case):
+    def test_printable(self) -> None:
+        for char in UNSAFE:
+            self.expect(f"the character {char!r}", shown_text.printable(f"a{char}b"), "a?b")
+        every = "".join(map(chr, (*range(0xD800), *range(0xE000, 0x3000))))
+        self.expect("of all characters", is_unsafe(shown_text.printable(every)), [])
+        for text in PLAIN:
+            self.expect(f"the text {text!r}", shown_text.printable(text), text)
+        self.expect("a tab, and lines", shown_text.printable("a\tb\nc"), "a b\nc")
 
+    def test_cells(self) -> None:
+        for text in FORMULAS:
+            found = next(csv.reader([shown_text.row((text, "x"))], dialect="excel-tab"))
+            self.expect(f"the cell {text!r}", (len(found), found[0].lstrip()[:1] in tuple("=+-@＝＋－＠")), (2, False))
+        for text in PLAIN:
+            self.expect(f"the cell {text!r}", shown_text.cell(text), text)
+        found = next(csv.reader([shown_text.row(('"=1', 'a"b', "c\nd"))], dialect="excel-tab"))
+        self.expect("quotation marks", found, ['"=1', 'a"b', "c d"])
 
-TESTS = [test_printable, test_cells, test_report, test_lists]
+    def test_report(self) -> None:
+        """A line of a run has no commands; a process prints it as the mail gets it."""
+        out = io.StringIO()
+        with contextlib.redirect_stdout(out):
+            report("first \x1b]0;owned\x07\x1b[2J\x9b1m\u202e months\r")
+        self.expect("a line", out.getvalue(), "first ?]0;owned??[2J?1m? months?\n")
+        code = "from openlink_update.report import report; report('x\\x1b[2J\\x85y', 'stderr')"
+        done = subprocess.run(
+            [sys.executable, "-S", "-B", "-c", code], capture_output=True, env={**os.environ, "PYTHONPATH": "update"}
+        )
+        self.expect("standard error", done.stderr, b"x?[2J?y\n")
+
+    @needs.program()
+    def test_lists(self) -> None:
+        """Titles that came and went, and dropped rows."""
+        good = [row(f"Good {number}", f"{1000 + number}-0000") for number in range(20)]
+        lost = [
+            (*cells[:1], "=2+3" if number % 2 else "@soon", *cells[2:]) for number, cells in enumerate(hostile(3000))
+        ]
+        lost.append(row('"=1+1', "soon"))
+        allowed = "gone up to 100; dropped up to 99; not an ISSN or ISBN; rows without an identifier; lines"
+        with Weeks() as weeks, contextlib.ExitStack() as stack:
+            weeks.deliver("press", table(*good, *hostile(2000)).replace(b"\0", b""), allowed)
+            weeks.make()
+            weeks.deliver("press", table(*good, *hostile(4000), *lost, header=HEADER).replace(b"\0", b""), allowed)
+            said = weeks.make()
+            self.expect(f"the second week: {said}", weeks.maker.kept, [])
+            out = stack.enter_context(contextlib.redirect_stdout(io.StringIO()))
+            for line in said:
+                report(line)
+            found = list(lists_of(weeks))
+        self.expect(
+            "the lines of the mail", (is_unsafe(out.getvalue()), len(out.getvalue().splitlines()) > 3), ([], True)
+        )
+        for (name, text, rows), count in zip(found, (1 + 2 * len(hostile(0)), 1 + len(lost))):
+            self.expect(
+                f"{name}: rows, each with all cells", (len(rows), len({len(cells) for cells in rows})), (count, 1)
+            )
+            self.expect(f"{name}: characters", is_unsafe(text), [])
+            self.expect(
+                f"{name}: formulas",
+                [cell for cells in rows for cell in cells if cell.lstrip()[:1] in tuple("=+-@＝＋－＠")],
+                [],
+            )

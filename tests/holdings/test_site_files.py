@@ -1,12 +1,24 @@
 """Files of a library's site that njs would refuse, or read in another way than Python: they are refused with the place
 before they are put in a version. And a port that is free, or none."""
-import contextlib, json, os, random, shutil, socket, subprocess, tempfile, types
-from counting import expect
+from __future__ import annotations
+
+import contextlib
+import json
+import os
+import random
+import shutil
+import socket
+import subprocess
+import tempfile
+import types
 from pathlib import Path
+
+from fixtures.cases import Case
 from openlink_update import children
 from openlink_update.input_files import InputFolder
-from openlink_update.site import names_file, targets_file
 from openlink_update.outcome import Failure
+from openlink_update.site import names_file
+from openlink_update.site import targets_file
 
 MOST_BYTES, DEPTH = 1_048_576, 31
 GOOD = {"groups": [{"name": "A"}], "targets": {"a": {"label": "x"}}}
@@ -30,10 +42,14 @@ def nested(depth):
 REFUSED = [
     (with_text('"folder": NaN'), ['"folder": NaN is no value of JSON']),
     (with_text('"folder": NaN, "folder": "/x"'), ['"folder" occurs more than once']),
-    (with_text('"targets": {"a": {"label": [1, -Infinity]}}'),
-     ['"targets": "a": "label": 2: -Infinity is no value of JSON']),
-    (with_text('"targets": {"a": {}, "b": {"note": Infinity}, "a": {}}'),
-     ['"targets": "a" occurs more than once', '"targets": "b": "note": Infinity is no value of JSON']),
+    (
+        with_text('"targets": {"a": {"label": [1, -Infinity]}}'),
+        ['"targets": "a": "label": 2: -Infinity is no value of JSON'],
+    ),
+    (
+        with_text('"targets": {"a": {}, "b": {"note": Infinity}, "a": {}}'),
+        ['"targets": "a" occurs more than once', '"targets": "b": "note": Infinity is no value of JSON'],
+    ),
     (with_text('"targets": {"\\u0061": {}, "a": {}}'), ['"targets": "a" occurs more than once']),
     (with_text('"groups": []'), ['"groups" occurs more than once']),
     (of_size(MOST_BYTES + 1), ["more than 1,048,576 bytes"]),
@@ -44,10 +60,21 @@ REFUSED = [
     (b'{"groups": [{"name": "A"}],\n "targets": {"a": {},}}', ["line 2, column 21: Illegal trailing comma"]),
 ]
 # Odd files that are not refused for their form.
-TAKEN = [json.dumps(GOOD).encode(), of_size(MOST_BYTES), with_text('"folder": "/\\ud800"'), with_text('"": 1'),
-         with_text('"__proto__": {"constructor": "x"}'), with_text('"folder": 1e999'), with_text('"folder": -0.0E-5'),
-         with_text('"folder": "\\u0000\x7f"'), with_text('"folder": null, "0": {"length": -1}'), nested(DEPTH),
-         b" \t\r\n" + json.dumps(GOOD).encode() + b"\n", '{"é\u2028": "日本語"}'.encode(), b'{"a": ' + b"9" * 4000 + b"}"]
+TAKEN = [
+    json.dumps(GOOD).encode(),
+    of_size(MOST_BYTES),
+    with_text('"folder": "/\\ud800"'),
+    with_text('"": 1'),
+    with_text('"__proto__": {"constructor": "x"}'),
+    with_text('"folder": 1e999'),
+    with_text('"folder": -0.0E-5'),
+    with_text('"folder": "\\u0000\x7f"'),
+    with_text('"folder": null, "0": {"length": -1}'),
+    nested(DEPTH),
+    b" \t\r\n" + json.dumps(GOOD).encode() + b"\n",
+    '{"é\u2028": "日本語"}'.encode(),
+    b'{"a": ' + b"9" * 4000 + b"}",
+]
 
 
 def form_faults(data):
@@ -55,19 +82,6 @@ def form_faults(data):
     faults = []
     targets_file.parsed(data, faults)
     return faults
-
-
-def test_refused():
-    for data, expected in REFUSED:
-        found = form_faults(data)
-        if "line 2" in expected[0]:  # the words are those of Python's json
-            found, expected = [it.partition(": ")[0].partition(",")[0] for it in found], ["line 2"]
-        expect(f"a file that begins {data[:80]}", found, expected)
-        expect(f"it is refused, {data[:80]}", targets_file.faults_of(data) != [])
-    for data in TAKEN:
-        expect(f"a file that begins {data[:80]}", form_faults(data), [])
-    expect("no more lines than can be read", len(form_faults(with_text('"x": [' + "NaN, " * 99 + "NaN]"))), 10)
-    expect("a long name", len(form_faults(with_text(f'"{"x" * 500}": NaN'))[0]) < 100)
 
 
 def mutations(count):
@@ -78,80 +92,105 @@ def mutations(count):
         text = list(source.choice(seeds))
         for _ in range(source.randrange(1, 3)):
             place = source.randrange(len(text))
-            text[place:place + source.randrange(2)] = source.choice(' \t\n"\\{}[]:,019.eE+-truNaIy\xa0\x7f\x00/')
+            text[place : place + source.randrange(2)] = source.choice(' \t\n"\\{}[]:,019.eE+-truNaIy\xa0\x7f\x00/')
         yield "".join(text).encode()
 
 
-def test_njs():
-    """Nothing that Python takes is refused by njs."""
-    command = next(filter(shutil.which, ("njs", "node")), None)
-    if command is None:
-        return
-    files = [*TAKEN, *(data for data, _ in REFUSED), *mutations(2000)]
-    with tempfile.TemporaryDirectory() as folder:
-        for number, data in enumerate(files):
-            with open(os.path.join(folder, str(number)), "wb") as file:
-                file.write(data)
-        with open(os.path.join(folder, "read.js"), "w", encoding="utf-8") as file:
-            file.write("var fs = require('fs');\n"
-                       f"for (var n = 0; n < {len(files)}; n++) {{\n    var taken = true;\n"
-                       f"    try {{ JSON.parse(fs.readFileSync({json.dumps(folder)} + '/' + n, 'utf8')); }}\n"
-                       "    catch (e) { taken = false; }\n    console.log(taken);\n}\n")
-        done = subprocess.run([command, os.path.join(folder, "read.js")], capture_output=True, text=True)
-    taken = [line == "true" for line in done.stdout.splitlines()]
-    expect(f"a line for each file; {done.stderr[:200]}", len(taken), len(files))
-    by_python = [form_faults(data) == [] for data in files]
-    expect("files that Python takes and njs does not", [data[:200] for data, one, other in zip(files, by_python, taken)
-                                                        if one and not other], [])
-    expect(f"Python takes some: {sum(by_python)}", 100 < sum(by_python) < len(files) - 100)
-    expect("njs takes the odd ones", taken[:len(TAKEN)], [True] * len(TAKEN))
+class SiteFiles(Case):
+    def test_refused(self) -> None:
+        for data, expected in REFUSED:
+            found = form_faults(data)
+            if "line 2" in expected[0]:  # the words are those of Python's json
+                found, expected = [it.partition(": ")[0].partition(",")[0] for it in found], ["line 2"]
+            self.expect(f"a file that begins {data[:80]}", found, expected)
+            self.expect(f"it is refused, {data[:80]}", targets_file.faults_of(data) != [])
+        for data in TAKEN:
+            self.expect(f"a file that begins {data[:80]}", form_faults(data), [])
+        self.expect("no more lines than can be read", len(form_faults(with_text('"x": [' + "NaN, " * 99 + "NaN]"))), 10)
+        self.expect("a long name", len(form_faults(with_text(f'"{"x" * 500}": NaN'))[0]) < 100)
 
+    def test_njs(self) -> None:
+        """Nothing that Python takes is refused by njs."""
+        command = next(filter(shutil.which, ("njs", "node")), None)
+        if command is None:
+            return
+        files = [*TAKEN, *(data for data, _ in REFUSED), *mutations(2000)]
+        with tempfile.TemporaryDirectory() as folder:
+            for number, data in enumerate(files):
+                with open(os.path.join(folder, str(number)), "wb") as file:
+                    file.write(data)
+            with open(os.path.join(folder, "read.js"), "w", encoding="utf-8") as file:
+                file.write(
+                    "var fs = require('fs');\n"
+                    f"for (var n = 0; n < {len(files)}; n++) {{\n    var taken = true;\n"
+                    f"    try {{ JSON.parse(fs.readFileSync({json.dumps(folder)} + '/' + n, 'utf8')); }}\n"
+                    "    catch (e) { taken = false; }\n    console.log(taken);\n}\n"
+                )
+            done = subprocess.run([command, os.path.join(folder, "read.js")], capture_output=True, text=True)
+        taken = [line == "true" for line in done.stdout.splitlines()]
+        self.expect(f"a line for each file; {done.stderr[:200]}", len(taken), len(files))
+        by_python = [form_faults(data) == [] for data in files]
+        self.expect(
+            "files that Python takes and njs does not",
+            [data[:200] for data, one, other in zip(files, by_python, taken) if one and not other],
+            [],
+        )
+        self.expect(f"Python takes some: {sum(by_python)}", 100 < sum(by_python) < len(files) - 100)
+        self.expect("njs takes the odd ones", taken[: len(TAKEN)], [True] * len(TAKEN))
 
-def test_versions():
-    """A version gets only what was checked, and keeps the old file in place of a refused one."""
-    with tempfile.TemporaryDirectory() as folder:
-        paths = {name: os.path.join(folder, name) for name in ("input", "old", "new", "site")}
-        for name in ("input", "old", "new"):
-            os.mkdir(paths[name])
-        site = types.SimpleNamespace(languages={"en"}, path=paths["site"], targets_path=lambda: paths["site"])
-        for name, data in (("old", json.dumps(GOOD).encode()), ("input", REFUSED[0][0])):
-            with open(os.path.join(paths[name], "targets.json"), "wb") as file:
-                file.write(data)
-        old, new = Path(paths["old"]), Path(paths["new"])
-        added = names_file.NamesFile(site, old).add(new, InputFolder(paths["input"]), old)
-        expect("what is said", (added.lines, added.is_older), ([
-            "targets.json: the old one is kept",
-            f"  {paths['input']}/targets.json: \"folder\": NaN is no value of JSON"], True))
-        with open(os.path.join(paths["new"], "targets.json"), "rb") as file:
-            expect("the old one", json.load(file), GOOD)
+    def test_versions(self) -> None:
+        """A version gets only what was checked, and keeps the old file in place of a refused one."""
+        with tempfile.TemporaryDirectory() as folder:
+            paths = {name: os.path.join(folder, name) for name in ("input", "old", "new", "site")}
+            for name in ("input", "old", "new"):
+                os.mkdir(paths[name])
+            site = types.SimpleNamespace(languages={"en"}, path=paths["site"], targets_path=lambda: paths["site"])
+            for name, data in (("old", json.dumps(GOOD).encode()), ("input", REFUSED[0][0])):
+                with open(os.path.join(paths[name], "targets.json"), "wb") as file:
+                    file.write(data)
+            old, new = Path(paths["old"]), Path(paths["new"])
+            added = names_file.NamesFile(site, old).add(new, InputFolder(paths["input"]), old)
+            self.expect(
+                "what is said",
+                (added.lines, added.is_older),
+                (
+                    [
+                        "targets.json: the old one is kept",
+                        f"  {paths['input']}/targets.json: \"folder\": NaN is no value of JSON",
+                    ],
+                    True,
+                ),
+            )
+            with open(os.path.join(paths["new"], "targets.json"), "rb") as file:
+                self.expect("the old one", json.load(file), GOOD)
 
+    def test_ports(self) -> None:
+        """The search for a free port ends, also if another user has the names of all of them."""
+        tried = []
 
-def test_ports():
-    """The search for a free port ends, also if another user has the names of all of them."""
-    tried = []
+        class Taken(socket.socket):
+            def bind(self, name):
+                tried.append(name)
+                if len(tried) > 20_000:
+                    raise StopIteration  # the search would not end
+                raise OSError("Address already in use")
 
-    class Taken(socket.socket):
-        def bind(self, name):
-            tried.append(name)
-            if len(tried) > 20_000:
-                raise StopIteration  # the search would not end
-            raise OSError("Address already in use")
-
-    real, children.socket.socket = socket.socket, Taken
-    try:
-        said = None
-        with contextlib.suppress(StopIteration):
-            children.free_port()
-    except Failure as failure:
-        said = str(failure)
-    finally:
-        children.socket.socket = real
-    expect("what is said", said, "no free port from 20000 to 31999: their names openlink-port-N are taken, as `ss -xl` "
-           "shows, or something listens at each")
-    expect("each name is tried once", (len(tried), len(set(tried))), (12_000, 12_000))
-    port = children.free_port()
-    expect(f"a free port, {port}", 20_000 <= port < 32_000 and not children.is_open(port))
-    expect("no port is given twice", children.free_port() != port)
-
-
-TESTS = [test_refused, test_njs, test_versions, test_ports]
+        real, children.socket.socket = socket.socket, Taken
+        try:
+            said = None
+            with contextlib.suppress(StopIteration):
+                children.free_port()
+        except Failure as failure:
+            said = str(failure)
+        finally:
+            children.socket.socket = real
+        self.expect(
+            "what is said",
+            said,
+            "no free port from 20000 to 31999: their names openlink-port-N are taken, as `ss -xl` "
+            "shows, or something listens at each",
+        )
+        self.expect("each name is tried once", (len(tried), len(set(tried))), (12_000, 12_000))
+        port = children.free_port()
+        self.expect(f"a free port, {port}", 20_000 <= port < 32_000 and not children.is_open(port))
+        self.expect("no port is given twice", children.free_port() != port)

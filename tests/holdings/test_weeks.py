@@ -1,9 +1,23 @@
 """Two weeks of forty targets through openlink-update: the tables that are served, what the mail says, and the old
 tables that stay."""
-import gzip, os
-from counting import expect, expect_lines
-from preparation_cases import COLUMNS, FILES, PLAIN, ROW, bytes_of, of_rows, row, tabs, zipped
-from updates import Library, without_columns
+from __future__ import annotations
+
+import gzip
+import os
+
+from fixtures import needs
+from fixtures.cases import Case
+from fixtures.updates import Library
+from fixtures.updates import without_columns
+from holdings.test_preparation import COLUMNS
+from holdings.test_preparation import FILES
+from holdings.test_preparation import PLAIN
+from holdings.test_preparation import ROW
+from holdings.test_preparation import bytes_of
+from holdings.test_preparation import of_rows
+from holdings.test_preparation import row
+from holdings.test_preparation import tabs
+from holdings.test_preparation import zipped
 
 # What the files of these shapes need to be used, and those that no words allow.
 ALLOWED = {
@@ -47,28 +61,6 @@ def write_first_week(library):
     library.write_targets()
 
 
-def expect_first_week(library, status, printed):
-    expect(f"the first week: {printed}", status, 0)
-    for case, (_, served, told) in FILES.items():
-        if case not in LEFT_OUT:
-            expect(f"the table {case}", library.table(name_of(case)), without_columns(tabs(served)))
-            lines = printed.split(f"\n{name_of(case)}: new, ")[-1].splitlines()[1:]
-            expect(f"what the mail says of {case}", lines[:len(told) + 1][:len(told)], [f"  {line}" for line in told])
-    joined = tabs(f"{COLUMNS}|title_id\n{ROW}|\nTides|9780306406157|||||t1\n")
-    expect("several files", library.table("several"), without_columns(joined))
-    expect_lines("several files", printed, "several: new, 2 rows",
-                 f"  {library.path('parts/books_2026-10-01.csv')}: commas between cells: 1 row")
-    expect("the newest file", library.table("newest"), without_columns(tabs(PLAIN)))
-    expect("the dropped rows", library.served("dropped", "rows-without-an-identifier.txt"), tabs(
-        f"reason|{COLUMNS}\nno identifier|{row('No number', '', '')}\nno ISSN or ISBN|"
-        f"{row('Rounded', '9.78123E+12', '-')}\n"))
-    expect("no list without dropped rows", library.served("dropped", "several.txt"), None)
-    expect("the files as they came", (library.served("received", "several.txt"),
-                                      library.served("received", "several.txt.2")),
-           (tabs(PLAIN), "Print Identifier,publication_title,title_id\n0-306-40615-2,Tides,t1\n"))
-    expect("the index has the prepared table", "Tides" in "".join(lines_of_index(library, "9780306406157")))
-
-
 def lines_of_index(library, number):
     """The lines that the index has for a number."""
     folder = os.path.join(library.library, "current", "index", "keys")
@@ -96,55 +88,111 @@ BAD = {
     "as-it-should-be": ("as-it-should-be.txt", "a web page, not a table"),
     "commas": ("commas.txt", "a gzip file that is cut short or damaged"),
     "semicolons": ("semicolons.txt", "a zip file with 2 members: name one by `member PATTERN` in sources.tsv"),
-    "collapse": ("collapse.txt", f"{LOST} of {WHOLE} rows dropped, and 146 may be: no identifier: {LOST}; to "
-                                 f"allow it: dropped up to {LOST}; the first: "
-                                 "Title 0 1995-03-01 https://press.example.com/ats"),
+    "collapse": (
+        "collapse.txt",
+        f"{LOST} of {WHOLE} rows dropped, and 146 may be: no identifier: {LOST}; to "
+        f"allow it: dropped up to {LOST}; the first: "
+        "Title 0 1995-03-01 https://press.example.com/ats",
+    ),
     "fewer": ("fewer.txt", "less than half of the rows: 1, and 4 before; to allow it: less than half of the rows"),
     "dashes": ("dashes.txt", "rows 0"),
     "gone": ("went_*.txt", "no file has such a name"),
 }
 
 
-def test_two_weeks():
-    with Library() as library:
-        write_first_week(library)
-        expect_first_week(library, *library.update())
-        before = {name: library.table(name) for name in library.targets}
-        write_second_week(library)
-        status, printed = library.update()
-        expect(f"the second week: {printed}", status, 1)
-        for name, (file, reason) in BAD.items():
-            expect_lines(name, printed, f"{name}: kept its old rules and table", f"  {library.path(file)}: {reason}")
-            expect(f"{name}: the old table", library.table(name), before[name])
-        expect_lines("good files", printed, "several: 1 row added, 1 gone", "newest: 1 row added, 1 gone",
-                     "gzip: 1 row added, 0 gone", "zip: 1 row added, 1 gone",
-                     "  dates in the standard's form: 1 cell")
-        changed = {"several", "newest", "gzip", "zip"}
-        expect("other tables are the same", {name for name in before
-                                             if library.table(name) != before[name]}, changed)
-        expect("targets that are named", {line.split(":")[0] for line in printed.splitlines()[:-1]
-                                          if not line.startswith(" ") and "probes.tsv" not in line}, changed | {*BAD})
-        status, printed = library.update()
-        expect("again", (status, [line for line in printed.splitlines() if line.startswith("nothing new: ")] != []),
-               (1, True))
+@needs.program()
+class TwoWeeks(Case):
+    def expect_first_week(self, library, status, printed):
+        self.expect(f"the first week: {printed}", status, 0)
+        for case, (_, served, told) in FILES.items():
+            if case not in LEFT_OUT:
+                self.expect(f"the table {case}", library.table(name_of(case)), without_columns(tabs(served)))
+                lines = printed.split(f"\n{name_of(case)}: new, ")[-1].splitlines()[1:]
+                self.expect(
+                    f"what the mail says of {case}", lines[: len(told) + 1][: len(told)], [f"  {line}" for line in told]
+                )
+        joined = tabs(f"{COLUMNS}|title_id\n{ROW}|\nTides|9780306406157|||||t1\n")
+        self.expect("several files", library.table("several"), without_columns(joined))
+        self.expect_lines(
+            "several files",
+            printed,
+            "several: new, 2 rows",
+            f"  {library.path('parts/books_2026-10-01.csv')}: commas between cells: 1 row",
+        )
+        self.expect("the newest file", library.table("newest"), without_columns(tabs(PLAIN)))
+        self.expect(
+            "the dropped rows",
+            library.served("dropped", "rows-without-an-identifier.txt"),
+            tabs(
+                f"reason|{COLUMNS}\nno identifier|{row('No number', '', '')}\nno ISSN or ISBN|"
+                f"{row('Rounded', '9.78123E+12', '-')}\n"
+            ),
+        )
+        self.expect("no list without dropped rows", library.served("dropped", "several.txt"), None)
+        self.expect(
+            "the files as they came",
+            (library.served("received", "several.txt"), library.served("received", "several.txt.2")),
+            (tabs(PLAIN), "Print Identifier,publication_title,title_id\n0-306-40615-2,Tides,t1\n"),
+        )
+        self.expect("the index has the prepared table", "Tides" in "".join(lines_of_index(library, "9780306406157")))
 
+    def test_two_weeks(self) -> None:
+        with Library() as library:
+            write_first_week(library)
+            self.expect_first_week(library, *library.update())
+            before = {name: library.table(name) for name in library.targets}
+            write_second_week(library)
+            status, printed = library.update()
+            self.expect(f"the second week: {printed}", status, 1)
+            for name, (file, reason) in BAD.items():
+                self.expect_lines(
+                    name, printed, f"{name}: kept its old rules and table", f"  {library.path(file)}: {reason}"
+                )
+                self.expect(f"{name}: the old table", library.table(name), before[name])
+            self.expect_lines(
+                "good files",
+                printed,
+                "several: 1 row added, 1 gone",
+                "newest: 1 row added, 1 gone",
+                "gzip: 1 row added, 0 gone",
+                "zip: 1 row added, 1 gone",
+                "  dates in the standard's form: 1 cell",
+            )
+            changed = {"several", "newest", "gzip", "zip"}
+            self.expect(
+                "other tables are the same", {name for name in before if library.table(name) != before[name]}, changed
+            )
+            self.expect(
+                "targets that are named",
+                {
+                    line.split(":")[0]
+                    for line in printed.splitlines()[:-1]
+                    if not line.startswith(" ") and "probes.tsv" not in line
+                },
+                changed | {*BAD},
+            )
+            status, printed = library.update()
+            self.expect(
+                "again",
+                (status, [line for line in printed.splitlines() if line.startswith("nothing new: ")] != []),
+                (1, True),
+            )
 
-def test_allowed_collapse():
-    """The number of rows that may be dropped is the operator's to say."""
-    with Library() as library:
-        library.targets["collapse"] = ("collapse.txt", f"dropped up to {LOST}; less than half of the rows")
-        library.write("collapse.txt", tabs(many_rows(LOST)))
-        library.write_targets()
-        status, printed = library.update()
-        expect_lines("rows that may be dropped", printed, f"collapse: new, {WHOLE - LOST} rows",
-                     f"  dropped: {LOST} rows")
-        expect("the rows that are served", (status, library.table("collapse").count("\n")),
-               (0, WHOLE - LOST + 1))
-        expect("the rows that are listed", library.served("dropped", "collapse.txt").count("\n"), LOST + 1)
-        expect("nothing new", library.update()[1].splitlines()[-1].startswith("nothing new: "))
-        library.targets["collapse"] = (" ; ", "")
-        library.write_targets()
-        expect("no table", library.update()[0], 3)
-
-
-TESTS = [test_two_weeks, test_allowed_collapse]
+    def test_allowed_collapse(self) -> None:
+        """The number of rows that may be dropped is the operator's to say."""
+        with Library() as library:
+            library.targets["collapse"] = ("collapse.txt", f"dropped up to {LOST}; less than half of the rows")
+            library.write("collapse.txt", tabs(many_rows(LOST)))
+            library.write_targets()
+            status, printed = library.update()
+            self.expect_lines(
+                "rows that may be dropped", printed, f"collapse: new, {WHOLE - LOST} rows", f"  dropped: {LOST} rows"
+            )
+            self.expect(
+                "the rows that are served", (status, library.table("collapse").count("\n")), (0, WHOLE - LOST + 1)
+            )
+            self.expect("the rows that are listed", library.served("dropped", "collapse.txt").count("\n"), LOST + 1)
+            self.expect("nothing new", library.update()[1].splitlines()[-1].startswith("nothing new: "))
+            library.targets["collapse"] = (" ; ", "")
+            library.write_targets()
+            self.expect("no table", library.update()[0], 3)

@@ -1,8 +1,12 @@
 """Work that grows with the size of what comes, and not with its square: comparisons and characters are counted for two
 sizes, of which the second is twice the first."""
-from counting import expect
-from openlink_update.received import archives, headers
+from __future__ import annotations
+
+from fixtures.cases import Case
+from openlink_update.received import archives
+from openlink_update.received import headers
 from openlink_update.tables import preparation
+
 
 count = 0
 
@@ -35,48 +39,75 @@ def counted(work, *given):
     return count
 
 
-def expect_linear(name, work, given, size):
-    """Twice the size has at most a little more than twice the work, and some work is counted."""
-    small, large = (counted(work, *given(it)) for it in (size, 2 * size))
-    expect(f"{name}: {small} for {size}, {large} for {2 * size}", size // 2 <= small and large <= 2.2 * small)
+class Work(Case):
+    def expect_linear(self, name, work, given, size):
+        """Twice the size has at most a little more than twice the work, and some work is counted."""
+        small, large = (counted(work, *given(it)) for it in (size, 2 * size))
+        self.expect(f"{name}: {small} for {size}, {large} for {2 * size}", size // 2 <= small and large <= 2.2 * small)
 
+    def test_spelled(self) -> None:
+        """A header with one name in another spelling again and again, and then as the standard has it."""
+        names = headers.NAMES
+        headers.NAMES = {spelling: Text(name) for spelling, name in names.items()}
+        try:
+            self.expect_linear(
+                "names of columns",
+                headers.spelled,
+                lambda size: ([*["Publication Title"] * size, "publication_title"],),
+                500,
+            )
+            self.expect_linear(
+                "different names",
+                headers.spelled,
+                lambda size: ([*(f"x{number}" for number in range(size)), *["Title URL"] * size],),
+                500,
+            )
+        finally:
+            headers.NAMES = names
+        self.expect(
+            "the first of several spellings gets the name",
+            headers.spelled(["Title URL", "TITLE_URL", "x", "notes"]),
+            ["title_url", "TITLE_URL", "x", "notes"],
+        )
 
-def test_spelled():
-    """A header with one name in another spelling again and again, and then as the standard has it."""
-    names = headers.NAMES
-    headers.NAMES = {spelling: Text(name) for spelling, name in names.items()}
-    try:
-        expect_linear("names of columns", headers.spelled,
-                      lambda size: ([*["Publication Title"] * size, "publication_title"],), 500)
-        expect_linear("different names", headers.spelled,
-                      lambda size: ([*(f"x{number}" for number in range(size)), *["Title URL"] * size],), 500)
-    finally:
-        headers.NAMES = names
-    expect("the first of several spellings gets the name", headers.spelled(["Title URL", "TITLE_URL", "x", "notes"]),
-           ["title_url", "TITLE_URL", "x", "notes"])
+    def test_joined(self) -> None:
+        """The columns of two files, with one name or many."""
+        for name, of in (("one name", lambda number: "x"), ("many names", lambda number: f"x{number}")):
+            self.expect_linear(
+                name,
+                preparation.joined,
+                lambda size: ([([Text(of(number)) for number in range(size)], []) for _ in range(2)],),
+                500,
+            )
+        self.expect(
+            "names that occur again",
+            preparation.joined([(["a", "b", "a"], [["1", "2", "3"]]), (["a", "a", "a"], [["4", "5", "6"]])]),
+            (["a", "b", "a", "a"], [["1", "2", "3", ""], ["4", "", "5", "6"]]),
+        )
 
-
-def test_joined():
-    """The columns of two files, with one name or many."""
-    for name, of in (("one name", lambda number: "x"), ("many names", lambda number: f"x{number}")):
-        expect_linear(name, preparation.joined, lambda size: (
-            [([Text(of(number)) for number in range(size)], []) for _ in range(2)],), 500)
-    expect("names that occur again", preparation.joined([(["a", "b", "a"], [["1", "2", "3"]]),
-                                                         (["a", "a", "a"], [["4", "5", "6"]])]),
-           (["a", "b", "a", "a"], [["1", "2", "3", ""], ["4", "", "5", "6"]]))
-
-
-def test_fits():
-    """Patterns with several *, and names that nearly fit."""
-    for pattern in ("*a*b", "*a*a*a*b", "*aab*ab*b*c", "a*a*a*a*a*x*"):
-        expect_linear(f"the pattern {pattern}", archives.fits,
-                      lambda size: (Text("a" * size + "c"), f"{pattern}*"), 2000)
-    cases = {("a.txt", "*"): True, ("a.txt", "a.txt"): True, ("a.txt", "a.tx"): False, ("a", "a*a"): False,
-             ("aa", "a*a"): True, ("ab.ab", "*ab*ab"): True, ("ab", "*ab*ab"): False, ("x/y\nz", "x*z"): True,
-             ("a.b", "a?b"): False, ("abcbc", "a*bc"): True, ("abab", "*aba*bab*"): False, ("", "*"): True,
-             ("", ""): True, ("a", ""): False, ("aXbXc", "a*b*c"): True, ("acb", "a*b*c"): False}
-    for (name, pattern), expected in cases.items():
-        expect(f"{name!r} fits {pattern!r}", archives.fits(name, pattern), expected)
-
-
-TESTS = [test_spelled, test_joined, test_fits]
+    def test_fits(self) -> None:
+        """Patterns with several *, and names that nearly fit."""
+        for pattern in ("*a*b", "*a*a*a*b", "*aab*ab*b*c", "a*a*a*a*a*x*"):
+            self.expect_linear(
+                f"the pattern {pattern}", archives.fits, lambda size: (Text("a" * size + "c"), f"{pattern}*"), 2000
+            )
+        cases = {
+            ("a.txt", "*"): True,
+            ("a.txt", "a.txt"): True,
+            ("a.txt", "a.tx"): False,
+            ("a", "a*a"): False,
+            ("aa", "a*a"): True,
+            ("ab.ab", "*ab*ab"): True,
+            ("ab", "*ab*ab"): False,
+            ("x/y\nz", "x*z"): True,
+            ("a.b", "a?b"): False,
+            ("abcbc", "a*bc"): True,
+            ("abab", "*aba*bab*"): False,
+            ("", "*"): True,
+            ("", ""): True,
+            ("a", ""): False,
+            ("aXbXc", "a*b*c"): True,
+            ("acb", "a*b*c"): False,
+        }
+        for (name, pattern), expected in cases.items():
+            self.expect(f"{name!r} fits {pattern!r}", archives.fits(name, pattern), expected)

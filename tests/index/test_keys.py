@@ -1,7 +1,15 @@
 """The key of a title: cases, and the same keys in njs."""
-import json, os, random, shutil, subprocess, tempfile
+from __future__ import annotations
+
+import json
+import os
+import random
+import subprocess
+import tempfile
+
+from fixtures import needs
+from fixtures.cases import Case
 from openlink_update.index import titles
-from counting import expect, notes
 
 # A title, its key, and the key without the subtitle.
 CASES = [
@@ -55,9 +63,29 @@ CASES = [
     ("A" * 499 + " é", "a" * 499, ""),
     ("A" * 600 + ": b", "a" * 500, ""),
 ]
-PIECES = [*" '’:=()[]-–—&;<>/#xliugnABCXYZabcßéÉàñäÖüЙйΣςσ\u0301\u00ad\u200b１Ⅳﬁ漢語😀", "&amp;", "&eacute;", "&#39;",
-          "&#x2019;", "<i>", "</i>", "the ", "The ", "L'", "l’", "un'", "Die ", " : ", " - ", " / ", ", the", ", Les",
-          "a\u0308", "O\u0308", "u\u0308"]
+PIECES = [
+    *" '’:=()[]-–—&;<>/#xliugnABCXYZabcßéÉàñäÖüЙйΣςσ\u0301\u00ad\u200b１Ⅳﬁ漢語😀",
+    "&amp;",
+    "&eacute;",
+    "&#39;",
+    "&#x2019;",
+    "<i>",
+    "</i>",
+    "the ",
+    "The ",
+    "L'",
+    "l’",
+    "un'",
+    "Die ",
+    " : ",
+    " - ",
+    " / ",
+    ", the",
+    ", Les",
+    "a\u0308",
+    "O\u0308",
+    "u\u0308",
+]
 SCRIPT = """import titles from 'titles.js';
 import fs from 'fs';
 globalThis.fold = JSON.parse(fs.readFileSync('fold.json'));
@@ -69,30 +97,12 @@ fs.writeFileSync(process.argv[3], list.map(keys).join('\\n'));
 PART = 2500  # njs frees no memory, so it gets few titles at a time
 
 
-def test_cases():
-    for title, key, short in CASES:
-        expect(f"the key of {title[:40]!r}", (titles.key_of(title), titles.short_key(title)), (key, short))
-
-
-def test_umlauts():
-    for title, written, key in (("Küste & Öl", "kueste & oel", "kueste and oel"), ("Straße", "straße", ""),
-                                ("A\u0308rzte", "aerzte", "aerzte"), ("H&auml;fen", "haefen", "haefen"),
-                                ("Ñandú", "ñandú", ""), ("Hafen", "hafen", ""), ("R&amp;D", "r&d", "")):
-        expect(f"the umlauts of {title}", (titles.written_out(title), titles.written_key(title)), (written, key))
-
-
-def test_table():
-    with open("front_door/fold.json", encoding="utf-8") as file:
-        expect("front_door/fold.json is what update/openlink_update/index/titles.py prints", json.load(file),
-               {"letters": titles.letters(), "entities": titles.entities()})
-
-
 def texts():
     """The cases, every character below U+3000, a part of the others, and made texts of hard pieces."""
     source = random.Random(7)
     found = [title for title, _, _ in CASES]
-    codes = [*range(0x20, 0x3000), *source.sample(range(0x3000, 0x2fa20), 2000)]
-    found += [f"a{chr(code)}b" for code in codes if not 0xd800 <= code < 0xe000]
+    codes = [*range(0x20, 0x3000), *source.sample(range(0x3000, 0x2FA20), 2000)]
+    found += [f"a{chr(code)}b" for code in codes if not 0xD800 <= code < 0xE000]
     # Texts of 32 characters and of their multiples, since njs has found their ends hard.
     found += ["".join(source.choices(PIECES, k=source.randrange(1, 25))) for _ in range(4000)]
     for length in (32, 64, 96):
@@ -115,16 +125,42 @@ def in_njs(texts):
             return file.read().split("\n")
 
 
-def test_same_keys():
-    if not shutil.which("njs"):
-        notes.append("keys are not compared with those of njs, which is not installed")
-        return
-    found = texts()
-    for start in range(0, len(found), PART):
-        part = found[start:start + PART]
-        differing = [(text, keys) for text, keys in zip(part, in_njs(part), strict=True) if keys != "\t".join(
-            (titles.key_of(text), titles.short_key(text), titles.key_of(titles.written_out(text))))]
-        expect(f"njs makes the keys of {len(part)} titles from {start}", differing[:5], [])
+class Keys(Case):
+    def test_cases(self) -> None:
+        for title, key, short in CASES:
+            self.expect(f"the key of {title[:40]!r}", (titles.key_of(title), titles.short_key(title)), (key, short))
 
+    def test_umlauts(self) -> None:
+        for title, written, key in (
+            ("Küste & Öl", "kueste & oel", "kueste and oel"),
+            ("Straße", "straße", ""),
+            ("A\u0308rzte", "aerzte", "aerzte"),
+            ("H&auml;fen", "haefen", "haefen"),
+            ("Ñandú", "ñandú", ""),
+            ("Hafen", "hafen", ""),
+            ("R&amp;D", "r&d", ""),
+        ):
+            self.expect(
+                f"the umlauts of {title}", (titles.written_out(title), titles.written_key(title)), (written, key)
+            )
 
-TESTS = [test_cases, test_umlauts, test_table, test_same_keys]
+    def test_table(self) -> None:
+        with open("front_door/fold.json", encoding="utf-8") as file:
+            self.expect(
+                "front_door/fold.json is what update/openlink_update/index/titles.py prints",
+                json.load(file),
+                {"letters": titles.letters(), "entities": titles.entities()},
+            )
+
+    @needs.command("njs")
+    def test_same_keys(self) -> None:
+        found = texts()
+        for start in range(0, len(found), PART):
+            part = found[start : start + PART]
+            differing = [
+                (text, keys)
+                for text, keys in zip(part, in_njs(part), strict=True)
+                if keys
+                != "\t".join((titles.key_of(text), titles.short_key(text), titles.key_of(titles.written_out(text))))
+            ]
+            self.expect(f"njs makes the keys of {len(part)} titles from {start}", differing[:5], [])

@@ -1,9 +1,17 @@
 """Tables of made titles: the index has the same titles, lines, list and words as a slow reference."""
-import random, re
-from counting import expect
-from made_titles import Made, table
-from reader import Index, check_form, md5
-from openlink_update.index.titles import key_of, short_key
+from __future__ import annotations
+
+import random
+import re
+
+from fixtures.cases import Case
+from fixtures.index_reader import Index
+from fixtures.index_reader import check_form
+from fixtures.index_reader import md5
+from fixtures.made_titles import Made
+from fixtures.made_titles import table
+from openlink_update.index.titles import key_of
+from openlink_update.index.titles import short_key
 
 NUMBERS = ("print_identifier", "online_identifier")
 
@@ -46,8 +54,15 @@ class Reference:
 
     def group_joined(self, group, are_joined):
         while True:
-            pair = next(((one, other) for one in group for other in group
-                         if one is not other and are_joined(one, other, group)), None)
+            pair = next(
+                (
+                    (one, other)
+                    for one in group
+                    for other in group
+                    if one is not other and are_joined(one, other, group)
+                ),
+                None,
+            )
             if not pair:
                 return group
             group = [title for title in group if title not in pair] + [pair[0] + pair[1]]
@@ -58,8 +73,12 @@ class Reference:
     def are_editions(self, one, other, group):
         kind = [title for title in group if self.kind(title) == self.kind(one)]
         sides = [self.sides(title) for title in kind]
-        return (other in kind and self.sides(one) == {NUMBERS[0]} and self.sides(other) == {NUMBERS[1]}
-                and sides.count({NUMBERS[0]}) == sides.count({NUMBERS[1]}) == 1)
+        return (
+            other in kind
+            and self.sides(one) == {NUMBERS[0]}
+            and self.sides(other) == {NUMBERS[1]}
+            and sides.count({NUMBERS[0]}) == sides.count({NUMBERS[1]}) == 1
+        )
 
     def numbers(self, title):
         return set().union(*(row["numbers"] for row in title))
@@ -90,8 +109,13 @@ class Reference:
         return found
 
     def entry(self, row):
-        parts = [row["target"], str(row["number"]), row["date_first_issue_online"], row["date_last_issue_online"],
-                 row["embargo_info"]]
+        parts = [
+            row["target"],
+            str(row["number"]),
+            row["date_first_issue_online"],
+            row["date_last_issue_online"],
+            row["embargo_info"],
+        ]
         return re.sub("( -)+$", "", " ".join(part or "-" for part in parts))
 
 
@@ -132,37 +156,50 @@ def tables():
     return {target: table(rows) for target, rows in found.items()}
 
 
-def test_made_titles():
-    given = tables()
-    reference = Reference(given)
-    with Index(given) as found:
-        expect("a form for the halving", list(check_form(found)), [])
-        expected, lines = {}, list(lines_of(found))
-        for name, key, names, *cells in reference.lines():
-            expected.setdefault((name, key, *cells), []).append(names)
-        missing = [(name, key, title, *cells) for name, key, title, *cells in lines
-                   if not any(title in names for names in expected.get((name, key, *cells), ()))]
-        expect("each line is one of the reference", missing[:3], [])
-        expect("the number of lines", len(lines), len(reference.lines()))
-        for kind in "jb":
-            check_list(found, kind, [title for title in reference.titles if reference.kind(title) == kind])
+class MadeTitles(Case):
+    def test_made_titles(self) -> None:
+        given = tables()
+        reference = Reference(given)
+        with Index(given) as found:
+            self.expect("a form for the halving", list(check_form(found)), [])
+            expected, lines = {}, list(lines_of(found))
+            for name, key, names, *cells in reference.lines():
+                expected.setdefault((name, key, *cells), []).append(names)
+            missing = [
+                (name, key, title, *cells)
+                for name, key, title, *cells in lines
+                if not any(title in names for names in expected.get((name, key, *cells), ()))
+            ]
+            self.expect("each line is one of the reference", missing[:3], [])
+            self.expect("the number of lines", len(lines), len(reference.lines()))
+            for kind in "jb":
+                self.check_list(found, kind, [title for title in reference.titles if reference.kind(title) == kind])
 
-
-def check_list(found, kind, titles):
-    listed = found.listed(kind)
-    expect(f"titles in the list {kind}", sorted(map(key_of, listed.values())),
-           sorted(title[0]["key"] for title in titles))
-    expect(f"their number {kind}", found.letters(kind)[0][0], len(titles))
-    for letter, (first, pages, count) in found.letters(kind)[1].items():
-        keys = [key_of(line[0]) for number in range(first, first + pages) for line in found.page(kind, number)]
-        expect(f"the letter {letter}", (len(keys), keys, {key[0] for key in keys}), (count, sorted(keys), {letter}))
-    words = {place: {*key_of(name).split(" "), *key_of(as_two_letters(name)).split(" "), *name.lower().split(" ")[:1]}
-             for place, name in listed.items()}
-    starts = {word[:length] for found_words in words.values() for word in found_words for length in range(2, 7)}
-    starts = {start for start in starts if len(start) > 1 and re.fullmatch(r"\w+", start) and key_of(start) == start}
-    wrong = [start for start in sorted(starts) if found.places(kind, start) !=
-             sorted(place for place, its in words.items() if any(word.startswith(start) for word in its))]
-    expect(f"{len(starts)} beginnings of words {kind}", (wrong[:5], len(starts) > 300), ([], True))
-
-
-TESTS = [test_made_titles]
+    def check_list(self, found, kind, titles):
+        listed = found.listed(kind)
+        self.expect(
+            f"titles in the list {kind}",
+            sorted(map(key_of, listed.values())),
+            sorted(title[0]["key"] for title in titles),
+        )
+        self.expect(f"their number {kind}", found.letters(kind)[0][0], len(titles))
+        for letter, (first, pages, count) in found.letters(kind)[1].items():
+            keys = [key_of(line[0]) for number in range(first, first + pages) for line in found.page(kind, number)]
+            self.expect(
+                f"the letter {letter}", (len(keys), keys, {key[0] for key in keys}), (count, sorted(keys), {letter})
+            )
+        words = {
+            place: {*key_of(name).split(" "), *key_of(as_two_letters(name)).split(" "), *name.lower().split(" ")[:1]}
+            for place, name in listed.items()
+        }
+        starts = {word[:length] for found_words in words.values() for word in found_words for length in range(2, 7)}
+        starts = {
+            start for start in starts if len(start) > 1 and re.fullmatch(r"\w+", start) and key_of(start) == start
+        }
+        wrong = [
+            start
+            for start in sorted(starts)
+            if found.places(kind, start)
+            != sorted(place for place, its in words.items() if any(word.startswith(start) for word in its))
+        ]
+        self.expect(f"{len(starts)} beginnings of words {kind}", (wrong[:5], len(starts) > 300), ([], True))

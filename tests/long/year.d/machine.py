@@ -1,11 +1,11 @@
 """The library's machine: its folders, the processes under a supervisor, nginx with the front door, the providers'
 server, and runs of update/fetch and update/update on it."""
 import json, os, shutil, signal, subprocess, tempfile, threading
+from fixtures import PYTHON
 from fixtures.library import HERE as FIXTURES, FrontDoor, Library
-from input import PYTHON
+from fixtures.patience import patience, wait_until
+from fixtures.providers import HOSTS, Providers, sign
 from links import FULL, LOAN, LOANS
-from patience import patience, wait_until
-from providers import HOSTS, Providers, sign
 
 HERE = os.path.dirname(os.path.abspath(__file__))
 REPLIES = {"401": "return 401", "403": "return 403", "404": "return 404", "500": "return 500", "204": "return 204",
