@@ -6,6 +6,9 @@ in their order.
 Google Scholar: the elements of "Institutional Holdings 1.0" and "Institutional Links 1.0", whose document types are
 http://scholar.google.com/scholar/institutional_holdings.dtd and institutional_links.dtd, as libraries and their
 software describe them; noted on 2026-11-27 without access to these addresses. A file has less than 1 MB."""
+from __future__ import annotations
+
+import xml.etree.ElementTree as xml
 
 KBART = """publication_title
 print_identifier
@@ -53,7 +56,7 @@ DOCTYPE = '<!DOCTYPE {0} PUBLIC "-//GOOGLE//{1} 1.0" "http://scholar.google.com/
 MOST_BYTES = 1_000_000
 
 
-def faults_of(element, model):
+def faults_of(element: xml.Element, model: dict[str, str]) -> list[str]:
     """Where an element and what is in it have other children than the model."""
     expected = model.get(element.tag, "")
     rest = [child.tag for child in element]

@@ -1,5 +1,12 @@
 """Prepares a file in a process of its own, and measures the most memory that it takes."""
-import json, os, subprocess, sys, tempfile
+from __future__ import annotations
+
+import json
+import subprocess
+import tempfile
+
+from fixtures import PYTHON
+from fixtures.fetch_input import MEMORY
 
 MOST_MB = 600  # for a file that is refused
 CHILD = """
@@ -18,10 +25,11 @@ with open("/proc/self/status") as status:  # ru_maxrss begins with the memory of
 """
 
 
-def prepared(data):
+def prepared(data: bytes) -> tuple[list[str], int]:
     """What is said of a file, and the megabytes that it takes at most to say it."""
-    with tempfile.NamedTemporaryFile(dir="/dev/shm" if os.access("/dev/shm", os.W_OK) else None) as file:
+    with tempfile.NamedTemporaryFile(dir=MEMORY) as file:
         file.write(data)
         file.flush()
-        done = subprocess.run([sys.executable, "-S", "-B", "-c", CHILD, file.name], capture_output=True, text=True)
-    return json.loads(done.stdout) if done.returncode == 0 else [[done.stderr], 0]
+        done = subprocess.run([*PYTHON, "-c", CHILD, file.name], capture_output=True, text=True)
+    lines, megabytes = json.loads(done.stdout) if done.returncode == 0 else ([done.stderr], 0)
+    return lines, megabytes

@@ -7,6 +7,7 @@ import os
 import shutil
 import subprocess
 import tempfile
+from typing import Any
 
 from fixtures import needs
 from fixtures.cases import Case
@@ -17,25 +18,26 @@ from fixtures.made_versions import table
 HERE = os.path.dirname(os.path.abspath(__file__))
 RULES = "examples/library/lighthouse-society.rules"  # those of docs/RULES.md, with and without a date
 ISSN = "2957-1057"
+VOLUMES = "rule\nwhen given rft.volume\nlink https://x.example.org/{rft.volume}\n"
 LINKS = {f"https://lighthouses.example.org/journals/t{end}": what for end, what in (("?year=", "link"), ("", "title"))}
 
 
-def cases():
+def cases() -> list[list[str]]:
     with open(f"{HERE}/days.tsv", encoding="utf-8") as file:
         return [line.rstrip("\n").split("\t") for line in file if not line.startswith("#")]
 
 
-def row(first, last, embargo):
+def row(first: str, last: str, embargo: str) -> tuple[str, ...]:
     return ("Lighthouses", ISSN, "", first, last, "https://x.example.org/", "t", embargo, "fulltext", "serial")
 
 
-def link_of(menu):
+def link_of(menu: dict[str, str]) -> str:
     """What a menu of the one target has."""
     link = menu.get("lighthouses", "")
     return LINKS.get(link.partition("=")[0] + "=" if "=" in link else link, "none")
 
 
-def served(data, allowed="", rules="rule\nwhen given rft.volume\nlink https://x.example.org/{rft.volume}\n"):
+def served(data: bytes, allowed: str = "", rules: str = VOLUMES) -> tuple[list[str], Any]:
     """What a first version says of a table, and its header and rows as they are served."""
     with Weeks() as weeks:
         weeks.deliver("x", data, allowed, rules)
@@ -44,6 +46,8 @@ def served(data, allowed="", rules="rule\nwhen given rft.volume\nlink https://x.
 
 
 class Days(Case):
+    """Versions that are made on a day."""
+
     @needs.program()
     def test_cases(self) -> None:
         """The link for each case, of a version that is made on its day."""

@@ -39,7 +39,7 @@ CASES = {
 }
 
 
-def row(number, embargo, last=""):
+def row(number: int, embargo: str, last: str = "") -> tuple[str, ...]:
     return (
         f"Title {number}",
         f"{3000 + number}-0000",
@@ -54,7 +54,7 @@ def row(number, embargo, last=""):
     )
 
 
-def index_entries(version):
+def index_entries(version: str) -> dict[str, str]:
     """The dates and the embargo of each row in the index of a version, by its number."""
     found, folder = {}, os.path.join(version, "index", "keys")
     for name in os.listdir(folder):
@@ -67,7 +67,9 @@ def index_entries(version):
 
 @needs.program()
 class Embargo(Case):
-    def exports_of(self, weeks):
+    """The update reads a cell once."""
+
+    def exports_of(self, weeks: Weeks) -> list[list[str]]:
         """The cells of the KBART file that the update writes, which is the one that openlink-holdings writes."""
         version, folder = Path(weeks.version), Path(weeks.path("exported"))
         export_files.make(version, weeks.maker.tables_for_export(), Site("/nonexistent"), None)

@@ -62,17 +62,17 @@ CASES = [
 ]
 
 
-def bare(element):
+def bare(element: xml.Element | None) -> str:
     names = ("year", "month", "volume", "issue")
     return "" if element is None else " ".join(element.findtext(name, "-") for name in names)
 
 
-def ran(version, *words):
+def ran(version: Version, *words: str) -> tuple[int, str, str]:
     done = subprocess.run(version.words(*words), capture_output=True, text=True)
     return done.returncode, done.stdout, done.stderr
 
 
-def sample():
+def sample() -> dict[str, bytes]:
     """Tables of each kind: two parts of one target, and targets that are not full text."""
     return {
         "tidal": table([row("Annals of <i>Tidal</i> Studies", "29010012", "2908-0142", "1995-03-01")], end="\r\n"),
@@ -92,7 +92,9 @@ def sample():
 
 
 class Exports(Case):
-    def texts_of(self, version, kind, *names):
+    """Each format, of versions that are written here."""
+
+    def texts_of(self, version: Version, kind: str, *names: str) -> list[str]:
         """The texts of files that a format writes, in a folder of their own."""
         folder = version.path(kind)
         self.expect(f"{kind} is written", ran(version, kind, folder), (0, "", ""))
@@ -102,7 +104,7 @@ class Exports(Case):
                 texts.append(file.read())
         return texts
 
-    def document(self, text, model, public):
+    def document(self, text: str, model: dict[str, str], public: str) -> xml.Element:
         """The root of a document; it has the form that its type asks for."""
         root = xml.fromstring(text.encode())
         self.expect(f"the form of {root.tag}", faults_of(root, model), [])

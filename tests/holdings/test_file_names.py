@@ -12,14 +12,14 @@ from fixtures.providers import ProvidersCase
 NAMES = ("../targets.tsv", "../../targets.tsv", "/srv/targets.tsv", "targets.tsv", "secrets.tsv", ".fetch/state.json")
 
 
-def zipped(name):
+def zipped(name: str) -> bytes:
     data = io.BytesIO()
     with zipfile.ZipFile(data, "w", zipfile.ZIP_DEFLATED) as archive:
         archive.writestr(name, TABLE)
     return data.getvalue()
 
 
-def files_around(folder):
+def files_around(folder: Input) -> list[str]:
     """The files that such a name would make outside the input."""
     places = (os.path.dirname(folder.folder), os.path.dirname(os.path.dirname(folder.folder)), "/tmp")
     return [path for path in (os.path.join(place, "targets.tsv") for place in places) if os.path.exists(path)]

@@ -1,60 +1,35 @@
-"""Judged by numbers: warnings up to a number, numbers of titles that are gone, and the titles that came and went."""
+"""Judged by numbers: warnings up to a number, numbers of titles that are gone, and the order of dates."""
 from __future__ import annotations
 
-import datetime
-import gzip
-import json
 import os
-from unittest import mock
 
+from fixtures import made_titles
 from fixtures import needs
 from fixtures.cases import Case
-from fixtures import made_titles
 from fixtures.made_titles import issn
 from fixtures.made_versions import Weeks
 from fixtures.made_versions import table
-from openlink_update.site.front_door import Site
-from openlink_update.tables.preparation import prepare
-from openlink_update.versions.earlier_files import EarlierFiles
-from openlink_update.versions.program import Program
 
-WRITTEN = "it changed while it was read: update again when it is written"
 RULE = "rule\nlink https://press.example.com/{title_id}\n"
 
 
-def rows(first, last):
+def rows(first: int, last: int) -> list[tuple[str, ...]]:
     return [(f"Title {at}", issn(at), "", "1990", "", "", f"t{at}") for at in range(first, last)]
 
 
-def later(first, last):
+def later(first: int, last: int) -> list[tuple[str, ...]]:
     """The same titles in other years."""
     return [(*row[:3], "2005", *row[4:]) for row in rows(first, last)]
 
 
-def bad(count):
+def bad(count: int) -> bytes:
     return table(*rows(0, 90), *((f"Bad {at}", issn(90 + at), "", "", "", f"bad {at}", "b") for at in range(count)))
-
-
-def differences(conf, names):
-    site = Site(conf)
-    return site.differences(names, site.targets_path())
-
-
-class Writing(Program):
-    """The program, beside which a file is written while it compiles."""
-
-    def __init__(self, program, write):
-        super().__init__(program.path, program.folder)
-        self.write = write
-
-    def run(self, *words, **how):
-        if words[0] == "compile":
-            self.write()
-        return super().run(*words, **how)
 
 
 @needs.program()
 class Judging(Case):
+    """Which tables are used."""
+
     def test_collapse(self) -> None:
         """A table of 7,271 rows of which 6,544 lose their numbers, although the list allows the warning by its words."""
         journals = list(made_titles.Made(seed=7).journals(7271))
@@ -68,7 +43,7 @@ class Judging(Case):
         others = "not an ISSN or ISBN up to 13091; dropped up to 6544; less than half of the rows"
         served = 2 * 7271 - 3  # two numbers a row
 
-        def gone(most):
+        def gone(most: int) -> str:
             return f"numbers gone 13088 of {served}: {most}% are allowed; to allow it: gone up to 91%"
 
         with Weeks() as weeks:
@@ -87,7 +62,7 @@ class Judging(Case):
 
     def test_gone(self) -> None:
         """Numbers that are gone, up to 10 in 100, or as many as the list says; rows alone say nothing."""
-        for name, before, after, allowed, reasons in [
+        cases: list[tuple[str, list[tuple[str, ...]], list[tuple[str, ...]], str, list[str]]] = [
             ("10 of 100", rows(0, 100), rows(10, 100), "", []),
             (
                 "11 of 100",
@@ -147,7 +122,8 @@ class Judging(Case):
                 "",
                 ["less than half of the rows: 29, and 60 before; to allow it: less than half of the rows"],
             ),
-        ]:
+        ]
+        for name, before, after, allowed, reasons in cases:
             with Weeks() as weeks:
                 self.expect(f"{name}: the first week", weeks.week("press", table(*before)), [])
                 self.expect(name, weeks.week("press", table(*after), allowed), reasons)
@@ -156,7 +132,7 @@ class Judging(Case):
         """First dates after the last ones: two rows in a hundred may be so, a share rounded up, or as many as the list
         says. A month or a year ends with its last day."""
 
-        def exchanged(count, last="1989-12-31"):
+        def exchanged(count: int, last: str = "1989-12-31") -> bytes:
             return table(*rows(count, 100), *((*row[:4], last, *row[5:]) for row in rows(0, count)))
 
         words = "first dates after the last ones"
@@ -193,7 +169,7 @@ class Judging(Case):
     def test_warnings(self) -> None:
         """Words with a number, and words without one, which a version remembers."""
 
-        def more(now, most):
+        def more(now: int, most: int) -> list[str]:
             return [
                 f'title_url not a web link {now}, first 90 "bad 0": {most} allowed; '
                 f"to allow it: title_url not a web link up to {now}"
@@ -256,138 +232,3 @@ class Judging(Case):
                 [f"{line}: 1 allowed; to allow it: rule up to 2" for line in unknown],
             )
             self.expect("two, allowed", weeks.week("press", table(*rows(0, 10)), "rule up to 2", rules=two), [])
-
-    def test_changes(self) -> None:
-        """The titles that came and went, with their numbers and coverage, in a file that the mail names."""
-        old = [*rows(0, 40), ("Went", issn(50), issn(51), "1990-01-01", "1999", "", "w", "P1Y"), ("Kept", issn(60))]
-        new = [
-            *rows(0, 40),
-            ("Came", "", issn(70), "2001-05", "", "", "c", "R5Y;P6M"),
-            ("Came", "", issn(70), "1980", "1985"),
-            ("Renamed", issn(61), issn(60)),
-        ]
-        with Weeks() as weeks:
-            weeks.deliver("press", table(*old))
-            self.expect("new", weeks.make(), ["press: new, 42 rows"])
-            self.expect("no changes yet", os.path.exists(f"{weeks.version}/changes"), False)
-            weeks.deliver("press", table(*new))
-            self.expect(
-                "what is said",
-                weeks.make(),
-                ["press: 3 rows added, 2 gone", "  titles: 1 came, 1 gone: changes/press.txt"],
-            )
-            self.expect(
-                "the file",
-                weeks.read("changes/press.txt").decode().splitlines(),
-                [
-                    "change\ttitle\tnumbers\tfirst date\tlast date\tembargo",
-                    f"came\tCame\t{issn(70)}\t2001-05\t2026-05\tR5Y,P6M",
-                    f"came\tCame\t{issn(70)}\t1980\t1985\t",
-                    f"gone\tWent\t{issn(50)} {issn(51)}\t1990-01-01\t1999\tP1Y",
-                ],
-            )
-            weeks.deliver("press", table(*new, ("Kept", issn(60), "", "2020")))
-            self.expect("no title came", weeks.make(), ["press: 1 row added, 0 gone"])
-            other = [("Renamed", issn(62), *row[2:]) if row[0] == "Renamed" else row for row in new]
-            weeks.deliver("press", table(*other, ("Kept", issn(60), "", "2020")))
-            self.expect("a title with another number", weeks.make(), ["press: 1 row added, 1 gone"])
-            self.expect("no file", os.path.exists(f"{weeks.version}/changes"), False)
-
-    def test_again(self) -> None:
-        """A table that was in use before is said, with its first day, if another one was in use since."""
-        a, b, bad = (table(*rows(0, count)) for count in (20, 21, 1))
-        weeks_of = (
-            (a, []),
-            (b, []),
-            (bad, []),
-            (b, []),
-            (a, ["2026-11-01"]),
-            (a, []),
-            (b, ["2026-11-02"]),
-            (b.decode().encode("utf-16"), []),
-            (b, []),
-            (table(*rows(0, 22)), []),
-        )
-        with Weeks() as weeks:
-            for number, (data, days) in enumerate(weeks_of, 1):
-                weeks.deliver("press", data)
-                said = weeks.make(datetime.date(2026, 11, number))
-                self.expect(
-                    f"week {number}",
-                    [line for line in said if "again" in line],
-                    [f"  the table of {day} again" for day in days],
-                )
-            weeks.deliver("press", table(*rows(0, 22)), rules=RULE)
-            self.expect("other rules alone", weeks.make(), ["press: rules changed"])
-        many = EarlierFiles(None)
-        for number in range(40):
-            many.put("press", b"%d" % number)
-            many.days["press"] = dict(
-                line.split("\t")[1:]
-                for line in many.text(["press"], datetime.date(2026, 1, 1) + datetime.timedelta(number)).splitlines()
-            )
-        days = [many.put("press", b"%d" % number) or many.day_of("press") for number in range(40)]
-        self.expect("how many are remembered", sum(day is not None for day in days), 26)
-        self.expect("the newest", days[39], "2026-02-09")
-
-    def test_written_meanwhile(self) -> None:
-        """A file that is written after it was read is not used; one that was replaced or removed is, as it was read."""
-
-        def append(path):
-            with open(path, "ab") as file:
-                file.write(b"\n")
-
-        def replace(path):
-            with open(f"{path}.new", "wb") as file:
-                file.write(b"another")
-            os.rename(f"{path}.new", path)
-
-        with Weeks() as weeks:
-            half = gzip.compress(table(*rows(0, 99)))[:-9]
-            weeks.deliver("press", half)
-            with mock.patch(
-                "openlink_update.tables.preparation.prepare", lambda files: append(files[0][0]) or prepare(files)
-            ):
-                said = [line.split(".txt: ")[1] for line in weeks.make() if line.startswith("  ")]
-            self.expect(
-                "half of a file, which is written on", said, ["a gzip file that is cut short or damaged", WRITTEN]
-            )
-            self.expect("the first week", weeks.week("press", table(*rows(0, 20))), [])
-            for number, (write, file) in enumerate(
-                ((append, "press.txt"), (append, "press.rules"), (replace, "press.txt"), (os.unlink, "press.txt")), 1
-            ):
-                path = weeks.path("input", file)
-                weeks.deliver("press", table(*rows(0, 20 + number)))
-                said = weeks.make(program_of=lambda program: Writing(program, lambda: write(path)))
-                self.expect(
-                    f"{write.__name__} {file}",
-                    [line for line in said if line.startswith("  /")],
-                    [f"  {path}: {WRITTEN}"] if write is append else [],
-                )
-
-    def test_labels(self) -> None:
-        """Targets that `targets.json` does not name, and names there without a target."""
-        with Weeks() as weeks:
-            path, conf = weeks.path("targets.json"), weeks.path("openlink.conf")
-            with open(conf, "w", encoding="utf-8") as file:
-                file.write(f"js_path /x;\n  js_preload_object targets from {path};\njs_preload_object fold from /x;\n")
-            for targets, expected in [
-                ({"a": {}, "b": {}}, []),
-                ({"a": {}}, [f"{path}: not named, so they are shown last and not as full text: b"]),
-                ({"a": {}, "b": {}, "c": {}, "d": {}}, [f"{path}: named, and no target: c, d"]),
-                (
-                    {"c": {}},
-                    [
-                        f"{path}: not named, so they are shown last and not as full text: a, b",
-                        f"{path}: named, and no target: c",
-                    ],
-                ),
-            ]:
-                with open(path, "w", encoding="utf-8") as file:
-                    json.dump({"targets": targets}, file)
-                self.expect(f"targets.json with {sorted(targets)}", differences(conf, ["a", "b"]), expected)
-            for text in ("", "[]", '{"targets": []}', "{}"):
-                with open(path, "w", encoding="utf-8") as file:
-                    file.write(text)
-                self.expect(f"targets.json is {text}", differences(conf, ["a"]), [])
-            self.expect("no site", differences("/dev/null", ["a"]), [])

@@ -9,6 +9,8 @@ import os
 import struct
 import zipfile
 import zlib
+from collections.abc import Callable
+from collections.abc import Iterator
 
 from fixtures.cases import Case
 from holdings.measured import MOST_MB
@@ -26,7 +28,7 @@ MB_256, COLUMNS, LINE_BYTES, LINES = 268_435_456, 500, 100_000, 2_000_000
 NAMES = ("publication_title", "print_identifier", "online_identifier", "title_url")
 
 
-def reason(read, *given):
+def reason(read: Callable[..., object], *given: object) -> str:
     """Why a file cannot be read; '' if it can."""
     try:
         read(*given)
@@ -35,7 +37,7 @@ def reason(read, *given):
     return ""
 
 
-def zip_of(stream, method, size):
+def zip_of(stream: bytes, method: int, size: int) -> bytes:
     """A zip with one member, whose bytes are packed already."""
     name = b"table.txt"
     head = struct.pack("<HHHHHIIIHH", 20, 0, method, 0, 0x21, 0, len(stream), size, len(name), 0)
@@ -44,14 +46,14 @@ def zip_of(stream, method, size):
     return local + entry + b"PK\x05\x06" + struct.pack("<HHHHIIH", 0, 0, 1, 1, len(entry), len(local), 0)
 
 
-def deflated(megabytes):
+def deflated(megabytes: int) -> bytes:
     """A stream of zeros by method deflate: the same block again and again."""
     packer = zlib.compressobj(9, zlib.DEFLATED, -15)
     block = packer.compress(bytes(2**20)) + packer.flush(zlib.Z_FULL_FLUSH)
     return block * megabytes + packer.flush()
 
 
-def bombs():
+def bombs() -> Iterator[tuple[str, bytes, str | None]]:
     """Small files that unpack to 700 MB, and why they are refused."""
     with open(f"{HERE}/bombs.tsv", encoding="ascii") as file:
         for name, number, text in (line.split("\t") for line in file if not line.startswith("#")):
@@ -68,6 +70,8 @@ def bombs():
 
 
 class Limits(Case):
+    """Files at a limit, and beyond it."""
+
     def test_bombs(self) -> None:
         count = 0
         for name, data, why in bombs():
@@ -117,7 +121,7 @@ class Limits(Case):
         self.expect("a member that is not packed", archives.unpacked(stored), b"stored")
 
     def test_members(self) -> None:
-        def of(count):
+        def of(count: int) -> str:
             data = io.BytesIO()
             with zipfile.ZipFile(data, "w") as archive:
                 for number in range(count):

@@ -17,7 +17,7 @@ from fixtures.updates import Library
 class Mail(ProvidersCase):
     """The first lines of a week."""
 
-    def write_input(self, library):
+    def write_input(self, library: Library) -> None:
         """Two targets: one whose file is fetched, and one whose provider refuses it."""
         library.write("secrets.tsv", f"TOKEN\t{self.providers.TOKEN}\n")
         library.write_sources(

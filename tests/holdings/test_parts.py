@@ -2,6 +2,8 @@
 from __future__ import annotations
 
 import os
+from collections.abc import Iterator
+from collections.abc import Sequence
 
 from fixtures import needs
 from fixtures.cases import Case
@@ -15,13 +17,13 @@ from openlink_update.tables.table import Table
 SMALL = ("print_identifier", "online_identifier", "title")
 
 
-def divided(rows, most_bytes=10**9, most_rows=10**9):
+def divided(rows: Sequence[Sequence[str]], most_bytes: int = 10**9, most_rows: int = 10**9) -> list[str]:
     """The titles of the rows of each part."""
     found = parts.places_of(Table(SMALL, [list(row) for row in rows]), most_bytes, most_rows)
     return ["".join(rows[place][2] for place in part) for part in found]
 
 
-def made(count, each):
+def made(count: int, each: int) -> Iterator[tuple[str, ...]]:
     """Rows of made titles; the last ones have the numbers of the first ones, with other dates."""
     for number in range(count):
         at = number if number < count - 100 else number - count + 100
@@ -30,6 +32,8 @@ def made(count, each):
 
 
 class Parts(Case):
+    """Which rows are together, and what a version has then."""
+
     def test_rows(self) -> None:
         """Small tables, by hand."""
         alone = [(issn(number), "", title) for number, title in enumerate("abcdef")]
@@ -61,6 +65,7 @@ class Parts(Case):
         header, row = len("\t".join(SMALL)) + 1, len("\t".join(alone[0])) + 1
         self.expect("bytes", divided(alone, most_bytes=header + 6 * row), ["abcdef"])
         self.expect("a byte less", divided(alone, most_bytes=header + 6 * row - 1), ["abcde", "f"])
+        self.expect("parts that are full", divided(alone, most_bytes=header + 2 * row), ["ab", "cd", "ef"])
         letters = [(issn(0), "", "é"), (issn(1), "", "b")]
         self.expect("bytes of letters", divided(letters, most_bytes=header + 2 * row), ["é", "b"])
         sizes = [(4, "a"), (5, "b"), (5, "c"), (6, "d")]  # in their order they would need three parts

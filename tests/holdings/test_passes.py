@@ -2,7 +2,10 @@
 from __future__ import annotations
 
 import contextlib
+from collections.abc import Callable
+from collections.abc import Iterator
 from pathlib import Path
+from typing import Any
 from unittest import mock
 
 from fixtures import needs
@@ -16,17 +19,17 @@ from openlink_update.tables.table import Table
 from openlink_update.versions import making
 
 
-def rows(count):
+def rows(count: int) -> list[tuple[str, ...]]:
     return [(f"Title {number}", f"{3000 + number}-0000", "", "1995", "", "", "t", "P6M") for number in range(count)]
 
 
 @contextlib.contextmanager
-def counted():
+def counted() -> Iterator[list[int]]:
     """Counts while the block lasts: parses, serialisations, preparations."""
     counts = [0, 0, 0]
 
-    def counting(place, work):
-        def counted_work(*given):
+    def counting(place: int, work: Callable[..., Any]) -> Callable[..., Any]:
+        def counted_work(*given: Any) -> Any:
             counts[place] += 1
             return work(*given)
 
@@ -39,7 +42,7 @@ def counted():
         yield counts
 
 
-def whole_week(weeks):
+def whole_week(weeks: Weeks) -> bool:
     """Makes a version with its index and its exports, unless nothing is new, as a run does. Returns whether it is."""
     older = weeks.version
     weeks.make()
@@ -53,6 +56,8 @@ def whole_week(weeks):
 
 @needs.program()
 class Passes(Case):
+    """One week after another."""
+
     def test_passes(self) -> None:
         with Weeks() as weeks:
             for name, data, expected_new, most in (

@@ -21,6 +21,8 @@ CASES = [
 
 
 class Probes(Case):
+    """The source of a query."""
+
     def test_marks(self) -> None:
         for query, is_marked in CASES:
             self.expect(f"the source of {query}", probes.marked(query), query + MARK if is_marked else query)

@@ -52,16 +52,16 @@ OUTER = (
 class Stand:
     """For as long as the block lasts, PUBLIC are public, and the name server knows one address of each name."""
 
-    def __init__(self, address=None):
+    def __init__(self, address: str | None = None) -> None:
         self.kept, self.address = (hosts.is_inner, hosts.LOOK_UP), address
 
-    def __enter__(self):
+    def __enter__(self) -> None:
         is_inner = self.kept[0]
         hosts.is_inner = lambda text: text not in PUBLIC and is_inner(text)
         if self.address is not None:
             hosts.LOOK_UP = f"print('{self.address}')"
 
-    def __exit__(self, *_):
+    def __exit__(self, *_: object) -> None:
         hosts.is_inner, hosts.LOOK_UP = self.kept
 
 
@@ -74,7 +74,7 @@ class Redirects(ProvidersCase):
         trusted.start()
         self.addCleanup(trusted.stop)
 
-    def download(self, path, host=0):
+    def download(self, path: str, host: int = 0) -> tuple[tuple[str | None, bool], downloads.Download]:
         """The end of a download: its fault, and whether it brought the table; and the download."""
         with Input() as folder:
             [done] = downloads.run(
@@ -122,7 +122,9 @@ class Redirects(ProvidersCase):
         with Stand(HOSTS[2]):
             ended, done = self.download("/to-name")
             self.expect(
-                "to a name with a public address", (ended, done.transfer.reply.remote), ((None, True), HOSTS[2])
+                "to a name with a public address",
+                (ended, done.transfer and done.transfer.reply.remote),
+                ((None, True), HOSTS[2]),
             )
             self.expect("its name", [host for host, _, _, _ in self.providers.requests("/table.txt?name")], [NAME])
 

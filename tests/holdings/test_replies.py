@@ -15,17 +15,17 @@ from fixtures.fetch_input import OLD
 from fixtures.fetch_input import TABLE
 from fixtures.patience import patience
 from fixtures.providers import ANOTHER
-from fixtures.providers import DATE
+from fixtures.raw_replies import DATE
 from fixtures.providers import HOSTS
 from fixtures.providers import ProvidersCase
-from fixtures.providers import SENT
-from fixtures.providers import TAG
-from fixtures.providers import WHOLE
+from fixtures.raw_replies import SENT
+from fixtures.raw_replies import TAG
+from fixtures.raw_replies import WHOLE
 
 ROWS = TABLE.count(b"\n") - 1
 
 
-def zipped(members):
+def zipped(members: dict[str, bytes]) -> bytes:
     data = io.BytesIO()
     with zipfile.ZipFile(data, "w", zipfile.ZIP_DEFLATED) as archive:
         for name, text in members.items():
@@ -194,7 +194,7 @@ class Replies(ProvidersCase):
             self.expect("anyone may read them", stat.S_IMODE(os.stat(folder.path("table.txt")).st_mode), 0o644)
             self.second_run(folder)
 
-    def second_run(self, folder):
+    def second_run(self, folder: Input) -> None:
         status, printed = folder.fetch()
         self.expect("a second run", (status, printed), (0, "10 files asked for, 0 new or changed, 0 not fetched\n"))
         self.expect(
@@ -210,12 +210,12 @@ class Replies(ProvidersCase):
             folder.fetch("gz.txt", "utf16.txt"),
             (
                 0,
-                f"gz.txt: changed, {len(folder.read('gz.txt')):,} bytes\n"
-                f"utf16.txt: changed, {len(folder.read('utf16.txt'))} bytes\n"
+                f"gz.txt: changed, {len(folder.read('gz.txt') or b''):,} bytes\n"
+                f"utf16.txt: changed, {len(folder.read('utf16.txt') or b'')} bytes\n"
                 "2 files asked for, 2 new or changed, 0 not fetched\n",
             ),
         )
-        self.expect("the changed file", gzip.decompress(folder.read("gz.txt")), TABLE + b"More\t2957-1057\t\t\n")
+        self.expect("the changed file", gzip.decompress(folder.read("gz.txt") or b""), TABLE + b"More\t2957-1057\t\t\n")
         self.expect("the file that was changed here", folder.read("utf16.txt"), TABLE.decode().encode("utf-16"))
 
     def test_names(self) -> None:

@@ -7,9 +7,10 @@ import csv
 import io
 import os
 import subprocess
-import sys
 import unicodedata
+from collections.abc import Iterator
 
+from fixtures import PYTHON
 from fixtures import needs
 from fixtures.cases import Case
 from fixtures.made_versions import HEADER
@@ -42,7 +43,7 @@ FORMULAS = (
 PLAIN = ("-", "Études – L’eau", "日本語", "می‌خواهم", "a=b", "Q & A", "", "'x", "50% + 1")
 
 
-def is_unsafe(text):
+def is_unsafe(text: str) -> list[str]:
     return [
         char
         for char in text
@@ -54,11 +55,11 @@ def is_unsafe(text):
     ]
 
 
-def row(title, number, embargo="", first="1995"):
+def row(title: str, number: str, embargo: str = "", first: str = "1995") -> tuple[str, ...]:
     return (title, number, "", first, "", "https://press.example.com/x", "x", embargo, "fulltext", "serial")
 
 
-def hostile(start):
+def hostile(start: int) -> list[tuple[str, ...]]:
     tail = UNSAFE.replace("\r", "")
     return [
         row(f"{text}{tail}{number}", f"{start + number}-0000", "six\x1b]0;owned months")
@@ -67,7 +68,7 @@ def hostile(start):
     ]
 
 
-def lists_of(weeks):
+def lists_of(weeks: Weeks) -> Iterator[tuple[str, str, list[list[str]]]]:
     """The rows of `changes/` and `dropped/` of the version in use, as a spreadsheet reads them."""
     for name in ("changes/press.txt", "dropped/press.txt"):
         text = weeks.read(name).decode()
@@ -75,6 +76,8 @@ def lists_of(weeks):
 
 
 class Shown(Case):
+    """Texts, cells, lines and lists."""
+
     def test_printable(self) -> None:
         for char in UNSAFE:
             self.expect(f"the character {char!r}", shown_text.printable(f"a{char}b"), "a?b")
@@ -100,9 +103,7 @@ class Shown(Case):
             report("first \x1b]0;owned\x07\x1b[2J\x9b1m\u202e months\r")
         self.expect("a line", out.getvalue(), "first ?]0;owned??[2J?1m? months?\n")
         code = "from openlink_update.report import report; report('x\\x1b[2J\\x85y', 'stderr')"
-        done = subprocess.run(
-            [sys.executable, "-S", "-B", "-c", code], capture_output=True, env={**os.environ, "PYTHONPATH": "update"}
-        )
+        done = subprocess.run([*PYTHON, "-c", code], capture_output=True, env={**os.environ, "PYTHONPATH": "update"})
         self.expect("standard error", done.stderr, b"x?[2J?y\n")
 
     @needs.program()

@@ -11,8 +11,12 @@ import socket
 import subprocess
 import tempfile
 import types
+from collections.abc import Iterator
 from pathlib import Path
+from typing import Any
+from unittest import mock
 
+from fixtures import needs
 from fixtures.cases import Case
 from openlink_update import children
 from openlink_update.input_files import InputFolder
@@ -21,20 +25,21 @@ from openlink_update.site import names_file
 from openlink_update.site import targets_file
 
 MOST_BYTES, DEPTH = 1_048_576, 31
+READERS = ("njs", "node")  # one of them reads the files too
 GOOD = {"groups": [{"name": "A"}], "targets": {"a": {"label": "x"}}}
 
 
-def with_text(text):
+def with_text(text: str) -> bytes:
     """A targets.json with a text after its groups."""
     return ('{"groups": [{"name": "A"}], ' + text + "}").encode()
 
 
-def of_size(size):
+def of_size(size: int) -> bytes:
     text = json.dumps(GOOD)
     return (text + " " * (size - len(text))).encode()
 
 
-def nested(depth):
+def nested(depth: int) -> bytes:
     """A file with so many lists in each other, in the object of the file; only the last has another."""
     return ('{"groups": ' + "[" * (depth - 1) + "]" * (depth - 1) + "}").encode()
 
@@ -77,14 +82,14 @@ TAKEN = [
 ]
 
 
-def form_faults(data):
+def form_faults(data: bytes) -> list[str]:
     """What is said of the form of a file, whatever its names."""
-    faults = []
+    faults: list[str] = []
     targets_file.parsed(data, faults)
     return faults
 
 
-def mutations(count):
+def mutations(count: int) -> Iterator[bytes]:
     """Files that differ in a character or two from one of the cases, with a fixed seed."""
     source = random.Random(20261128)
     seeds = [data.decode() for data in (*TAKEN, *(data for data, _ in REFUSED)) if len(data) < 300]
@@ -97,23 +102,24 @@ def mutations(count):
 
 
 class SiteFiles(Case):
+    """Good and bad files, and those that differ in a character."""
+
     def test_refused(self) -> None:
         for data, expected in REFUSED:
             found = form_faults(data)
             if "line 2" in expected[0]:  # the words are those of Python's json
                 found, expected = [it.partition(": ")[0].partition(",")[0] for it in found], ["line 2"]
-            self.expect(f"a file that begins {data[:80]}", found, expected)
-            self.expect(f"it is refused, {data[:80]}", targets_file.faults_of(data) != [])
+            self.expect(f"a file that begins {data[:80]!r}", found, expected)
+            self.expect(f"it is refused, {data[:80]!r}", targets_file.faults_of(data) != [])
         for data in TAKEN:
-            self.expect(f"a file that begins {data[:80]}", form_faults(data), [])
+            self.expect(f"a file that begins {data[:80]!r}", form_faults(data), [])
         self.expect("no more lines than can be read", len(form_faults(with_text('"x": [' + "NaN, " * 99 + "NaN]"))), 10)
         self.expect("a long name", len(form_faults(with_text(f'"{"x" * 500}": NaN'))[0]) < 100)
 
+    @needs.one_of(*READERS)
     def test_njs(self) -> None:
         """Nothing that Python takes is refused by njs."""
-        command = next(filter(shutil.which, ("njs", "node")), None)
-        if command is None:
-            return
+        command = next(filter(shutil.which, READERS))
         files = [*TAKEN, *(data for data, _ in REFUSED), *mutations(2000)]
         with tempfile.TemporaryDirectory() as folder:
             for number, data in enumerate(files):
@@ -144,7 +150,7 @@ class SiteFiles(Case):
             paths = {name: os.path.join(folder, name) for name in ("input", "old", "new", "site")}
             for name in ("input", "old", "new"):
                 os.mkdir(paths[name])
-            site = types.SimpleNamespace(languages={"en"}, path=paths["site"], targets_path=lambda: paths["site"])
+            site: Any = types.SimpleNamespace(languages={"en"}, path=paths["site"], targets_path=lambda: paths["site"])
             for name, data in (("old", json.dumps(GOOD).encode()), ("input", REFUSED[0][0])):
                 with open(os.path.join(paths[name], "targets.json"), "wb") as file:
                     file.write(data)
@@ -169,21 +175,18 @@ class SiteFiles(Case):
         tried = []
 
         class Taken(socket.socket):
-            def bind(self, name):
+            def bind(self, name: Any) -> None:
                 tried.append(name)
                 if len(tried) > 20_000:
                     raise StopIteration  # the search would not end
                 raise OSError("Address already in use")
 
-        real, children.socket.socket = socket.socket, Taken
+        said = None
         try:
-            said = None
-            with contextlib.suppress(StopIteration):
+            with mock.patch("socket.socket", Taken), contextlib.suppress(StopIteration):
                 children.free_port()
         except Failure as failure:
             said = str(failure)
-        finally:
-            children.socket.socket = real
         self.expect(
             "what is said",
             said,

@@ -7,6 +7,8 @@ import os
 import signal
 import threading
 import time
+from collections.abc import Iterable
+from typing import NoReturn
 
 from fixtures.fetch_input import Input
 from fixtures.fetch_input import OLD
@@ -15,8 +17,8 @@ from fixtures.fetch_input import ended
 from fixtures.patience import wait_until
 from fixtures.providers import HOSTS
 from fixtures.providers import ProvidersCase
-from fixtures.providers import SENT
-from fixtures.providers import WHOLE
+from fixtures.raw_replies import SENT
+from fixtures.raw_replies import WHOLE
 from openlink_update.fetch import downloads
 from openlink_update.fetch import fetching
 from openlink_update.fetch import sources
@@ -27,19 +29,21 @@ from openlink_update.outcome import Interrupted
 class Spy(threading.Thread):
     """Reads the arguments and the environment of every process, as long as the block lasts."""
 
-    def __init__(self, secrets):
+    def __init__(self, secrets: Iterable[str]) -> None:
         super().__init__(daemon=True)
-        self.secrets, self.found, self.curls, self.is_stopped = secrets, set(), set(), False
+        self.secrets, self.is_stopped = secrets, False
+        self.found: set[tuple[str, str]] = set()
+        self.curls: set[bytes] = set()
 
-    def __enter__(self):
+    def __enter__(self) -> Spy:
         self.start()
         return self
 
-    def __exit__(self, *_):
+    def __exit__(self, *_: object) -> None:
         self.is_stopped = True
         self.join()
 
-    def run(self):
+    def run(self) -> None:
         while not self.is_stopped:
             for number in filter(str.isdigit, os.listdir("/proc")):
                 for name in ("cmdline", "environ"):
@@ -57,28 +61,28 @@ class Spy(threading.Thread):
 class NoTransfer(downloads.Download):
     """A download that a signal ends while it starts."""
 
-    def start(self):
+    def start(self) -> None:
         raise Interrupted
 
 
 class Unexpected(downloads.Download):
     """A download whose reply these scripts can't read."""
 
-    def __init__(self, address, step, error):
+    def __init__(self, address: str, step: str, error: Exception) -> None:
         super().__init__(address, [], [], "/nonexistent/body", 60, 0)
         setattr(self, step, self.fail)
         self.error = error
 
-    def fail(self):
+    def fail(self) -> NoReturn:
         raise self.error
 
 
-def curls_of(parent):
+def curls_of(parent: int) -> set[str]:
     """The numbers of the curl processes that a process has started and that run."""
     return {number for number in filter(str.isdigit, os.listdir("/proc")) if is_curl_of(parent, number)}
 
 
-def is_curl_of(parent, number):
+def is_curl_of(parent: int, number: str) -> bool:
     try:
         with open(f"/proc/{number}/stat", encoding="ascii") as file:
             return file.read().rpartition(")")[2].split()[1] == str(parent) and is_curl(number)
@@ -86,7 +90,7 @@ def is_curl_of(parent, number):
         return False
 
 
-def is_curl(number):
+def is_curl(number: str) -> bool:
     try:
         with open(f"/proc/{number}/cmdline", "rb") as file:
             return file.read().startswith(b"curl\0-q\0")
@@ -289,7 +293,7 @@ class Sources(ProvidersCase):
         """How many days a file is not fetched again, and after how many without a change it is said."""
         today = datetime.date.today()
 
-        def shift(file, **days):
+        def shift(file: str, **days: int) -> None:
             """Makes the dates of a file that many days older."""
             state = json.loads(folder.read(".fetch/state.json"))
             state[file].update(
@@ -352,6 +356,24 @@ class Sources(ProvidersCase):
                 (0, "often.txt: not changed for 100 days\n" "3 files asked for, 0 new or changed, 0 not fetched\n"),
             )
 
+    def test_days_after_a_change(self) -> None:
+        """A file that has changed today is not said to be old."""
+        self.providers.write("changing.txt", TABLE)
+        with Input(self.authority) as folder:
+            folder.write_sources(f"changing.txt\t{self.address('/changing.txt')}")
+            self.expect("the first run", folder.fetch()[0], 0)
+            state = json.loads(folder.read(".fetch/state.json") or b"")
+            changed = datetime.date.today() - datetime.timedelta(120)
+            state["changing.txt"]["changed"] = changed.isoformat()
+            folder.write(".fetch/state.json", json.dumps(state))
+            last = "1 file asked for, {} new or changed, 0 not fetched\n"
+            self.expect("no change", folder.fetch(), (0, "changing.txt: not changed for 120 days\n" + last.format(0)))
+            data = TABLE + b"More\t2957-1057\t\t\n"
+            self.providers.write("changing.txt", data)
+            lines = f"changing.txt: changed, {len(data)} bytes\n" + last.format(1)
+            self.expect("a change", folder.fetch(), (0, lines))
+            self.expect("the next run", folder.fetch(), (0, last.format(0)))
+
     def test_signal_at_a_start(self) -> None:
         """A signal while a transfer starts ends the run as at any other moment."""
         try:
@@ -377,7 +399,7 @@ class Sources(ProvidersCase):
             done = [*downloads.run([*bad, good])]
             self.expect("all are done", {*done}, {*bad, good})
             self.expect("the good one is whole", (good.is_whole, folder.read("body")), (True, TABLE))
-            said = {step: it.fault.rstrip("0123456789") for step, it in zip(errors, bad)}
+            said = {step: (it.fault or "").rstrip("0123456789") for step, it in zip(errors, bad)}
             self.expect(
                 "their faults",
                 said,
@@ -392,9 +414,9 @@ class Sources(ProvidersCase):
 
     def test_unexpected_table(self) -> None:
         """An error in a table that came is the fault of its file alone."""
-        table_in, lines = fetching.table_in, []
+        table_in, lines = fetching.table_in, list[str]()
 
-        def read(data, source):
+        def read(data: bytes, source: sources.Source) -> bytes:
             if source.file == "bad.txt":
                 raise RecursionError("a secret")
             return table_in(data, source)

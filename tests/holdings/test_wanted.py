@@ -38,12 +38,14 @@ EXPECTED = """requests\tnumber\ttitle\tyears
 """
 
 
-def counted(index, data, *words):
+def counted(index: str, data: bytes, *words: str) -> tuple[int, str, str]:
     done = subprocess.run(["update/counts", "--wanted", "--index", index, *words], input=data, capture_output=True)
     return done.returncode, done.stdout.decode(), done.stderr.decode()
 
 
 class Wanted(Case):
+    """What openlink-counts prints."""
+
     def test_wanted(self) -> None:
         rows = [
             row("Annals of Tidal Studies", "2901-0012", "2908-0142", "1992"),

@@ -9,15 +9,15 @@ from fixtures import needs
 from fixtures.cases import Case
 from fixtures.updates import Library
 from fixtures.updates import without_columns
-from holdings.test_preparation import COLUMNS
-from holdings.test_preparation import FILES
-from holdings.test_preparation import PLAIN
-from holdings.test_preparation import ROW
-from holdings.test_preparation import bytes_of
-from holdings.test_preparation import of_rows
-from holdings.test_preparation import row
-from holdings.test_preparation import tabs
-from holdings.test_preparation import zipped
+from holdings.shapes import COLUMNS
+from holdings.shapes import FILES
+from holdings.shapes import PLAIN
+from holdings.shapes import ROW
+from holdings.shapes import bytes_of
+from holdings.shapes import of_rows
+from holdings.shapes import row
+from holdings.shapes import tabs
+from holdings.shapes import zipped
 
 # What the files of these shapes need to be used, and those that no words allow.
 ALLOWED = {
@@ -31,16 +31,16 @@ LEFT_OUT = ("a table without identifiers' columns", "two names below a line")
 WHOLE, LOST = 7271, 6544  # rows, and those whose numbers are gone a week later
 
 
-def name_of(case):
+def name_of(case: str) -> str:
     return "".join(char if char.isascii() and char.isalnum() else "-" for char in case)
 
 
-def many_rows(lost=0):
+def many_rows(lost: int = 0) -> str:
     rows = [row(f"Title {number}", "" if number < lost else f"{number:07}0", "") for number in range(WHOLE)]
     return of_rows(*rows)
 
 
-def write_first_week(library):
+def write_first_week(library: Library) -> None:
     """A target for each shape, and more of several files, of patterns, and with many rows."""
     for case, (came, _, _) in FILES.items():
         if case not in LEFT_OUT:
@@ -61,14 +61,14 @@ def write_first_week(library):
     library.write_targets()
 
 
-def lines_of_index(library, number):
+def lines_of_index(library: Library, number: str) -> list[str]:
     """The lines that the index has for a number."""
     folder = os.path.join(library.library, "current", "index", "keys")
     texts = [library.served("index", "keys", name) for name in os.listdir(folder)]
-    return [line for text in texts for line in text.splitlines() if line.startswith(f"{number}\t")]
+    return [line for text in texts for line in (text or "").splitlines() if line.startswith(f"{number}\t")]
 
 
-def write_second_week(library):
+def write_second_week(library: Library) -> None:
     """Four targets have good new files, and seven bad ones."""
     library.write("parts/books_2026-11-01.csv", "print_identifier,publication_title,title_id\n0-306-40615-2,Waves,t1\n")
     library.write("new/Press_All_2026-11-01.txt", tabs(of_rows(row("Tides"))))
@@ -102,7 +102,9 @@ BAD = {
 
 @needs.program()
 class TwoWeeks(Case):
-    def expect_first_week(self, library, status, printed):
+    """A library with each shape of file."""
+
+    def expect_first_week(self, library: Library, status: int, printed: str) -> None:
         self.expect(f"the first week: {printed}", status, 0)
         for case, (_, served, told) in FILES.items():
             if case not in LEFT_OUT:

@@ -2,6 +2,9 @@
 sizes, of which the second is twice the first."""
 from __future__ import annotations
 
+from collections.abc import Callable
+from typing import Any
+
 from fixtures.cases import Case
 from openlink_update.received import archives
 from openlink_update.received import headers
@@ -14,24 +17,24 @@ count = 0
 class Text(str):
     """A text that counts how often it is compared or hashed, and how many characters are passed in it."""
 
-    def __eq__(self, other):
+    def __eq__(self, other: object) -> bool:
         global count
         count += 1
         return str.__eq__(self, other)
 
-    def __hash__(self):
+    def __hash__(self) -> int:
         global count
         count += 1
         return str.__hash__(self)
 
-    def find(self, part, start, end):
+    def find(self, part: str, start: Any = 0, end: Any = None) -> int:
         global count
         found = str.find(self, part, start, end)
         count += (end if found < 0 else found + len(part)) - start
         return found
 
 
-def counted(work, *given):
+def counted(work: Callable[..., object], *given: object) -> int:
     """What some work counts."""
     global count
     count = 0
@@ -40,7 +43,11 @@ def counted(work, *given):
 
 
 class Work(Case):
-    def expect_linear(self, name, work, given, size):
+    """Counted work."""
+
+    def expect_linear(
+        self, name: str, work: Callable[..., object], given: Callable[[int], tuple[Any, ...]], size: int
+    ) -> None:
         """Twice the size has at most a little more than twice the work, and some work is counted."""
         small, large = (counted(work, *given(it)) for it in (size, 2 * size))
         self.expect(f"{name}: {small} for {size}, {large} for {2 * size}", size // 2 <= small and large <= 2.2 * small)

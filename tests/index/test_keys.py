@@ -97,7 +97,7 @@ fs.writeFileSync(process.argv[3], list.map(keys).join('\\n'));
 PART = 2500  # njs frees no memory, so it gets few titles at a time
 
 
-def texts():
+def texts() -> list[str]:
     """The cases, every character below U+3000, a part of the others, and made texts of hard pieces."""
     source = random.Random(7)
     found = [title for title, _, _ in CASES]
@@ -113,7 +113,7 @@ def texts():
     return [text.replace("\n", " ") for text in found]
 
 
-def in_njs(texts):
+def in_njs(texts: list[str]) -> list[str]:
     """The keys that front_door/titles.js makes, as lines."""
     with tempfile.TemporaryDirectory() as folder:
         for name, text in (("keys.js", SCRIPT), ("titles", "\n".join(texts))):
@@ -126,6 +126,8 @@ def in_njs(texts):
 
 
 class Keys(Case):
+    """The same keys in the update and the front door."""
+
     def test_cases(self) -> None:
         for title, key, short in CASES:
             self.expect(f"the key of {title[:40]!r}", (titles.key_of(title), titles.short_key(title)), (key, short))

@@ -3,9 +3,9 @@ from __future__ import annotations
 
 import os
 import subprocess
-import sys
 import tempfile
 
+from fixtures import PYTHON
 from fixtures.cases import Case
 from fixtures.index_reader import COLUMNS
 from fixtures.index_reader import Index
@@ -18,29 +18,38 @@ from openlink_update.index import word_sets
 SERIAL, BOOK = "serial", "monograph"
 
 
-def journal(title, printed="", online="", first="", last="", embargo="", title_id="", preceding=""):
+def journal(
+    title: str,
+    printed: str = "",
+    online: str = "",
+    first: str = "",
+    last: str = "",
+    embargo: str = "",
+    title_id: str = "",
+    preceding: str = "",
+) -> tuple[str, ...]:
     return (title, printed, online, first, last, embargo, SERIAL, title_id, preceding)
 
 
-def book(title, printed="", online=""):
+def book(title: str, printed: str = "", online: str = "") -> tuple[str, ...]:
     return (title, printed, online, "", "", "", BOOK)
 
 
 class Titles:
     """A title as the sets of words need it."""
 
-    def __init__(self, key):
+    def __init__(self, key: str) -> None:
         self.key, self.name, self.article = key, key, ""
 
 
-def random_titles(count, words):
+def random_titles(count: int, words: int) -> list[tuple[str, list[Titles]]]:
     """Pages of titles of which each word occurs once."""
     titles = [Titles(" ".join(f"w{number}x{place}" for place in range(words))) for number in range(count)]
     return [("w", titles[start : start + 50]) for start in range(0, count, 50)]
 
 
-def words_of(pages):
-    return sum(map(len, word_sets.places_by_head(pages).values()))
+def words_of(pages: list[tuple[str, list[Titles]]]) -> int:
+    return sum(len(words) for words in word_sets.places_by_head(pages).values())
 
 
 MEASURED = """
@@ -55,6 +64,8 @@ with open("/proc/self/status") as status:
 
 
 class Lines(Case):
+    """Each index is of a few tables."""
+
     def test_titles(self) -> None:
         """Rows are of one title by key and number; two editions of one kind are joined, and no others."""
         with Index(
@@ -223,11 +234,11 @@ class Lines(Case):
         ]
         rows = [journal(title, f"300{number}-0000") for number, (title, _) in enumerate(titles)]
         with Index({"t": table(*rows)}) as found:
-            for number, (title, expected) in enumerate(titles):
+            for number, (title, shown) in enumerate(titles):
                 self.expect(
                     f"the title {title[:30]!r}",
                     [cells[1] for cells in found.of_key(f"300{number}-0000")],
-                    [] if expected is None else [expected],
+                    [] if shown is None else [shown],
                 )
             self.expect("a form for the halving", list(check_form(found)), [])
 
@@ -297,12 +308,12 @@ class Lines(Case):
             ):
                 self.expect(f"titles of {key}", len(found.of_key(key)), expected)
             listed = found.listed("j")
-            for start, expected in (
+            for start, wanted in (
                 ("kuest", ["Kuestenforschung", "Küstenforschung: Berichte"]),
                 ("kust", ["Küstenforschung: Berichte"]),
             ):
                 titles = sorted(listed[place] for place in found.places("j", start))
-                self.expect(f"words that begin with {start}", titles, expected)
+                self.expect(f"words that begin with {start}", titles, wanted)
 
     def test_list(self) -> None:
         """Letters in their order, each with pages of its own."""
@@ -467,7 +478,7 @@ class Lines(Case):
                 file.write("\n".join(["publication_title\tonline_identifier", *rows, ""]))
             with open(f"{folder}/registry.tsv", "w", encoding="utf-8") as file:
                 file.write(f"books\tcode\t{folder}/table.txt\n")
-            words = [sys.executable, "-S", "-B", "-c", MEASURED, f"{folder}/registry.tsv", f"{folder}/index"]
+            words = [*PYTHON, "-c", MEASURED, f"{folder}/registry.tsv", f"{folder}/index"]
             done = subprocess.run(words, capture_output=True, text=True)
             has_words = sum(len(names) for _, _, names in os.walk(f"{folder}/index/words")) > 10
         self.expect(f"its memory in MB: {done.stdout}{done.stderr[-300:]}", 20 < int(done.stdout or 9999) <= 120)

@@ -3,6 +3,9 @@ from __future__ import annotations
 
 import random
 import re
+from collections.abc import Callable
+from collections.abc import Iterator
+from typing import Any
 
 from fixtures.cases import Case
 from fixtures.index_reader import Index
@@ -14,9 +17,11 @@ from openlink_update.index.titles import key_of
 from openlink_update.index.titles import short_key
 
 NUMBERS = ("print_identifier", "online_identifier")
+Title = list[dict[str, Any]]  # its rows, by the names of columns
+Joined = Callable[[Title, Title, list[Title]], bool]
 
 
-def standard(cell):
+def standard(cell: str) -> str:
     """A number as thirteen digits or with its hyphen."""
     text = re.sub("[- ]", "", cell).upper()
     if len(text) == 8:
@@ -27,32 +32,32 @@ def standard(cell):
     return text
 
 
-def as_two_letters(title):
+def as_two_letters(title: str) -> str:
     return re.sub("[äöüÄÖÜ]", lambda umlaut: dict(zip("äöü", ("ae", "oe", "ue")))[umlaut[0].lower()], title)
 
 
 class Reference:
     """Titles as sets of rows, joined again and again until nothing is left to join."""
 
-    def __init__(self, tables):
+    def __init__(self, tables: dict[str, bytes]) -> None:
         rows = []
         for target, data in tables.items():
             header, *lines = data.decode().rstrip("\n").split("\n")
             for number, line in enumerate(lines):
-                row = dict(zip(header.split("\t"), line.split("\t")))
+                row: dict[str, Any] = dict(zip(header.split("\t"), line.split("\t")))
                 row.update(target=target, number=number, key=key_of(row["publication_title"]))
                 row["numbers"] = {standard(row[name]) for name in NUMBERS if row[name]}
                 rows.append(row)
         self.titles = self.joined([[row] for row in rows], self.are_one)
         self.titles = self.joined(self.titles, self.are_editions)
 
-    def joined(self, titles, are_joined):
-        by_key = {}
+    def joined(self, titles: list[Title], are_joined: Joined) -> list[Title]:
+        by_key: dict[str, list[Title]] = {}
         for title in titles:
             by_key.setdefault(title[0]["key"], []).append(title)
         return [title for group in by_key.values() for title in self.group_joined(group, are_joined)]
 
-    def group_joined(self, group, are_joined):
+    def group_joined(self, group: list[Title], are_joined: Joined) -> list[Title]:
         while True:
             pair = next(
                 (
@@ -67,10 +72,10 @@ class Reference:
                 return group
             group = [title for title in group if title not in pair] + [pair[0] + pair[1]]
 
-    def are_one(self, one, other, _):
+    def are_one(self, one: Title, other: Title, _: list[Title]) -> bool:
         return bool(self.numbers(one) & self.numbers(other))
 
-    def are_editions(self, one, other, group):
+    def are_editions(self, one: Title, other: Title, group: list[Title]) -> bool:
         kind = [title for title in group if self.kind(title) == self.kind(one)]
         sides = [self.sides(title) for title in kind]
         return (
@@ -80,18 +85,18 @@ class Reference:
             and sides.count({NUMBERS[0]}) == sides.count({NUMBERS[1]}) == 1
         )
 
-    def numbers(self, title):
+    def numbers(self, title: Title) -> set[str]:
         return set().union(*(row["numbers"] for row in title))
 
-    def sides(self, title):
+    def sides(self, title: Title) -> set[str]:
         return {name for row in title for name in NUMBERS if row[name]}
 
-    def kind(self, title):
+    def kind(self, title: Title) -> str:
         return "b" if all(row["publication_type"] == "monograph" for row in title) else "j"
 
-    def lines(self):
+    def lines(self) -> list[tuple[Any, ...]]:
         """Each line of keys/ with the name of its file: cells whose order is not given are sorted."""
-        found = []
+        found: list[tuple[Any, ...]] = []
         for title in self.titles:
             forms = {re.sub("[- ]", "", row[name]).upper() for row in title for name in NUMBERS if row[name]}
             forms = {standard(form) if len(form) == 8 else form for form in forms}
@@ -108,7 +113,7 @@ class Reference:
                 found.append((digits[:3], sought[0] + digits[3:16], names, *cells, None))
         return found
 
-    def entry(self, row):
+    def entry(self, row: dict[str, Any]) -> str:
         parts = [
             row["target"],
             str(row["number"]),
@@ -119,17 +124,17 @@ class Reference:
         return re.sub("( -)+$", "", " ".join(part or "-" for part in parts))
 
 
-def sorted_cell(cell, between):
+def sorted_cell(cell: str, between: str) -> str:
     return between.join(sorted(cell.split(between)))
 
 
-def lines_of(found):
+def lines_of(found: Index) -> Iterator[tuple[Any, ...]]:
     for name in found.names("keys"):
         for key, kind, title, numbers, *more in found.lines("keys", name):
             yield name, key, title, kind, sorted_cell(numbers, " "), sorted_cell(more[0], ";") if more else None
 
 
-def tables():
+def tables() -> dict[str, bytes]:
     """Tables of targets that have the same titles, written in other ways; some only with print, or only with online
     numbers, and some with numbers of ten digits."""
     source, made = random.Random(3), Made(seed=3, vocabulary=300)
@@ -157,12 +162,15 @@ def tables():
 
 
 class MadeTitles(Case):
+    """One index of some thousand rows."""
+
     def test_made_titles(self) -> None:
         given = tables()
         reference = Reference(given)
         with Index(given) as found:
             self.expect("a form for the halving", list(check_form(found)), [])
-            expected, lines = {}, list(lines_of(found))
+            expected: dict[tuple[Any, ...], list[set[str]]] = {}
+            lines = list(lines_of(found))
             for name, key, names, *cells in reference.lines():
                 expected.setdefault((name, key, *cells), []).append(names)
             missing = [
@@ -173,9 +181,9 @@ class MadeTitles(Case):
             self.expect("each line is one of the reference", missing[:3], [])
             self.expect("the number of lines", len(lines), len(reference.lines()))
             for kind in "jb":
-                self.check_list(found, kind, [title for title in reference.titles if reference.kind(title) == kind])
+                self.expect_list(found, kind, [title for title in reference.titles if reference.kind(title) == kind])
 
-    def check_list(self, found, kind, titles):
+    def expect_list(self, found: Index, kind: str, titles: list[Title]) -> None:
         listed = found.listed(kind)
         self.expect(
             f"titles in the list {kind}",

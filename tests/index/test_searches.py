@@ -6,6 +6,7 @@ import json
 import os
 import subprocess
 import tempfile
+from typing import Any
 
 from fixtures import needs
 from fixtures.cases import Case
@@ -35,7 +36,7 @@ search.search(r, 'j', asked[0], asked[1]).then((found) => {
 """
 
 
-def rows():
+def rows() -> list[tuple[str, str]]:
     """Ten thousand titles under X, more than a search looks at, and a few under other letters."""
     names = [
         f"X{number:05} Yankee Zulu{' Alpha' * (number < 3000)}{' Omega' * (number >= 7000)}" for number in range(MANY)
@@ -73,7 +74,7 @@ def rows():
     ]
 
 
-def searched(root, text, page=1):
+def searched(root: str, text: str, page: int = 1) -> list[Any]:
     with tempfile.TemporaryDirectory() as folder:
         script, reply = os.path.join(folder, "main.js"), os.path.join(folder, "reply")
         with open(script, "w", encoding="utf-8") as file:
@@ -84,7 +85,8 @@ def searched(root, text, page=1):
             check=True,
         )
         with open(reply, encoding="utf-8") as file:
-            return json.load(file)
+            found: list[Any] = json.load(file)
+        return found
 
 
 class Starts(Case):

@@ -61,6 +61,7 @@ class Upgrade(Case):
     """Both ways, from the same old files."""
 
     folder: str
+    old: str
 
     @classmethod
     def setUpClass(cls) -> None:
