@@ -56,6 +56,13 @@ CASES = [
     ("five years", row("A", first="1990", num_first_vol_online="1", embargo="R5Y"), ("2021 7 - -", "", "")),
     ("five years of three", row("A", first="2023-02", num_first_vol_online="1", embargo="R5Y"), ("2023 2 1 -", "", "")),
     ("ten years without 30 days", row("A", first="1990", embargo="R10Y;P30D"), ("2016 7 - -", "", "30")),
+    (
+        "five years, of which it began on the first day",
+        row("A", first="2021-07-16", num_first_vol_online="3", embargo="R5Y"),
+        ("2021 7 3 -", "", ""),
+    ),
+    ("it began on the last open day", row("A", first="2025-07-15", embargo="P1Y"), ("2025 7 - -", "", "366")),
+    ("it began on the day after it", row("A", first="2025-07-16", embargo="P1Y"), None),
     ("five years, and it ended before", row("A", first="1990", last="2019", embargo="R5Y"), None),
     ("an embargo in words", row("A", first="1990", embargo="6 months"), ("1990 - - -", "", "")),
     ("abstracts", row("A", first="1990", coverage_depth="abstracts"), None),

@@ -115,6 +115,7 @@ class Judging(Case):
                 "",
                 [],
             ),
+            ("half of the rows", [*rows(0, 30), *later(0, 30)], rows(0, 30), "", []),
             (
                 "less than half of the rows",
                 [*rows(0, 30), *later(0, 30)],

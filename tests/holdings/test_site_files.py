@@ -1,26 +1,21 @@
 """Files of a library's site that njs would refuse, or read in another way than Python: they are refused with the place
-before they are put in a version. And a port that is free, or none."""
+before they are put in a version."""
 from __future__ import annotations
 
-import contextlib
 import json
 import os
 import random
 import shutil
-import socket
 import subprocess
 import tempfile
 import types
 from collections.abc import Iterator
 from pathlib import Path
 from typing import Any
-from unittest import mock
 
 from fixtures import needs
 from fixtures.cases import Case
-from openlink_update import children
 from openlink_update.input_files import InputFolder
-from openlink_update.outcome import Failure
 from openlink_update.site import names_file
 from openlink_update.site import targets_file
 
@@ -169,31 +164,3 @@ class SiteFiles(Case):
             )
             with open(os.path.join(paths["new"], "targets.json"), "rb") as file:
                 self.expect("the old one", json.load(file), GOOD)
-
-    def test_ports(self) -> None:
-        """The search for a free port ends, also if another user has the names of all of them."""
-        tried = []
-
-        class Taken(socket.socket):
-            def bind(self, name: Any) -> None:
-                tried.append(name)
-                if len(tried) > 20_000:
-                    raise StopIteration  # the search would not end
-                raise OSError("Address already in use")
-
-        said = None
-        try:
-            with mock.patch("socket.socket", Taken), contextlib.suppress(StopIteration):
-                children.free_port()
-        except Failure as failure:
-            said = str(failure)
-        self.expect(
-            "what is said",
-            said,
-            "no free port from 20000 to 31999: their names openlink-port-N are taken, as `ss -xl` "
-            "shows, or something listens at each",
-        )
-        self.expect("each name is tried once", (len(tried), len(set(tried))), (12_000, 12_000))
-        port = children.free_port()
-        self.expect(f"a free port, {port}", 20_000 <= port < 32_000 and not children.is_open(port))
-        self.expect("no port is given twice", children.free_port() != port)
