@@ -189,7 +189,8 @@ class Exports(Case):
             )
 
     def test_scholar_parts(self) -> None:
-        """A large library has several files, each below the limit, and every journal once; a smaller one then has less."""
+        """A large library has several files, each below the limit, and every journal once. A smaller one then has
+        less."""
         count = 6000
         rows = [row(f"Journal of the number {number}", "", f"{1000 + number}-0000", "1990") for number in range(count)]
         with Version({"tidal": table(rows)}, {**TARGETS, "scholar": SCHOLAR}) as version:

@@ -31,7 +31,8 @@ class Judging(Case):
     """Which tables are used."""
 
     def test_collapse(self) -> None:
-        """A table of 7,271 rows of which 6,544 lose their numbers, although the list allows the warning by its words."""
+        """A table of 7,271 rows of which 6,544 lose their numbers, although the list allows the warning by its
+        words."""
         journals = list(made_titles.Made(seed=7).journals(7271))
         for row in journals[:3]:
             row[1] = "unknown"

@@ -74,7 +74,8 @@ class Parts(Case):
 
     @needs.program()
     def test_limits(self) -> None:
-        """One table beyond each limit of the program: it takes both parts, and no row is lost or divided from its title."""
+        """One table beyond each limit of the program: it takes both parts, and no row is lost or divided from its
+        title."""
         for name, count, each in (("rows", 200_010, 0), ("bytes", 400, 45_000)):
             with Weeks() as weeks:
                 data = table(*made(count, each))
@@ -213,8 +214,8 @@ class Parts(Case):
                     "warnings of all parts",
                     [line.partition("big.txt, ")[2] for line in reasons],
                     [
-                        f"part {part}: title_url not a web link 1, first {row}: 1 allowed; to allow it: title_url not a web "
-                        "link up to 2"
+                        f"part {part}: title_url not a web link 1, first {row}: 1 allowed; to allow it: title_url not a "
+                        "web link up to 2"
                         for part, row in (("big.2", '0 "x"'), ("big.3", '1 "y"'))
                     ],
                 )

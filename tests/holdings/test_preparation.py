@@ -226,8 +226,8 @@ class Preparation(Case):
             "what is said",
             dropped_rows.reasons_against(prepared.dropped, 3, set()),
             [
-                "2 of 3 rows dropped, and 1 may be: no identifier: 1, no ISSN or ISBN: 1; to allow it: dropped up to 2; "
-                "the first: None 1995-03-01 https://press.example.com/ats"
+                "2 of 3 rows dropped, and 1 may be: no identifier: 1, no ISSN or ISBN: 1; to allow it: dropped up to "
+                "2; the first: None 1995-03-01 https://press.example.com/ats"
             ],
         )
 

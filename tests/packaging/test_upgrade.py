@@ -1,6 +1,6 @@
-"""Upgrades of an installation of the last commit whose update was a folder of modules, update.d/: by the Debian package,
-and by the commands of INSTALLING.md, which copy over it. After both each command starts, and none loads a module that
-the old installation left."""
+"""Upgrades of an installation of the last commit whose update was a folder of modules, update.d/: by the Debian
+package, and by the commands of INSTALLING.md, which copy over it. After both each command starts, and none loads a
+module that the old installation left."""
 from __future__ import annotations
 
 import glob
