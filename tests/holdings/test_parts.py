@@ -214,8 +214,8 @@ class Parts(Case):
                     "warnings of all parts",
                     [line.partition("big.txt, ")[2] for line in reasons],
                     [
-                        f"part {part}: title_url not a web link 1, first {row}: 1 allowed; to allow it: title_url not a "
-                        "web link up to 2"
+                        f"part {part}: title_url not a web link 1, first {row}: 1 allowed; to allow it: title_url "
+                        "not a web link up to 2"
                         for part, row in (("big.2", '0 "x"'), ("big.3", '1 "y"'))
                     ],
                 )

@@ -287,6 +287,15 @@ class Replies(ProvidersCase):
             self.expect("one connection to a host", self.providers.raw.most, {host: 1 for host in HOSTS[:6]})
             self.expect("four hosts at once", self.providers.raw.most_of_all, 4)
 
+    def test_second_try(self) -> None:
+        """After an error at the address of a redirect, the next try begins at the first address."""
+        with Input(self.authority) as folder:
+            folder.write_sources(f"signed.txt\t{self.address('/raw/signed')}")
+            status, printed = folder.fetch()
+            self.expect(f"the file: {printed}", (status, folder.read("signed.txt")), (0, TABLE))
+            asked = [len(self.providers.requests(it)) for it in ("/raw/signed", "/raw/run-out", "/table.txt?signed")]
+            self.expect("requests", asked, [2, 1, 1])
+
     def test_full_disk(self) -> None:
         with Input(self.authority) as folder:
             folder.write_sources(f"long.txt\t{self.address('/long.txt')}", f"table.txt\t{self.address('/table.txt')}")
