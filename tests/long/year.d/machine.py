@@ -76,7 +76,8 @@ class Vendors(Providers):
             os.unlink(self.path("files", "slips", f"{provider.file}.{kind}"))
 
     def ports(self):
-        return {self.year_port, self.port, self.plain, self.stranger, self.expired, self.raw.server_address[1]}
+        return {self.year_port, self.port, self.second, self.plain, self.stranger, self.expired,
+                self.raw.server_address[1]}
 
     def certify(self, days):
         """Gives the last host a certificate that is good for these days."""
