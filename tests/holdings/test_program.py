@@ -27,13 +27,14 @@ class Full(Case):
     """A command that cannot write."""
 
     def test_disks(self) -> None:
-        for what, disk, is_full in (
+        cases: tuple[tuple[str, dict[str, int], bool], ...] = (
             ("room", {}, False),
             ("room for a small file", {"f_bavail": SMALL // 4096}, False),
             ("a block less", {"f_bavail": SMALL // 4096 - 1}, True),
             ("one more file", {"f_favail": 1}, False),
             ("no more file", {"f_favail": 0}, True),
             ("a disk that does not count files", {"f_files": 0, "f_favail": 0}, False),
-        ):
+        )
+        for what, disk, is_full in cases:
             self.expect(what, said(4, **disk), f"status 4, fault{FULL if is_full else ''}")
         self.expect("another status", said(5, f_favail=0), "status 5, fault")

@@ -40,7 +40,7 @@ def random_titles(count: int, words: int) -> list[tuple[str, list[Titles]]]:
 
 
 def words_of(pages: list[tuple[str, list[Titles]]]) -> int:
-    return sum(len(words) for words in word_sets.places_by_head(pages).values())
+    return len([word for words in word_sets.places_by_head(pages).values() for word in words])
 
 
 class Limits(Case):

@@ -125,7 +125,7 @@ class Searches(Case):
 
     def test_order(self) -> None:
         """The title that has exactly the words, then those that begin with them, then the others by letter."""
-        for text, expected in (
+        cases: tuple[tuple[str, list[str]], ...] = (
             ("nature", ["Nature", "The Nature", "Nature A", "Nature Aging", "Nature Physics", "Annals of Nature"]),
             ("THE nature", ["Nature", "The Nature", "Nature A", "Nature Aging", "Nature Physics", "Annals of Nature"]),
             (
@@ -148,7 +148,8 @@ class Searches(Case):
             ("ωmega", ["Ωmega", "Annals of Ωmega"]),
             ("nothing", []),
             ("nature nothing", []),
-        ):
+        )
+        for text, expected in cases:
             found = searched(self.made.folder, text)
             self.expect(f"the order of {text}", (found[0], found[1:5]), (expected, [1, 1, len(expected), False]))
         first = ["The Zulu", "Zulu", "Zulu Reports", "Zulus of Today", "Annals of Zulu"]
