@@ -4,6 +4,7 @@ import shutil
 from pathlib import Path
 
 from openlink_update import interrupts
+from openlink_update.disk import sync
 from openlink_update.input_files import InputFolder
 from openlink_update.machines.machines import PROBES, text_in
 from openlink_update.outcome import ALL_NEW, Failure
@@ -37,7 +38,9 @@ class Receiver(Run):
         interrupts.are_ignored()
         library.settle()
         if sent.exists():
+            sync(sent)
             os.rename(sent, library.path(PROBES))
+            sync(library.folder)
         library.remove_old(most)
         self._remove_sent()
         report(f"{stamp} is in use")
