@@ -136,6 +136,15 @@ class OfWords(Case):
             word_sets.ANY_NEW = kept
         self.expect("words of all titles", word_sets.ANY_NEW, 100_000)
 
+    def test_heads(self) -> None:
+        """Words of three letters and more are by their first three; shorter beginnings are with all their words."""
+        pages = [("a", [title("ab abc abcd abdx")])]
+        heads = word_sets.places_by_head(pages)
+        self.expect("words of a file", {head: sorted(words) for head, words in heads.items()},
+                    {"ab": ["ab"], "abc": ["abc", "abcd"], "abd": ["abdx"]})
+        self.expect("lines", sorted((head, line[0], line[2]) for head, line in word_sets.all_lines(pages)),
+                    [("ab", "ab", True), ("abc", "abc", False), ("abc", "abcd", False), ("abd", "abdx", False)])
+
     def test_few(self) -> None:
         """Words that begin alike have a line for their beginning if they have more than 64 places."""
         for count, wanted in ((64, ["aab", "aac"]), (65, ["aa", "aab", "aac"])):
