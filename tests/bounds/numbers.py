@@ -42,8 +42,9 @@ def _assigned(statement: ast.stmt) -> Iterator[tuple[str, ast.expr]]:
         if isinstance(target, ast.Name):
             yield target.id, statement.value
         elif isinstance(target, ast.Tuple) and isinstance(statement.value, ast.Tuple):
-            yield from ((name.id, value) for name, value in zip(target.elts, statement.value.elts)
-                        if isinstance(name, ast.Name))
+            yield from (
+                (name.id, value) for name, value in zip(target.elts, statement.value.elts) if isinstance(name, ast.Name)
+            )
 
 
 def of_python(text: str) -> Iterator[tuple[str, str]]:
@@ -60,22 +61,31 @@ def of_python(text: str) -> Iterator[tuple[str, str]]:
             yield name, " ".join(repeated)
     for node in ast.walk(tree):
         if isinstance(node, ast.Call) and ast.unparse(node.func).endswith(".add_argument"):
-            yield from ((str(node.args[0].value), ast.unparse(it.value)) for it in node.keywords
-                        if it.arg == "default" and isinstance(node.args[0], ast.Constant) and _is_number(it.value, known))
+            yield from (
+                (str(node.args[0].value), ast.unparse(it.value))
+                for it in node.keywords
+                if it.arg == "default" and isinstance(node.args[0], ast.Constant) and _is_number(it.value, known)
+            )
         elif isinstance(node, ast.FunctionDef):
-            last = node.args.args[len(node.args.args) - len(node.args.defaults):]
+            last = node.args.args[len(node.args.args) - len(node.args.defaults) :]
             pairs = [*zip(last, node.args.defaults), *zip(node.args.kwonlyargs, node.args.kw_defaults)]
-            yield from ((f"{node.name}({name.arg})", ast.unparse(it)) for name, it in pairs
-                        if it is not None and _BOUNDING.match(name.arg) and _is_number(it, known))
+            yield from (
+                (f"{node.name}({name.arg})", ast.unparse(it))
+                for name, it in pairs
+                if it is not None and _BOUNDING.match(name.arg) and _is_number(it, known)
+            )
 
 
 def of_script(text: str) -> Iterator[tuple[str, str]]:
     yield from _SCRIPT.findall(text)
 
 
-def _of_entries(read: Callable[[str], list[declarations.Entry]], form: re.Pattern[str],
-                text: str) -> Iterator[tuple[str, str]]:
-    yield from ((f"{entry.place} {entry.name}".strip(), entry.value) for entry in read(text) if form.fullmatch(entry.name))
+def _of_entries(
+    read: Callable[[str], list[declarations.Entry]], form: re.Pattern[str], text: str
+) -> Iterator[tuple[str, str]]:
+    yield from (
+        (f"{entry.place} {entry.name}".strip(), entry.value) for entry in read(text) if form.fullmatch(entry.name)
+    )
 
 
 def of_nginx(text: str) -> Iterator[tuple[str, str]]:

@@ -3,6 +3,7 @@ from __future__ import annotations
 
 import datetime
 import os
+import shutil
 import tempfile
 import time
 from pathlib import Path
@@ -13,6 +14,7 @@ from fixtures.cases import Case
 from fixtures.patience import wait_until
 from fixtures.provider import Held
 from fixtures.provider import Provider
+from fixtures.provider import Step
 from fixtures.provider import cut
 from fixtures.provider import reply
 from openlink_update.fetch import downloads
@@ -63,9 +65,9 @@ class Bytes(Case):
         self.provider = Provider(has_tls=False)
         self.addCleanup(self.provider.stop)
         self.folder = Path(tempfile.mkdtemp())
-        self.addCleanup(lambda: [path.unlink() for path in self.folder.iterdir()] and self.folder.rmdir())
+        self.addCleanup(shutil.rmtree, self.folder)
 
-    def end_of(self, most: int, *steps: object) -> tuple[bool, str | None, int]:
+    def end_of(self, most: int, *steps: Step) -> tuple[bool, str | None, int]:
         """How a download ends that may take so many bytes: whether it is whole, its error, and its tries."""
         self.provider.steps = {"/table": list(steps)}
         body = self.folder / "body"
@@ -80,24 +82,30 @@ class Bytes(Case):
         self.expect("of a file", downloads._MOST_BYTES, 268_435_456)
         self.expect("the last", self.end_of(5000, reply(200, bytes(5000))), (True, None, 1))
         self.expect("beyond", self.end_of(5000, reply(200, bytes(5001))), (False, TOO_MANY, 1))
-        for name, more, wanted in (("the last of two tries", 2000, (True, None, 2)),
-                                   ("beyond, in the second", 2001, (False, TOO_MANY, 2))):
+        for name, more, wanted in (
+            ("the last of two tries", 2000, (True, None, 2)),
+            ("beyond, in the second", 2001, (False, TOO_MANY, 2)),
+        ):
             self.expect(name, self.end_of(5000, cut(bytes(3000), 4000), reply(200, bytes(more))), wanted)
         # Without a length curl learns of them as they come.
         endless = Held(b"HTTP/1.1 200 X\r\nConnection: close\r\n\r\n" + bytes(5001), bytes(1000))
         self.expect("beyond, without a length", self.end_of(5000, endless), (False, TOO_MANY, 1))
         self.expect("the connection is closed", wait_until(endless.has_ended.is_set))
-        self.expect("none are left for a third try",
-                    self.end_of(6000, cut(bytes(3000), 4000), cut(bytes(3000), 4000))[::2], (False, 2))
+        self.expect(
+            "none are left for a third try",
+            self.end_of(6000, cut(bytes(3000), 4000), cut(bytes(3000), 4000))[::2],
+            (False, 2),
+        )
 
     def test_output(self) -> None:
         """Of what curl writes out, the last bytes count: what it says at its end, after all headers."""
-        for count, wanted in ((transfers._MOST_OUTPUT - 64, 200), (transfers._MOST_OUTPUT, 0)):
+        end = b"\nend 200 7 0.1 0 127.0.0.1\n"
+        for count, wanted in ((2**20, 200), (2**20 + 1, 0)):
             transfer = Transfer.__new__(Transfer)
             transfer._output, transfer._child = tempfile.TemporaryFile(), mock.Mock(returncode=0)
-            transfer._output.write(b"HTTP/1.1 200 X\r\n" + b"\nend 200 7 0.1 0 127.0.0.1\n" + b"x" * count)
+            transfer._output.write(b"HTTP/1.1 200 X\r\n" + end + b"x" * (count - len(end)))
             transfer.end()
-            self.expect(f"{count} bytes after it", transfer.reply.status, wanted)
+            self.expect(f"{count} bytes from its beginning on", transfer.reply.status, wanted)
 
     def test_length_that_is_told(self) -> None:
         for digits, wanted in (("9" * 15, f"of {int('9' * 15):,} bytes"), ("9" * 16, "bytes, too early")):
@@ -117,7 +125,8 @@ class Times(Case):
         return Download("https://127.0.0.1:9/", [], [], self.folder / "body", seconds, 10)
 
     def test_least_seconds(self) -> None:
-        """With less than a second, neither another try nor another address is begun."""
+        """A file has ten minutes. With less than a second, neither another try nor another address is begun."""
+        self.expect("that a file has", fetching.SECONDS, 600)
         for left, wanted in ((1, None), (0.99, "503, within 600 seconds")):
             download = self.download()
             download.seconds = left
@@ -131,7 +140,7 @@ class Times(Case):
 
     def test_pauses(self) -> None:
         """Ten seconds before the second try, and twenty before the third."""
-        self.expect("those of the command", (fetching.SECONDS, fetching.PAUSE), (600, 10))
+        self.expect("of the command", fetching.PAUSE, 10)
         download = self.download()
         for wanted in (10, 20):
             start = time.monotonic()
@@ -145,7 +154,9 @@ class Times(Case):
     def test_connection(self) -> None:
         """A server that takes a connection and says nothing of TLS: curl goes after the seconds to connect, long before
         the time of the file is over."""
-        self.expect("seconds", (transfers._SECONDS_TO_CONNECT, "connect-timeout = 10" in transfers._OPTIONS), (10, True))
+        self.expect(
+            "seconds", (transfers._SECONDS_TO_CONNECT, "connect-timeout = 10" in transfers._OPTIONS), (10, True)
+        )
         provider = Provider(has_tls=False)
         self.addCleanup(provider.stop)
         options = tuple(it.replace("connect-timeout = 10", "connect-timeout = 1") for it in transfers._OPTIONS)
@@ -162,8 +173,9 @@ class Times(Case):
             path = Path(folder, "curl")
             path.write_text("#!/bin/sh\nexec sleep 1000\n")
             path.chmod(0o755)
-            with mock.patch.dict(os.environ, PATH=f"{folder}:{os.environ['PATH']}"), \
-                    mock.patch.object(transfers, "_SECONDS_TO_END", 1000):
+            with mock.patch.dict(os.environ, PATH=f"{folder}:{os.environ['PATH']}"), mock.patch.object(
+                transfers, "_SECONDS_TO_END", 1000
+            ):
                 transfer = Transfer("https://127.0.0.1:9/", [], self.folder / "body", 0.1, 1000)
                 time.sleep(0.2)
                 self.expect("within these seconds", transfer.has_ended(), False)
@@ -199,7 +211,7 @@ class Numbers(Case):
             for step in steps if len(turns) > 2 else ():
                 step.may_end = step.has_begun
 
-        with mock.patch.object(downloads.time, "sleep", sleep):
+        with mock.patch("time.sleep", sleep):
             list(downloads.run(steps))  # type: ignore[arg-type]
         self.expect("at first", turns[:3], [4, 4, 4])
         self.expect("in the end", turns[-1], 6)
@@ -220,7 +232,9 @@ class Numbers(Case):
                 run._state = fetch_state.State(InputFolder(folder), "state", None, today)
                 run._state._entries["table.txt"] = {"changed": str(today - datetime.timedelta(days))}
                 run._say([source], 0)
-            self.expect(f"{days} days, fetched every {every}", f"table.txt: not changed for {days} days" in lines, wanted)
+            self.expect(
+                f"{days} days, fetched every {every}", f"table.txt: not changed for {days} days" in lines, wanted
+            )
 
     def test_names_and_numbers_of_the_list(self) -> None:
         """Names of secrets have 64 characters, days five digits, rows nine."""

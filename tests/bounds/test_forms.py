@@ -27,15 +27,23 @@ from openlink_update.versions import judging
 class Cells(Case):
     def test_entities(self) -> None:
         """Seven decimal digits, six hexadecimal ones."""
-        for text, wanted in (("&#0000065;", "A"), ("&#00000065;", "&#00000065;"), ("&#x000041;", "A"),
-                             ("&#x0000041;", "&#x0000041;"), ("&thetasym;", "\u03d1")):
+        for text, wanted in (
+            ("&#0000065;", "A"),
+            ("&#00000065;", "&#00000065;"),
+            ("&#x000041;", "A"),
+            ("&#x0000041;", "&#x0000041;"),
+            ("&thetasym;", "\u03d1"),
+        ):
             self.expect(text, titles.plain(text), wanted)
 
     def test_number_with_words(self) -> None:
         """A number of seventeen characters, as an ISBN with hyphens has."""
-        for cell, wanted in (("978-0-306-40615-7 (online)", "978-0-306-40615-7"),
-                             ("978-0-306--40615-7 (online)", "978-0-306--40615-7 (online)"),
-                             ("1234567 (online)", "1234567 (online)"), ("1234-5679 online", "1234-5679")):
+        for cell, wanted in (
+            ("978-0-306-40615-7 (online)", "978-0-306-40615-7"),
+            ("978-0-306--40615-7 (online)", "978-0-306--40615-7 (online)"),
+            ("1234567 (online)", "1234567 (online)"),
+            ("1234-5679 online", "1234-5679"),
+        ):
             self.expect(cell, cells._number_alone(cell), wanted)
 
     def test_embargo(self) -> None:
@@ -70,8 +78,14 @@ class Lists(Case):
 
     def test_parts_in_reports(self) -> None:
         """The parts of a target are .2 to .999."""
-        for name, wanted in (("a.2", "a"), ("a.9", "a"), ("a.10", "a"), ("a.999", "a"), ("a.1", "a.1"),
-                             ("a.1000", "a.1000")):
+        for name, wanted in (
+            ("a.2", "a"),
+            ("a.9", "a"),
+            ("a.10", "a"),
+            ("a.999", "a"),
+            ("a.1", "a.1"),
+            ("a.1000", "a.1000"),
+        ):
             self.expect(name, probes._PART.sub("", name), wanted)
 
 
@@ -95,9 +109,14 @@ class FrontDoor(Case):
         for name in ("index", "titles", "search", "lookup"):
             with open(f"front_door/{name}.js", encoding="utf-8") as file:
                 values.update({f"{name} {key}": int(value) for key, value in numbers.of_script(file.read())})
-        pairs = {"index KEY_DIGITS": title_index.DIGITS, "index HASH_DIGITS": title_index.KEY_DIGITS - title_index.DIGITS,
-                 "index MOST_LINES": title_index.MOST_LINES, "index PAGE": title_list.PAGE,
-                 "titles MOST_CHARACTERS": titles.MOST_CHARACTERS, "search MOST_FEW": word_sets.FEW}
+        pairs = {
+            "index KEY_DIGITS": title_index.DIGITS,
+            "index HASH_DIGITS": title_index.KEY_DIGITS - title_index.DIGITS,
+            "index MOST_LINES": title_index.MOST_LINES,
+            "index PAGE": title_list.PAGE,
+            "titles MOST_CHARACTERS": titles.MOST_CHARACTERS,
+            "search MOST_FEW": word_sets.FEW,
+        }
         self.expect("they are equal", {name: values.get(name) for name in pairs}, pairs)
 
     def test_size_of_a_file(self) -> None:

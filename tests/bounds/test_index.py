@@ -1,6 +1,7 @@
 """The index of titles: how much of a title, of a word and of a file it has. The front door relies on each."""
 from __future__ import annotations
 
+import array
 import tempfile
 
 from fixtures.cases import Case
@@ -25,12 +26,18 @@ class Files(Case):
         """4 MiB, with an end after each line; a line that does not fit is left out whole."""
         last = [b"x" * 1023] * 4096
         self.expect("4 MiB", len(index_files.text_of(last)), MIB_4)
-        for name, lines in (("a byte more", [*last[:-1], b"x" * 1024]), ("a line more", [*last, b""]),
-                            ("two lines more", [*last[:-1], b"x" * 1024, b"short"])):
+        for name, lines in (
+            ("a byte more", [*last[:-1], b"x" * 1024]),
+            ("a line more", [*last, b""]),
+            ("two lines more", [*last[:-1], b"x" * 1024, b"short"]),
+        ):
             text = index_files.text_of(lines)
             kept = len(text.splitlines())
-            self.expect(name, (text == b"".join(line + b"\n" for line in lines[:kept]), len(text) <= MIB_4, kept),
-                        (True, True, 4096 if name == "a line more" else 4095))
+            self.expect(
+                name,
+                (text == b"".join(line + b"\n" for line in lines[:kept]), len(text) <= MIB_4, kept),
+                (True, True, 4096 if name == "a line more" else 4095),
+            )
 
     def test_bytes_of_places(self) -> None:
         """Those of the places of all words of a file."""
@@ -59,16 +66,25 @@ class OfTitles(Case):
         text = "a" * 499
         self.expect("500", titles.key_of(text + "b"), text + "b")
         self.expect("501", titles.key_of(text + "bc"), text + "b")
-        self.expect("a subtitle at the end", (titles.short_key("a" * 499 + ":b"), titles.short_key("a" * 500 + ":b")),
-                    ("a" * 499, ""))
-        self.expect("an umlaut at the end", (titles.written_key("a" * 499 + "ä"), titles.written_key("a" * 500 + "ä")),
-                    ("a" * 500, ""))
+        self.expect(
+            "a subtitle at the end",
+            (titles.short_key("a" * 499 + ":b"), titles.short_key("a" * 500 + ":b")),
+            ("a" * 499, ""),
+        )
+        self.expect(
+            "an umlaut at the end",
+            (titles.written_key("a" * 499 + "ä"), titles.written_key("a" * 500 + "ä")),
+            ("a" * 500, ""),
+        )
 
     def test_tags(self) -> None:
         """A tag has a name of 20 characters and 200 more; anything longer is text."""
-        for name, text, wanted in (("a name of 20", f"<{'b' * 20}>x", "x"), ("of 21", f"<{'b' * 21}>x", f"<{'b' * 21}>x"),
-                                   ("200 more", f"<i {'b' * 200}>x", "x"),
-                                   ("201 more", f"<i {'b' * 201}>x", f"<i {'b' * 201}>x")):
+        for name, text, wanted in (
+            ("a name of 20", f"<{'b' * 20}>x", "x"),
+            ("of 21", f"<{'b' * 21}>x", f"<{'b' * 21}>x"),
+            ("200 more", f"<i {'b' * 200}>x", "x"),
+            ("201 more", f"<i {'b' * 201}>x", f"<i {'b' * 201}>x"),
+        ):
             self.expect(name, titles.plain(text), wanted)
 
     def test_numbers(self) -> None:
@@ -90,15 +106,20 @@ class OfTitles(Case):
 
     def test_related(self) -> None:
         """Five earlier titles, and five later ones."""
-        header = ("publication_title", "print_identifier", "title_id", "preceding_publication_title_id",
-                  "publication_type")
+        header = (
+            "publication_title",
+            "print_identifier",
+            "title_id",
+            "preceding_publication_title_id",
+            "publication_type",
+        )
         numbers = [f"{place:07}" for place in range(20)]
         forms = [f"{it[:4]}-{it[4:]}{check_of(it)}" for it in numbers]
         rows = [["Before", forms[0], "id0", "", "serial"]]
         rows += [[f"After {place}", forms[place], f"id{place}", "id0", "serial"] for place in range(1, 7)]
         for count in (5, 6):
             every = Titles()
-            every.add_table("a", Table(header, [list(row) for row in rows[:count + 1]]))
+            every.add_table("a", Table(header, [list(row) for row in rows[: count + 1]]))
             found, related = every.finish()
             first = next(it for it in found if it.name == "Before")
             self.expect(f"{count} later ones", [len(it) for it in related[first]], [0, 5])
@@ -130,8 +151,9 @@ class OfWords(Case):
                 pages = [("o", [title(" ".join(old)), title(" ".join([*new, old[0]]))])]
                 found = {word for words in word_sets.places_by_head(pages).values() for word in words}
                 self.expect(f"after {first} words", len(found & set(new)), wanted)
-                self.expect(f"after {first} words, an old one", list(word_sets.places_by_head(pages)["old"]["old0"]),
-                            [0, 1])
+                self.expect(
+                    f"after {first} words, an old one", list(word_sets.places_by_head(pages)["old"]["old0"]), [0, 1]
+                )
         finally:
             word_sets.ANY_NEW = kept
         self.expect("words of all titles", word_sets.ANY_NEW, 100_000)
@@ -140,16 +162,22 @@ class OfWords(Case):
         """Words of three letters and more are by their first three; shorter beginnings are with all their words."""
         pages = [("a", [title("ab abc abcd abdx")])]
         heads = word_sets.places_by_head(pages)
-        self.expect("words of a file", {head: sorted(words) for head, words in heads.items()},
-                    {"ab": ["ab"], "abc": ["abc", "abcd"], "abd": ["abdx"]})
-        self.expect("lines", sorted((head, line[0], line[2]) for head, line in word_sets.all_lines(pages)),
-                    [("ab", "ab", True), ("abc", "abc", False), ("abc", "abcd", False), ("abd", "abdx", False)])
+        self.expect(
+            "words of a file",
+            {head: sorted(words) for head, words in heads.items()},
+            {"ab": ["ab"], "abc": ["abc", "abcd"], "abd": ["abdx"]},
+        )
+        self.expect(
+            "lines",
+            sorted((head, line[0], line[2]) for head, line in word_sets.all_lines(pages)),
+            [("ab", "ab", True), ("abc", "abc", False), ("abc", "abcd", False), ("abd", "abdx", False)],
+        )
 
     def test_few(self) -> None:
         """Words that begin alike have a line for their beginning if they have more than 64 places."""
         for count, wanted in ((64, ["aab", "aac"]), (65, ["aa", "aab", "aac"])):
             places = {"aab": list(range(count - 1)), "aac": [7]}
-            sets = {word: word_sets.array.array("I", it) for word, it in places.items()}
+            sets = {word: array.array("I", it) for word, it in places.items()}
             self.expect(f"{count} places", [line[0] for line in word_sets.lines_of(sorted(sets), sets)], wanted)
 
 
@@ -169,8 +197,10 @@ class OfPages(Case):
         """A key of more titles than it may have lines, in the file itself."""
         header = ("publication_title", "print_identifier", "publication_type")
         for count in (50, 51):
-            rows = [["The same", f"{it[:4]}-{it[4:]}{check_of(it)}", "serial"] for it in
-                    (f"{place:07}" for place in range(count))]
+            rows = [
+                ["The same", f"{it[:4]}-{it[4:]}{check_of(it)}", "serial"]
+                for it in (f"{place:07}" for place in range(count))
+            ]
             with tempfile.TemporaryDirectory() as folder:
                 title_index.make(folder, False, [("a", Table(header, rows))])
                 name = titles.key_of("The same")

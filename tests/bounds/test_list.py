@@ -33,7 +33,8 @@ def differences(numbers: list[Number], lines: list[tuple[Number, str]]) -> list[
     """What the list lacks, and what it has beyond."""
     wanted, got = Counter(numbers), Counter(number for number, _ in lines)
     return [f"not in the list: {' '.join(it)}" for it in (wanted - got).elements()] + [
-        f"only in the list: {' '.join(it)}" for it in (got - wanted).elements()]
+        f"only in the list: {' '.join(it)}" for it in (got - wanted).elements()
+    ]
 
 
 def is_test(name: str) -> bool:
@@ -44,13 +45,20 @@ def is_test(name: str) -> bool:
         return False
     with open(path, encoding="utf-8") as file:
         tree = ast.parse(file.read())
-    return any(isinstance(it, ast.FunctionDef) and it.name == method for node in tree.body
-               if isinstance(node, ast.ClassDef) and node.name == of for it in node.body)
+    return any(
+        isinstance(it, ast.FunctionDef) and it.name == method
+        for node in tree.body
+        if isinstance(node, ast.ClassDef) and node.name == of
+        for it in node.body
+    )
 
 
 def missing_tests(lines: list[tuple[Number, str]]) -> list[str]:
-    return [f"{' '.join(number)}: no test {test}" for number, test in lines
-            if test != NOT_TRIED and not (test.startswith(NO_BOUND) and len(test.split()) > 4) and not is_test(test)]
+    return [
+        f"{' '.join(number)}: no test {test}"
+        for number, test in lines
+        if test != NOT_TRIED and not (test.startswith(NO_BOUND) and len(test.split()) > 4) and not is_test(test)
+    ]
 
 
 def read() -> list[tuple[Number, str]]:
@@ -87,17 +95,39 @@ class Spoilt(Case):
 
     def test_constants_of_modules(self) -> None:
         """Each form in which a module of the update has a limit."""
-        text = ("_MOST = 7\nA, B = 5, 2 ** 20\nC = A * B\nPORTS = range(2, 3)\nNAME = re.compile(rf'{X}[a-z]{{1,9}}')\n"
-                "WORDS = ('a', 'b')\nD = 'x'\ndef f(text, most=C, *, seconds=3, mode=1): pass\n"
-                "p.add_argument('--keep', default=4)\np.add_argument('--other', default='x')\n")
-        self.expect("Python", list(numbers.of_python(text)), [
-            ("_MOST", "7"), ("A", "5"), ("B", "2 ** 20"), ("C", "A * B"), ("PORTS", "range(2, 3)"), ("NAME", "{1,9}"),
-            ("f(most)", "C"), ("f(seconds)", "3"), ("--keep", "4")])
-        self.expect("JavaScript", list(numbers.of_script("const MOST = 7;  // of\nconst a = 1;\nconst B = /x/;\n")),
-                    [("MOST", "7")])
-        self.expect("nginx", list(numbers.of_nginx("a_timeout 5s;\nserver {\n    #limit_req zone=a burst=2;\n    b c;\n}\n")),
-                    [("a_timeout", "5s"), ("server #limit_req", "zone=a burst=2")])
-        self.expect("systemd", list(numbers.of_unit("[Service]\nMemoryMax=1G\nUser=a\n")), [("[Service] MemoryMax", "1G")])
+        text = (
+            "_MOST = 7\nA, B = 5, 2 ** 20\nC = A * B\nPORTS = range(2, 3)\nNAME = re.compile(rf'{X}[a-z]{{1,9}}')\n"
+            "WORDS = ('a', 'b')\nD = 'x'\ndef f(text, most=C, *, seconds=3, mode=1): pass\n"
+            "p.add_argument('--keep', default=4)\np.add_argument('--other', default='x')\n"
+        )
+        self.expect(
+            "Python",
+            list(numbers.of_python(text)),
+            [
+                ("_MOST", "7"),
+                ("A", "5"),
+                ("B", "2 ** 20"),
+                ("C", "A * B"),
+                ("PORTS", "range(2, 3)"),
+                ("NAME", "{1,9}"),
+                ("f(most)", "C"),
+                ("f(seconds)", "3"),
+                ("--keep", "4"),
+            ],
+        )
+        self.expect(
+            "JavaScript",
+            list(numbers.of_script("const MOST = 7;  // of\nconst a = 1;\nconst B = /x/;\n")),
+            [("MOST", "7")],
+        )
+        self.expect(
+            "nginx",
+            list(numbers.of_nginx("a_timeout 5s;\nserver {\n    #limit_req zone=a burst=2;\n    b c;\n}\n")),
+            [("a_timeout", "5s"), ("server #limit_req", "zone=a burst=2")],
+        )
+        self.expect(
+            "systemd", list(numbers.of_unit("[Service]\nMemoryMax=1G\nUser=a\n")), [("[Service] MemoryMax", "1G")]
+        )
 
     def test_lines_and_tests(self) -> None:
         for line in ("a\tb\tc", "a\tb\tc\t", "a\tb\tc\td\te"):
@@ -105,8 +135,15 @@ class Spoilt(Case):
                 listed(f"{line}\n")
             self.compared += 1
         number = Number("a", "b", "1")
-        for test, count in ((f"bounds.test_list.{type(self).__name__}.test_lines_and_tests", 0), ("not tried", 0),
-                            ("bounds.test_list.Spoilt.test_none", 1), ("bounds.test_none.Spoilt.test_lines_and_tests", 1),
-                            ("bounds.test_list.None.test_lines_and_tests", 1), ("bounds.test_list.Spoilt", 1),
-                            ("no bound: a number of the format", 0), ("no bound: ", 1), ("", 1)):
+        for test, count in (
+            (f"bounds.test_list.{type(self).__name__}.test_lines_and_tests", 0),
+            ("not tried", 0),
+            ("bounds.test_list.Spoilt.test_none", 1),
+            ("bounds.test_none.Spoilt.test_lines_and_tests", 1),
+            ("bounds.test_list.None.test_lines_and_tests", 1),
+            ("bounds.test_list.Spoilt", 1),
+            ("no bound: a number of the format", 0),
+            ("no bound: ", 1),
+            ("", 1),
+        ):
             self.expect(test, len(missing_tests([(number, test)])), count)

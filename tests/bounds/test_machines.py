@@ -2,7 +2,9 @@
 from __future__ import annotations
 
 import os
+import socket
 import tempfile
+from pathlib import Path
 from unittest import mock
 
 from bounds.refusals import reason
@@ -23,9 +25,12 @@ class Names(Case):
 
     def test_hosts(self) -> None:
         """A label has 63 characters, a name 253."""
-        for name, host, wanted in (("63", "a" * 63 + ".org", True), ("64", "a" * 64 + ".org", False),
-                                   ("253", ".".join(["a" * 49] * 5) + ".org", True),
-                                   ("254", ".".join(["a" * 49] * 4 + ["a" * 50]) + ".org", False)):
+        for name, host, wanted in (
+            ("63", "a" * 63 + ".org", True),
+            ("64", "a" * 64 + ".org", False),
+            ("253", ".".join(["a" * 49] * 5) + ".org", True),
+            ("254", ".".join(["a" * 49] * 4 + ["a" * 50]) + ".org", False),
+        ):
             self.expect(name, library_files.HOST.fullmatch(host) is not None, wanted)
 
     def test_ports(self) -> None:
@@ -36,9 +41,9 @@ class Names(Case):
             for taken, wanted in ((8099, (8100, [8101, 8102])), (8102, (8110, [8111, 8112]))):
                 with mock.patch.object(children, "is_open", lambda port: port == taken):
                     self.expect(f"{taken} is taken", library_files.ports_of(places, None, 2), wanted)
-            for last, wanted in ((31_989, ""), (31_990, "the ports from 8100 on are not free")):
+            for last, said in ((31_989, ""), (31_990, "the ports from 8100 on are not free")):
                 with mock.patch.object(children, "is_open", lambda port: port <= last):
-                    self.expect(f"all up to {last} are taken", reason(library_files.ports_of, places, None, 2), wanted)
+                    self.expect(f"all up to {last} are taken", reason(library_files.ports_of, places, None, 2), said)
 
     def test_processes(self) -> None:
         """Nine, which openlink-library counts; and of the ten ports of a library."""
@@ -55,9 +60,10 @@ class Names(Case):
     def test_ports_of_trials(self) -> None:
         """Below those that the system gives to clients."""
         self.expect("the range", (children._PORTS[0], children._PORTS[-1]), (20_000, 31_999))
-        with mock.patch.object(children, "_PORTS", range(31_000, 31_002)), \
-                mock.patch.object(children, "claimed", list[object]()):
-            with mock.patch.object(children.socket, "create_server", mock.Mock()):
+        with mock.patch.object(children, "_PORTS", range(31_000, 31_002)), mock.patch.object(
+            children, "claimed", list[object]()
+        ):
+            with mock.patch.object(socket, "create_server", mock.Mock()):
                 found = {children.free_port(), children.free_port()}
                 self.expect("two of two", found, {31_000, 31_001})
                 self.expect("a third", reason(children.free_port).startswith("no free port from 31000 to 31001"))
@@ -70,10 +76,12 @@ class Machines(Case):
         """4 MiB, of both streams together."""
         self.expect("4 MiB", machines.MOST_BYTES, MIB_4)
         said = "sh: it prints more than 4,194,304 bytes"
-        for name, script, wanted in (("the last", f"head -c {MIB_4} /dev/zero", ""),
-                                     ("beyond", f"head -c {MIB_4 + 1} /dev/zero", said),
-                                     ("the last of both", f"head -c {MIB_4 - 7} /dev/zero; printf seven77 >&2", ""),
-                                     ("beyond, of both", f"head -c {MIB_4 - 6} /dev/zero; printf seven77 >&2", said)):
+        for name, script, wanted in (
+            ("the last", f"head -c {MIB_4} /dev/zero", ""),
+            ("beyond", f"head -c {MIB_4 + 1} /dev/zero", said),
+            ("the last of both", f"head -c {MIB_4 - 7} /dev/zero; printf seven77 >&2", ""),
+            ("beyond, of both", f"head -c {MIB_4 - 6} /dev/zero; printf seven77 >&2", said),
+        ):
             self.expect(name, reason(machines.run, ["sh", "-c", script], 600), wanted)
         self.expect("all of it is read", len(machines.run(["head", "-c", str(MIB_4), "/dev/zero"], 600)), MIB_4)
 
@@ -83,8 +91,9 @@ class Machines(Case):
         self.expect("to ask, to send, to receive", times, (60, 3600, 3600))
         self.expect("in time", reason(machines.run, ["true"], 600), "")
         for name, script in (("open", "exec sleep 1000"), ("closed", "exec sleep 1000 >&- 2>&-")):
-            self.expect(f"streams are {name}", reason(machines.run, ["sh", "-c", script], 0.5),
-                        "sh: no end after 0.5 seconds")
+            self.expect(
+                f"streams are {name}", reason(machines.run, ["sh", "-c", script], 0.5), "sh: no end after 0.5 seconds"
+            )
 
     def test_each_step_has_its_seconds(self) -> None:
         asked: list[tuple[str, float]] = []
@@ -93,11 +102,11 @@ class Machines(Case):
             asked.append((words[0], seconds))
             return ""
 
-        machine = machines.Machine("other", "ssh", "openlink-update", machines.Path("/etc/openlink"), 0)
+        machine = machines.Machine("other", "ssh", "openlink-update", Path("/etc/openlink"), 0)
         with mock.patch.object(machines, "run", run), mock.patch.object(machines, "report"):
             machine.ask()
             machine._copy("a/", "b/")
-            machine._receive(machines._Sendable(".", mock.Mock(), "20261122T000000Z", mock.Mock(), machines.Path("/none")))
+            machine._receive(machines._Sendable(".", mock.Mock(), "20261122T000000Z", mock.Mock(), Path("/none")))
         self.expect("steps", asked, [("ssh", 60), ("rsync", 3600), ("ssh", 60), ("ssh", 3600)])
 
     def test_lines(self) -> None:

@@ -4,6 +4,7 @@ from __future__ import annotations
 import gzip
 import io
 import zipfile
+from collections.abc import Callable
 from unittest import mock
 
 from bounds.refusals import reason
@@ -33,28 +34,39 @@ class Tables(Case):
             for count, wanted in ((500, ""), (501, said)):
                 row = separator.join("x" * count) + "\n"
                 self.expect(f"{count}, {name}", reason(preparation.read, f"{head}{row}".encode()), wanted)
-        self.expect("what is in quotes separates nothing", reason(
-            preparation.read, f'{NAMES}\n"{",".join("x" * 501)}",a,b\n'.encode()), "")
+        self.expect(
+            "what is in quotes separates nothing",
+            reason(preparation.read, f'{NAMES}\n"{",".join("x" * 501)}",a,b\n'.encode()),
+            "",
+        )
 
     def test_bytes_of_a_line(self) -> None:
-        said = "line 2 has 100,{:03} bytes, and 100,000 are possible: is it a table, with an end of line after each row?"
+        said = (
+            "line 2 has 100,{:03} bytes, and 100,000 are possible: is it a table, with an end of line after each row?"
+        )
         head = NAMES.replace(",", "\t") + "\n"
         for name, data, wanted in (
-                ("100,000", head + "x" * 100_000, ""), ("100,001", head + "x" * 100_001, said.format(1)),
-                ("100,000 of two bytes each", head + "ä" * 50_000, ""),
-                ("100,002 of two bytes each", head + "ä" * 50_001, said.format(2)),
-                ("a line end counts for nothing", f"{head}{'x' * 100_000}\r\n", "")):
+            ("100,000", head + "x" * 100_000, ""),
+            ("100,001", head + "x" * 100_001, said.format(1)),
+            ("100,000 of two bytes each", head + "ä" * 50_000, ""),
+            ("100,002 of two bytes each", head + "ä" * 50_001, said.format(2)),
+            ("a line end counts for nothing", f"{head}{'x' * 100_000}\r\n", ""),
+        ):
             self.expect(name, reason(preparation.read, data.encode()), wanted)
         for count, wanted in ((50_000, ""), (50_001, said.format(2))):
-            self.expect(f"{count} characters of UTF-16", reason(preparation.read, (head + "x" * count).encode("utf-16")),
-                        wanted)
+            self.expect(
+                f"{count} characters of UTF-16", reason(preparation.read, (head + "x" * count).encode("utf-16")), wanted
+            )
 
     def test_bytes_of_a_row_in_lines(self) -> None:
         """A cell in quotes may have lines, as one has whose quote is not closed."""
         for count, wanted in ((99_998, ""), (99_999, "line 2: quotes that do not match")):
             cell = "\n".join(["x" * 1000] * 99 + ["x" * (count - 99_000)])
-            self.expect(f"{count} and two quotes", reason(preparation.read, f'{NAMES}\n"{cell}",\n'.encode()[:-2]
-                                                          + b"\n"), wanted)
+            self.expect(
+                f"{count} and two quotes",
+                reason(preparation.read, f'{NAMES}\n"{cell}",\n'.encode()[:-2] + b"\n"),
+                wanted,
+            )
 
     def test_lines(self) -> None:
         said = "it has 2,000,001 lines, and a table may have 2,000,000: is it a table of holdings?"
@@ -76,9 +88,10 @@ class Tables(Case):
 
     def test_web_page(self) -> None:
         """It begins within the first 10,000 characters."""
-        for count, wanted in ((10_000 - 7 - len("<html>"), "a web page, not a table"), (10_000 - 7, "")):
-            data = f"<!--{'x' * count}--><html>"
-            self.expect(f"after {count + 7}", texts.is_web_page(data), bool(wanted))
+        around = len("<!---->")
+        for end, wanted in ((10_000, True), (10_001, False)):
+            data = f"<!--{'x' * (end - around - len('<html'))}--><html>"
+            self.expect(f"its name ends with character {end}", texts.is_web_page(data), wanted)
 
 
 class Archives(Case):
@@ -87,8 +100,12 @@ class Archives(Case):
         said = "more than 256 MB when unpacked: ask the provider for smaller files"
         self.expect("256 MB", (limits.MOST_BYTES, reason(limits.check_size, 256 * 2**20)), (268_435_456, ""))
         self.expect("and a byte", reason(limits.check_size, 256 * 2**20 + 1), said)
+        packers: dict[str, Callable[[bytes], bytes]] = {
+            "gzip": gzip.compress,
+            "zip": lambda data: zipped(["table.txt"], data),
+        }
         with mock.patch.object(limits, "MOST_BYTES", 5000):
-            for name, pack in (("gzip", gzip.compress), ("zip", lambda data: zipped(["table.txt"], data))):
+            for name, pack in packers.items():
                 self.expect(f"the last, {name}", archives.unpacked(pack(bytes(5000))), bytes(5000))
                 self.expect(f"beyond, {name}", reason(archives.unpacked, pack(bytes(5001))), said)
                 with mock.patch.object(archives, "CHUNK", 100):
@@ -97,5 +114,8 @@ class Archives(Case):
     def test_members(self) -> None:
         names = [f"{number}.txt" for number in range(10_000)]
         self.expect("10,000", archives.unpacked(zipped(names), "77.txt"), b"text")
-        self.expect("10,001", reason(archives.unpacked, zipped([*names, "other"]), "77.txt"),
-                    "a zip file with more than 10,000 members: pack the table alone")
+        self.expect(
+            "10,001",
+            reason(archives.unpacked, zipped([*names, "other"]), "77.txt"),
+            "a zip file with more than 10,000 members: pack the table alone",
+        )

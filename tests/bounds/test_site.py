@@ -15,6 +15,7 @@ from bounds.refusals import reason
 from fixtures.cases import Case
 from fixtures.provider import Held
 from fixtures.provider import Provider
+from fixtures.provider import Step
 from fixtures.provider import reply
 from openlink_update import children
 from openlink_update.site import front_door
@@ -37,7 +38,8 @@ class TargetsFile(Case):
 
     def test_bytes(self) -> None:
         head = b'{"words": {"library": "'
-        for count, wanted in ((1_048_576, []), (1_048_577, ["more than 1,048,576 bytes"])):
+        cases: list[tuple[int, list[str]]] = [(1_048_576, []), (1_048_577, ["more than 1,048,576 bytes"])]
+        for count, wanted in cases:
             data = head + b"x" * (count - len(head) - 3) + b'"}}'
             self.expect(f"{len(data)} bytes", self.faults(data), wanted)
             with tempfile.TemporaryDirectory() as folder:
@@ -47,21 +49,25 @@ class TargetsFile(Case):
 
     def test_depth(self) -> None:
         self.expect("31", self.faults(nested(31)), [])
-        self.expect("32", [line.split("..: ")[1] for line in self.faults(nested(32))],
-                    ["more than 31 objects and lists in each other"])
+        self.expect(
+            "32",
+            [line.split("..: ")[1] for line in self.faults(nested(32))],
+            ["more than 31 objects and lists in each other"],
+        )
         self.expect("100,000", self.faults(nested(100_000)), ["more than 31 objects and lists in each other"])
 
     def test_faults_that_are_told(self) -> None:
         """Ten of those in the values; of a name 40 characters."""
         for count, wanted in ((10, 10), (11, 10)):
-            data = "[" + ", ".join(["NaN"] * count) + "]"
-            self.expect(f"{count} errors", len(self.faults(f'{{"a": {data}}}'.encode())), wanted)
+            values = "[" + ", ".join(["NaN"] * count) + "]"
+            self.expect(f"{count} errors", len(self.faults(f'{{"a": {values}}}'.encode())), wanted)
         for count in (40, 41):
-            data = f'{{"{"x" * count}": NaN}}'.encode()
-            self.expect(f"a name of {count}", self.faults(data), [f'"{"x" * 40}": NaN is no value of JSON'])
+            text = f'{{"{"x" * count}": NaN}}'
+            self.expect(f"a name of {count}", self.faults(text.encode()), [f'"{"x" * 40}": NaN is no value of JSON'])
 
     def test_names(self) -> None:
         """A target has 64 characters, a logo 60 before its ending, a part of a tag 8."""
+
         def faults(site: dict[str, object]) -> list[str]:
             return targets_file.faults_of(json.dumps({"groups": [{"name": "a"}], **site}).encode())
 
@@ -77,8 +83,10 @@ class TargetsFile(Case):
 def listening(*, answers: bool) -> Iterator[int]:
     """The port of a socket that takes connections, and answers with a report, or with nothing."""
     provider = Provider(has_tls=False)
-    held = Held()
-    provider.steps = {"/report?rft.issn=0000-0000": [reply(200, b"press\tno row\n") if answers else held]}
+    step: Step = Held()
+    if answers:
+        step = reply(200, b"press\tno row\n")
+    provider.steps = {"/report?rft.issn=0000-0000": [step]}
     try:
         yield int(provider.address("").rpartition(":")[2])
     finally:
@@ -94,16 +102,20 @@ class Times(Case):
         with listening(answers=False) as port, mock.patch.object(processes, "_SECONDS_FOR_A_REPLY", 0.3):
             self.expect("one that hangs", processes._answers(port), False)
             group = processes.Processes([port], "true", "true", 0.5)
-            self.expect("the run says so", reason(group.restart_all, ["press"]),
-                        f"the process at port {port} does not answer within 0.5 seconds: timed out")
+            self.expect(
+                "the run says so",
+                reason(group.restart_all, ["press"]),
+                f"the process at port {port} does not answer within 0.5 seconds: timed out",
+            )
             self.expect("all are down", group.is_down())
 
     def test_restart(self) -> None:
         self.expect("seconds", processes._SECONDS_TO_RESTART, 120)
         self.expect("a command that ends", reason(processes.run, ["true"]), "")
         with mock.patch.object(processes, "_SECONDS_TO_RESTART", 0.3):
-            self.expect("one that hangs", reason(processes.run, ["sleep", "1000"]),
-                        "sleep 1000: no end after 0.3 seconds")
+            self.expect(
+                "one that hangs", reason(processes.run, ["sleep", "1000"]), "sleep 1000: no end after 0.3 seconds"
+            )
 
     def test_reply_for_a_probe(self) -> None:
         self.expect("seconds", probes._SECONDS, 10)
@@ -112,8 +124,11 @@ class Times(Case):
                 probes._get(f"http://127.0.0.1:{port}", "/report?rft.issn=0000-0000")
             self.expect("one that hangs", str(fault.exception), f"http://127.0.0.1:{port}: timed out")
         with listening(answers=True) as port:
-            self.expect("one that answers", probes._get(f"http://127.0.0.1:{port}", "/report?rft.issn=0000-0000"),
-                        (200, "press\tno row\n"))
+            self.expect(
+                "one that answers",
+                probes._get(f"http://127.0.0.1:{port}", "/report?rft.issn=0000-0000"),
+                (200, "press\tno row\n"),
+            )
 
     def test_loading_of_a_version(self) -> None:
         """A process that never listens is ended; its message is told."""
@@ -141,6 +156,7 @@ class Times(Case):
         """SIGTERM, and SIGKILL ten seconds later for a child that ignores it."""
         script = "import signal; signal.signal(signal.SIGTERM, signal.SIG_IGN); print(1, flush=True); signal.pause()"
         child = children.start([sys.executable, "-S", "-c", script], "/", stdout=subprocess.PIPE)
+        assert child.stdout
         child.stdout.readline()
         waited: list[float] = []
         wait = child.wait

@@ -1,6 +1,8 @@
 """Tables of targets: how many of their rows may be dropped or reversed, and how large a part may be."""
 from __future__ import annotations
 
+import datetime
+
 from bounds.refusals import reason
 from fixtures.cases import Case
 from openlink_update.tables import cells
@@ -26,10 +28,16 @@ class Rows(Case):
             self.expect(f"{most} of {rows}", dropped_rows.reasons_against([row] * most, rows, ()), [])
             self.expect(f"{most + 1} of {rows}", len(dropped_rows.reasons_against([row] * (most + 1), rows, ())), 1)
         for allowed, most in (("dropped up to 7", 7), ("dropped up to 7%", 70), ("dropped up to 999999999", 999)):
-            self.expect(allowed, [len(dropped_rows.reasons_against([row] * count, 1000, {allowed}))
-                                  for count in (most, most + 1)], [0, 0 if most == 999 else 1])
-        self.expect("ten digits are no limit", len(dropped_rows.reasons_against([row] * 21, 1000,
-                                                                                {"dropped up to 9999999999"})), 1)
+            self.expect(
+                allowed,
+                [len(dropped_rows.reasons_against([row] * count, 1000, {allowed})) for count in (most, most + 1)],
+                [0, 0 if most == 999 else 1],
+            )
+        self.expect(
+            "ten digits are no limit",
+            len(dropped_rows.reasons_against([row] * 21, 1000, {"dropped up to 9999999999"})),
+            1,
+        )
 
     def test_reversed(self) -> None:
         pair = ("2000", "1990")
@@ -42,14 +50,21 @@ class Rows(Case):
         self.expect("101 of a row", dropped_rows.shown(["x" * 100 + "y"]), "x" * 100)
         for text, wanted in (("x" * 40, "x" * 40), ("x" * 40 + "y", "x" * 40)):
             table = Table(HEADER, [["a", "1234-5679", "", text]])
-            lines = coverage.served(table, coverage.datetime.date(2026, 11, 1))[1]
-            self.expect(f"{len(text)} of an embargo", lines,
-                        [f'embargo_info not an embargo 1, first 0 "{wanted}": not used'])
+            lines = coverage.served(table, datetime.date(2026, 11, 1))[1]
+            self.expect(
+                f"{len(text)} of an embargo", lines, [f'embargo_info not an embargo 1, first 0 "{wanted}": not used']
+            )
 
     def test_shortest_identifier_with_words(self) -> None:
         """Ten characters are the least that an ISBN, or a number with a word after it, has."""
-        for cell, wanted in (("1234567 E.", "1234567 E."), ("12345679 (o)", "12345679"), ("0306406152", "9780306406157"),
-                             ("030640615", "030640615"), ("12345679 a", "12345679"), ("12345679a", "12345679a")):
+        for cell, wanted in (
+            ("1234567 E.", "1234567 E."),
+            ("12345679 (o)", "12345679"),
+            ("0306406152", "9780306406157"),
+            ("030640615", "030640615"),
+            ("12345679 a", "12345679"),
+            ("12345679a", "12345679a"),
+        ):
             rows = [[cell]]
             for step in cells.STEPS:
                 rows, _ = step(["print_identifier"], rows)
@@ -86,7 +101,8 @@ class Parts(Case):
     def test_name_of_a_part(self) -> None:
         table = self.table(200_001, 1)
         self.expect("64 bytes", reason(parts.parts_of, "a" * 62, table, 1), "")
-        self.expect("65", reason(parts.parts_of, "a" * 63, table, 1),
-                    f"it has 2 parts, and the name {'a' * 63}.2 is too long")
+        self.expect(
+            "65", reason(parts.parts_of, "a" * 63, table, 1), f"it has 2 parts, and the name {'a' * 63}.2 is too long"
+        )
         for name, base in (("a.2", "a"), ("a.999", "a"), ("a.1", "a.1"), ("a.1000", "a.1000"), ("a.02", "a.02")):
             self.expect(name, parts.base_of(name), base)

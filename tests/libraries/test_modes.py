@@ -19,15 +19,35 @@ class Modes(Case):
         for umask in UMASKS:
             with Machine() as machine:
                 port = free_ports(3)
-                done = subprocess.run([*with_umask(umask), sys.executable, "-S", "-B", f"{machine.share}/library",
-                                       "--root", machine.folder, "add", "east", "east.example.org", "--ports",
-                                       str(port), "--mail", "east@example.org"], env=machine.environment,
-                                      capture_output=True, text=True)
+                done = subprocess.run(
+                    [
+                        *with_umask(umask),
+                        sys.executable,
+                        "-S",
+                        "-B",
+                        f"{machine.share}/library",
+                        "--root",
+                        machine.folder,
+                        "add",
+                        "east",
+                        "east.example.org",
+                        "--ports",
+                        str(port),
+                        "--mail",
+                        "east@example.org",
+                    ],
+                    env=machine.environment,
+                    capture_output=True,
+                    text=True,
+                )
                 self.expect(f"umask {umask}: {done.stdout}{done.stderr}", done.returncode, 0)
-                for folder in (machine.path("etc/openlink/east"),
-                               machine.path(f"etc/systemd/system/openlink@{port + 1}.service.d")):
+                for folder in (
+                    machine.path("etc/openlink/east"),
+                    machine.path(f"etc/systemd/system/openlink@{port + 1}.service.d"),
+                ):
                     self.expect(f"umask {umask}: {folder}", modes_below(folder), ({0o755}, {0o644}))
-                self.expect(f"umask {umask}: the sites of nginx", modes_below(machine.path("etc/nginx/conf.d"))[1],
-                            {0o644})
+                self.expect(
+                    f"umask {umask}: the sites of nginx", modes_below(machine.path("etc/nginx/conf.d"))[1], {0o644}
+                )
                 logs = [machine.path("var/log/nginx", f"openlink.east.{it}") for it in ("log", "wanted.log")]
                 self.expect(f"umask {umask}: the logs", [mode_of(it) for it in logs], [0o640] * 2)

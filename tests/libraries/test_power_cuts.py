@@ -24,8 +24,12 @@ class PowerCuts(Case):
         """Follows a command that changes the libraries of a machine."""
         folders = [machine.path(it) for it in ("etc/openlink", "etc/systemd", "etc/nginx/conf.d")]
         trace = Trace(machine.path("calls.log"), *folders)
-        done = subprocess.run([*trace.before, sys.executable, "-S", "-B", f"{machine.share}/library", "--root",
-                               machine.folder, *words], env=machine.environment, capture_output=True, text=True)
+        done = subprocess.run(
+            [*trace.before, sys.executable, "-S", "-B", f"{machine.share}/library", "--root", machine.folder, *words],
+            env=machine.environment,
+            capture_output=True,
+            text=True,
+        )
         self.expect(f"{words}: {done.stdout}{done.stderr}", done.returncode, 0)
         calls = trace.calls()
         self.expect(f"{words}: it waits for the disk", sum(call.is_sync() for call in calls) > 1)
@@ -35,7 +39,9 @@ class PowerCuts(Case):
 
     def test_add_and_remove(self) -> None:
         with Machine() as machine:
-            self.followed(machine, "add", "east", "east.example.org", "--ports", str(free_ports(3)), "--mail", "a@b.org")
+            self.followed(
+                machine, "add", "east", "east.example.org", "--ports", str(free_ports(3)), "--mail", "a@b.org"
+            )
             self.expect("the library", os.path.exists(machine.path("etc/openlink/east/site.conf")))
             self.followed(machine, "add", "west", "west.example.org", "--ports", str(free_ports(3)))
             os.mkdir(machine.path("etc/openlink/east/versions"))

@@ -42,8 +42,11 @@ class Modes(Case):
             machine = self.machine(umask)
             machine.in_folder(machines._DRAIN)
             machine.name_delivery(STAMP)
-            self.expect(f"umask {umask}", {path.name: mode_of(str(path)) for path in machine.folder.iterdir()},
-                        {"drain": 0o644, "delivery": 0o644})
+            self.expect(
+                f"umask {umask}",
+                {path.name: mode_of(str(path)) for path in machine.folder.iterdir()},
+                {"drain": 0o644, "delivery": 0o644},
+            )
             machine.ask()
             self.expect("its delivery", machine.delivery, STAMP)
 

@@ -35,12 +35,16 @@ class PowerCuts(Case):
             status, printed = ended(one.begin(*one.words_to(two, *words), before=(*trace.before, *PYTHON)))
             self.expect(f"{name}: {printed}", (status, two.current()), (0, one.current()))
             calls = trace.calls()
-            for place, folder in zip(("here", "there"), folders):
-                self.expect(f"{name}: {place}", left(trace.losses(folder, calls)), Losses([], [], []))
-            named = [place for place, call in enumerate(calls) if call.name == "fsync" and
-                     call.paths[0] in (f"{two.folder}/delivery.new", f"{one.folder}/delivery.new",
-                                       f"{one.folder}/probes.tsv.new")]
+            for side, folder in zip(("here", "there"), folders):
+                self.expect(f"{name}: {side}", left(trace.losses(folder, calls)), Losses([], [], []))
+            named = [
+                place
+                for place, call in enumerate(calls)
+                if call.name == "fsync"
+                and call.paths[0]
+                in (f"{two.folder}/delivery.new", f"{one.folder}/delivery.new", f"{one.folder}/probes.tsv.new")
+            ]
             self.expect(f"{name}: files that are waited for", len(named), 3)
             for place in named:
-                without = [left(trace.losses(folder, calls[:place] + calls[place + 1:])) for folder in folders]
+                without = [left(trace.losses(folder, calls[:place] + calls[place + 1 :])) for folder in folders]
                 self.expect(f"{name}: without {calls[place]}", without != [Losses([], [], [])] * 2)

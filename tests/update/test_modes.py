@@ -27,7 +27,8 @@ class _Library(Library):
     umask = "077"
 
     def begin(self, *options: str, before: tuple[str, ...] = PYTHON, **how: str) -> "subprocess.Popen[str]":
-        return super().begin(*options, before=(*with_umask(self.umask), *before), **how)
+        child: subprocess.Popen[str] = super().begin(*options, before=(*with_umask(self.umask), *before), **how)
+        return child
 
 
 @needs.nginx()
@@ -63,7 +64,9 @@ class FetchedModes(Case):
             names = ("table.txt", "below/it/table.txt", "private.txt")
             folder.write("private.txt", "old\n")
             os.chmod(folder.path("private.txt"), 0o600)
-            folder.write("sources.tsv", "".join(f"{name}\t{provider.address('/table')}\tplain http\n" for name in names))
+            folder.write(
+                "sources.tsv", "".join(f"{name}\t{provider.address('/table')}\tplain http\n" for name in names)
+            )
             status, printed = folder.fetch(before=with_umask(umask))
             self.expect(f"umask {umask}: {printed}", status, 0)
             self.expect(f"umask {umask}: tables", [mode_of(folder.path(name)) for name in names], [0o644] * 3)
@@ -82,8 +85,11 @@ class FetchedModes(Case):
         for mode in (0o640, 0o620, 0o610, 0o604, 0o602, 0o601, 0o644):
             os.chmod(folder.path("secrets.tsv"), mode)
             status, printed = folder.fetch()
-            self.expect(f"mode {mode:o}: {printed}", (status, "others than its owner may read it: chmod 600" in printed),
-                        (1, True))
+            self.expect(
+                f"mode {mode:o}: {printed}",
+                (status, "others than its owner may read it: chmod 600" in printed),
+                (1, True),
+            )
         self.expect("requests", provider.asked(), [])
         for mode in (0o600, 0o400):
             os.chmod(folder.path("secrets.tsv"), mode)

@@ -49,9 +49,14 @@ def left(losses: Losses) -> Losses:
 def without_each_sync(trace: Trace, folder: str, calls: list[Call]) -> list[tuple[int, Losses]]:
     """What is lost if one of the calls that wait for the disk is left out, of those that are not for a version that is
     being made: it is on the disk by one call at its end."""
-    places = [place for place, call in enumerate(calls) if call.is_sync() and call.paths[0].startswith(folder)
-              and (call.name == "syncfs" or ".new/" not in call.paths[0])]
-    return [(place, left(trace.losses(folder, calls[:place] + calls[place + 1:]))) for place in places]
+    places = [
+        place
+        for place, call in enumerate(calls)
+        if call.is_sync()
+        and call.paths[0].startswith(folder)
+        and (call.name == "syncfs" or ".new/" not in call.paths[0])
+    ]
+    return [(place, left(trace.losses(folder, calls[:place] + calls[place + 1 :]))) for place in places]
 
 
 class Calls(Case):
@@ -63,19 +68,27 @@ class Calls(Case):
         early = ["/f/a gets its name, and /f/a.new is not on the disk"]
         other = [f"/f/{it}, and /f/a is not on the disk" for it in ("sub/b gets its name", "c is removed")]
         for name, gone, expected in (
-                ("no sync of the file", (2, 4), Losses(early, ["/f/a"], [])),
-                ("no sync of the folder", (6,), Losses(other, [], [])),
-                ("no sync of the folder below", (8,), Losses(
-                    ["/f/c is removed, and /f/sub/b is not on the disk"], ["/f/sub/b"], [])),
-                ("no sync after the removal", (10,), Losses([], [], ["/f/c"]))):
+            ("no sync of the file", (2, 4), Losses(early, ["/f/a"], [])),
+            ("no sync of the folder", (6,), Losses(other, [], [])),
+            (
+                "no sync of the folder below",
+                (8,),
+                Losses(["/f/c is removed, and /f/sub/b is not on the disk"], ["/f/sub/b"], []),
+            ),
+            ("no sync after the removal", (10,), Losses([], [], ["/f/c"])),
+        ):
             log = "\n".join(line for place, line in enumerate(lines) if place not in gone)
             self.expect(name, disk_calls.losses(disk_calls.calls_in(log), "/f", _NAMES), expected)
 
     def test_late_writes(self) -> None:
         """A file that is written to after its sync is not on the disk, by whichever call it is written."""
-        for call in ('write(3</f/a.new>, ""..., 1) = 1', 'sendfile(3</f/a.new>, 5</f/c>, [0] => [1], 8) = 1',
-                     'copy_file_range(5</f/c>, NULL, 3</f/a.new>, NULL, 8, 0) = 8', 'ftruncate(3</f/a.new>, 0) = 0',
-                     'openat(AT_FDCWD</f>, "a.new", O_WRONLY|O_TRUNC) = 6</f/a.new>'):
+        for call in (
+            'write(3</f/a.new>, ""..., 1) = 1',
+            "sendfile(3</f/a.new>, 5</f/c>, [0] => [1], 8) = 1",
+            "copy_file_range(5</f/c>, NULL, 3</f/a.new>, NULL, 8, 0) = 8",
+            "ftruncate(3</f/a.new>, 0) = 0",
+            'openat(AT_FDCWD</f>, "a.new", O_WRONLY|O_TRUNC) = 6</f/a.new>',
+        ):
             lines = _LOG.splitlines()
             lines.insert(5, f"1 {call}")
             found = disk_calls.losses(disk_calls.calls_in("\n".join(lines)), "/f", _NAMES)
@@ -92,8 +105,13 @@ class PowerCuts(Case):
         with Library(probes=2) as library:
             library.input.deliver("B")
             library.input.add_row("coastal-law", b"Walls\t3040-0005\t\t2000\t\t\t\t\t\thttps://x.example.org\t\tw\tP9M")
-            for name, options, syncs in (("a week", (), 7), ("back", ("--back",), 3), ("forward", (), 7),
-                                         ("nothing new", (), 2), ("walls", ("--walls",), 5)):
+            for name, options, syncs in (
+                ("a week", (), 7),
+                ("back", ("--back",), 3),
+                ("forward", (), 7),
+                ("nothing new", (), 2),
+                ("walls", ("--walls",), 5),
+            ):
                 if name == "walls":
                     path = library.path("current", "tables", "coastal-law.txt")
                     with open(path, "r+", encoding="utf-8") as file:
@@ -101,8 +119,9 @@ class PowerCuts(Case):
                         file.seek(0)
                         file.write(text.replace(text.splitlines()[-1].split("\t")[-1], "20200229"))
                 trace, calls, (status, printed) = followed(library, *options)
-                self.expect(f"{name}: {printed}", (status, left(trace.losses(library.folder, calls))),
-                            (0, Losses([], [], [])))
+                self.expect(
+                    f"{name}: {printed}", (status, left(trace.losses(library.folder, calls))), (0, Losses([], [], []))
+                )
                 spoilt = without_each_sync(trace, library.folder, calls)
                 self.expect(f"{name}: calls that wait for the disk", len(spoilt), syncs)
                 for number, (place, losses) in enumerate(spoilt):
@@ -121,15 +140,19 @@ class Fetched(Case):
         self.addCleanup(folder.close)
         provider.steps = {"/new": [reply(200, TABLE)], "/changed": [reply(200, TABLE)]}
         folder.write("changed.txt", "old\n")
-        folder.write("sources.tsv", "".join(f"{name}.txt\t{provider.address(f'/{name}')}\tplain http\n"
-                                            for name in ("new", "changed")))
+        folder.write(
+            "sources.tsv",
+            "".join(f"{name}.txt\t{provider.address(f'/{name}')}\tplain http\n" for name in ("new", "changed")),
+        )
         self.expect("the folder of the fetch", folder.fetch("new.txt")[0], 0)
         provider.steps["/new"] = [reply(200, TABLE + TABLE.splitlines(True)[1])]
         with tempfile.TemporaryDirectory() as aside:
             trace = Trace(f"{aside}/calls", folder.folder)
             status, printed = folder.fetch(before=trace.before)
             calls = trace.calls()
-        self.expect(f"two files: {printed}", (status, left(trace.losses(folder.folder, calls))), (0, Losses([], [], [])))
+        self.expect(
+            f"two files: {printed}", (status, left(trace.losses(folder.folder, calls))), (0, Losses([], [], []))
+        )
         spoilt = without_each_sync(trace, folder.folder, calls)
         self.expect("calls that wait for the disk", len(spoilt), 8)  # file and folder, of two files and two states
         for place, losses in spoilt:

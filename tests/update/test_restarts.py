@@ -21,12 +21,17 @@ class Restarts(Case):
             library.input.names.remove("book-house")
             library.input.write_list()
             status, printed = library.run("--seconds", "1", restart="true")
-            self.expect(f"a command that does nothing: {printed}",
-                        (status, library.current(), library.weeks_served(), library.left_behind()),
-                        (3, first, {"A"}, []))
-            self.expect_lines("why", printed,
-                              f"openlink-update: the process at port {port} does not answer within 1 seconds: {OLD_ONE}",
-                              f"{first} is in use again")
+            self.expect(
+                f"a command that does nothing: {printed}",
+                (status, library.current(), library.weeks_served(), library.left_behind()),
+                (3, first, {"A"}, []),
+            )
+            self.expect_lines(
+                "why",
+                printed,
+                f"openlink-update: the process at port {port} does not answer within 1 seconds: {OLD_ONE}",
+                f"{first} is in use again",
+            )
             status, printed = library.run()
             self.expect(f"a command that restarts: {printed}", (status, len(library.names())), (0, 4))
 
@@ -39,8 +44,13 @@ class Restarts(Case):
             library.input.write_list()
             restart = f"sh -c '[ PORT = {port} ] || exec {library.restart}'"
             status, printed = library.run("--seconds", "1", restart=restart)
-            self.expect(f"one that does nothing: {printed}",
-                        (status, library.current(), library.weeks_served(), library.left_behind()),
-                        (3, first, {"A"}, []))
-            self.expect_lines("why", printed,
-                              f"openlink-update: the process at port {port} does not answer within 1 seconds: {OLD_ONE}")
+            self.expect(
+                f"one that does nothing: {printed}",
+                (status, library.current(), library.weeks_served(), library.left_behind()),
+                (3, first, {"A"}, []),
+            )
+            self.expect_lines(
+                "why",
+                printed,
+                f"openlink-update: the process at port {port} does not answer within 1 seconds: {OLD_ONE}",
+            )

@@ -23,8 +23,10 @@ _LASTING = (400, 401, 403, 404, 405, 410, 451, 501, 505)
 
 
 def kept(reason: str) -> str:
-    return (f"table.txt: not fetched, and there is no old file: {reason}\n"
-            "1 file asked for, 0 new or changed, 1 not fetched\n")
+    return (
+        f"table.txt: not fetched, and there is no old file: {reason}\n"
+        "1 file asked for, 0 new or changed, 1 not fetched\n"
+    )
 
 
 @needs.command("curl", "openssl")
@@ -42,7 +44,7 @@ class Retries(Case):
         self.addCleanup(self.folder.close)
         self.provider.asked()
 
-    def to(self, path: str, host: int = 0) -> object:
+    def to(self, path: str, host: int = 0) -> Step:
         return reply(302, Location=self.provider.address(path, host))
 
     def fetched(self, path: str, *words: str, options: str = "") -> tuple[int | None, str]:
@@ -54,15 +56,25 @@ class Retries(Case):
         """The first try is led to an address that fails. The second begins at the first address and not there: it may
         be led elsewhere, as where each address is signed for a while. A header goes to the first host alone."""
         provider = self.provider
-        provider.steps = {"/table": [self.to("/signed-1"), self.to("/signed-2", 1)], "/signed-1": [reply(500)],
-                          "/signed-2": [reply(200, TABLE)]}
+        provider.steps = {
+            "/table": [self.to("/signed-1"), self.to("/signed-2", 1)],
+            "/signed-1": [reply(500)],
+            "/signed-2": [reply(200, TABLE)],
+        }
         self.folder.write("secrets.tsv", "key\ts3cr3t\n")
         os.chmod(self.folder.path("secrets.tsv"), 0o600)
         self.expect("the file", self.fetched("/table", options="header X-Key: {key}"), (0, FETCHED))
         keys = [request.headers.get("x-key") for request in provider.requests]
-        self.expect("the requests", list(zip(provider.asked(), keys)), [
-            ((HOSTS[0], "/table"), "s3cr3t"), ((HOSTS[0], "/signed-1"), "s3cr3t"), ((HOSTS[0], "/table"), "s3cr3t"),
-            ((HOSTS[1], "/signed-2"), None)])
+        self.expect(
+            "the requests",
+            list(zip(provider.asked(), keys)),
+            [
+                ((HOSTS[0], "/table"), "s3cr3t"),
+                ((HOSTS[0], "/signed-1"), "s3cr3t"),
+                ((HOSTS[0], "/table"), "s3cr3t"),
+                ((HOSTS[1], "/signed-2"), None),
+            ],
+        )
 
     def test_redirects_of_each_try(self) -> None:
         """Five redirects are followed in each try, not in all tries together; six in none."""
@@ -79,7 +91,9 @@ class Retries(Case):
     def all_fetched(self, steps: dict[str, list[Step]]) -> tuple[int | None, list[str]]:
         """The end of a run that fetches a file from each path, and the lines that it prints but the last."""
         self.provider.steps = {f"/{name}": list(these) for name, these in steps.items()}
-        self.folder.write("sources.tsv", "".join(f"{name}.txt\t{self.provider.address(f'/{name}')}\n" for name in steps))
+        self.folder.write(
+            "sources.tsv", "".join(f"{name}.txt\t{self.provider.address(f'/{name}')}\n" for name in steps)
+        )
         status, printed = self.folder.fetch()
         return status, printed.splitlines()[:-1]
 
@@ -89,21 +103,32 @@ class Retries(Case):
         status, lines = self.all_fetched({str(it): [reply(it)] for it in statuses})
         self.expect("the status", status, 1)
         for it, line in zip(statuses, lines):
-            self.expect(f"what is said of {it}", line.startswith(f"{it}.txt: not fetched, and there is no old file: {it}"))
+            self.expect(
+                f"what is said of {it}", line.startswith(f"{it}.txt: not fetched, and there is no old file: {it}")
+            )
         asked = [path for _, path in self.provider.asked()]
-        self.expect("tries of each", {it: asked.count(f"/{it}") for it in statuses},
-                    {**dict.fromkeys(_PASSING, 3), **dict.fromkeys(_LASTING, 1)})
+        self.expect(
+            "tries of each",
+            {it: asked.count(f"/{it}") for it in statuses},
+            {**dict.fromkeys(_PASSING, 3), **dict.fromkeys(_LASTING, 1)},
+        )
 
     def test_third_try(self) -> None:
         """A reply that is missing, cut short, or of a server in trouble, twice; then a whole one. A fourth try is not
         made."""
         steps = {"none": close, "trouble": reply(503), "part": cut(TABLE[:50], 100)}
         reasons = {"none": "no reply", "trouble": "503 Service Unavailable", "part": "ended after 50 of 100 bytes"}
-        self.expect("twice", self.all_fetched({name: [it, it, reply(200, TABLE)] for name, it in steps.items()}),
-                    (0, [f"{name}.txt: new, {len(TABLE)} bytes" for name in steps]))
+        self.expect(
+            "twice",
+            self.all_fetched({name: [it, it, reply(200, TABLE)] for name, it in steps.items()}),
+            (0, [f"{name}.txt: new, {len(TABLE)} bytes" for name in steps]),
+        )
         self.expect("tries", len(self.provider.asked()), 9)
-        self.expect("three times", self.all_fetched({name: [it, it, it, reply(200)] for name, it in steps.items()}),
-                    (1, [f"{name}.txt: kept the old file: {reason}" for name, reason in reasons.items()]))
+        self.expect(
+            "three times",
+            self.all_fetched({name: [it, it, it, reply(200)] for name, it in steps.items()}),
+            (1, [f"{name}.txt: kept the old file: {reason}" for name, reason in reasons.items()]),
+        )
         self.expect("tries then", len(self.provider.asked()), 9)
 
     def test_held(self) -> None:
@@ -114,8 +139,11 @@ class Retries(Case):
         for name, held in (("nothing", Held()), ("a part", Held(head + TABLE)), ("drops", Held(head, b"x"))):
             self.provider.steps = {"/table": [held]}
             status, printed = self.fetched("/table", "--seconds", seconds)
-            self.expect(f"{name}: {printed}", (status, "no old file: no end, after " in printed,
-                                               f" bytes, within {seconds} seconds\n" in printed), (1, True, True))
+            self.expect(
+                f"{name}: {printed}",
+                (status, "no old file: no end, after " in printed, f" bytes, within {seconds} seconds\n" in printed),
+                (1, True, True),
+            )
             self.expect(f"{name}: the connection is closed", wait_until(held.has_ended.is_set))
             self.expect(f"{name}: requests", len(self.provider.asked()), 1)
             self.expect(f"{name}: nothing is left", self.folder.read("table.txt"), None)
