@@ -1,6 +1,6 @@
-"""The list of all limits, bounds.tsv: its lines have a file, a name, a value, and the test that tries the last good value
-and the first one beyond it. In place of a test, `no bound` says why a number is none, and `not tried` that no test tries
-it yet."""
+"""The list of all limits, bounds.tsv: its lines have a file, a name, a value, and the test that tries the last good
+value and the first one beyond it. In place of a test, `no bound` says why a number is none, and `not tried` that no
+test tries it yet."""
 from __future__ import annotations
 
 import ast

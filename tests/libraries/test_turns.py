@@ -51,8 +51,8 @@ class Turns(Case):
             self.expect(f"{words}", machine.update(*words)[0], 2)
 
     def test_signals(self) -> None:
-        """A signal ends the turns; the library whose turn it is goes back, and says so. A killed update is the matter of
-        its library."""
+        """A signal ends the turns; the library whose turn it is goes back, and says so. A killed update is the matter
+        of its library."""
         machine, libraries = self.machine, self.libraries
         east, north, west = libraries
         deliver(libraries, "B")
