@@ -145,7 +145,7 @@ class OfWords(Case):
         """Once there are ANY_NEW different words, a title brings four at most; those that others have count always."""
         kept, word_sets.ANY_NEW = word_sets.ANY_NEW, 10
         try:
-            for first, wanted in ((5, 5), (6, 4)):
+            for first, wanted in ((5, 5), (6, 4), (10, 4)):
                 old = [f"old{number}" for number in range(first)]
                 new = [f"new{number}" for number in range(5)]
                 pages = [("o", [title(" ".join(old)), title(" ".join([*new, old[0]]))])]
