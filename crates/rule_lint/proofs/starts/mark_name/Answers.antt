@@ -1,4 +1,4 @@
-use Rattle.std.proofs.Common.{arith, ◌≤◌, ◌∙◌, drop}
+use Rattle.std.proofs.Common.{arith, ◌∙◌, drop}
 use Rattle.rule_lint.specs.Private.Starts.{name_hash, lower_case, without}
 use Rattle.rule_lint.proofs.starts.mark_name.Goals as goal
 
@@ -15,19 +15,3 @@ loop-i-preserved c =
       unprefixed = omega (arith, mark.kept (name_hash (drop 4 name)), inv.unprefixed);
       shorter = λ j below. grind (arith, below, mark.kept (name_hash (without name j)), inv.shorter j, mark.marked, c.hash_without.ensures);
     }
-
-pub returns-clause-marked : goal.returns-clause-marked
-returns-clause-marked c =
-    let inv = c.loop-i.invariant in
-    record {
-      whole = inv.whole;
-      lowered = inv.lowered;
-      unprefixed = inv.unprefixed;
-      shorter = λ j below. inv.shorter j (omega (arith, below, c.loop-i-test.false));
-    }
-
-pub returns-clause-kept : goal.returns-clause-kept
-returns-clause-kept c = c.loop-i.invariant.kept
-
-pub returns-clause-size : goal.returns-clause-size
-returns-clause-size c = c.loop-i.invariant.size
