@@ -12,7 +12,7 @@ use rule_parser::{RuleError, RuleErrorKind};
 use std::alloc::AllocError;
 use std::process::Abort;
 use uri_grammar::{TemplateError, TemplateErrorKind};
-use verifier::{FormFault, LoadError};
+use verifier::LoadError;
 
 /// Fails unless the status and the text are these.
 fn same<R: Abort>(rt: &R, found: (u8, &str), expected: (u8, &str)) {
@@ -131,31 +131,32 @@ fn errors_of_code_files(rt: HostRuntime) -> Result<(), AllocError> {
     Ok(())
 }
 
-/// The same for an instruction's form.
-const FORMS: [(FormFault, &str); 13] = [
-    (FormFault::UnknownOp, "UnknownOp"),
-    (FormFault::BadField, "BadField"),
-    (FormFault::BadRegister, "BadRegister"),
-    (FormFault::BadIndex, "BadIndex"),
-    (FormFault::WrongTableKind, "WrongTableKind"),
-    (FormFault::JumpNotForward, "JumpNotForward"),
-    (FormFault::JumpOut, "JumpOut"),
-    (FormFault::CrossesLoop, "CrossesLoop"),
-    (FormFault::NestedLoop, "NestedLoop"),
-    (FormFault::BadLoop, "BadLoop"),
-    (FormFault::StrayNext, "StrayNext"),
-    (FormFault::StraySep, "StraySep"),
-    (FormFault::FallsOff, "FallsOff"),
+/// The same for code that is loaded.
+const LOADED: [(LoadError, &str); 14] = [
+    (LoadError::UnknownOp(0), "load: UnknownOp at 0"),
+    (LoadError::BadField(1), "load: BadField at 1"),
+    (LoadError::BadRegister(2), "load: BadRegister at 2"),
+    (LoadError::BadIndex(3), "load: BadIndex at 3"),
+    (LoadError::WrongTableKind(4), "load: WrongTableKind at 4"),
+    (LoadError::JumpNotForward(5), "load: JumpNotForward at 5"),
+    (LoadError::JumpOut(6), "load: JumpOut at 6"),
+    (LoadError::CrossesLoop(7), "load: CrossesLoop at 7"),
+    (LoadError::NestedLoop(8), "load: NestedLoop at 8"),
+    (LoadError::BadLoop(9), "load: BadLoop at 9"),
+    (LoadError::StrayNext(10), "load: StrayNext at 10"),
+    (LoadError::StraySep(11), "load: StraySep at 11"),
+    (LoadError::FallsOff(4095), "load: FallsOff at 4095"),
+    (
+        LoadError::KindMismatch(13, 2),
+        "load: KindMismatch at 13, r2",
+    ),
 ];
 
 #[test]
 fn errors_of_code(rt: HostRuntime) -> Result<(), AllocError> {
-    for (fault, word) in FORMS {
-        let refusal = Refusal::Load(LoadError::Form(fault, 4095));
-        refuses_with(&rt, refusal, "load: ", word, " at 4095")?;
+    for (error, line) in LOADED {
+        refuses(&rt, Refusal::Load(error), 3, line)?;
     }
-    let refusal = Refusal::Load(LoadError::KindMismatch(13, 2));
-    refuses(&rt, refusal, 3, "load: KindMismatch at 13, r2")?;
     let refusal = Refusal::OverBudget(1_200_000);
     refuses(&rt, refusal, 3, "over budget: 1200000")
 }
@@ -196,7 +197,7 @@ fn errors_of_targets(rt: HostRuntime) -> Result<(), AllocError> {
     for (kind, line) in ADDED {
         of_target(&rt, TargetFault::Add(kind), 3, line)?;
     }
-    let load = TargetFault::Load(LoadError::Form(FormFault::BadIndex, 3));
+    let load = TargetFault::Load(LoadError::BadIndex(3));
     of_target(&rt, load, 3, "target a: load: BadIndex at 3")?;
     let path = String::from_str(rt.alloc(), "a.olk")?;
     of_target(&rt, TargetFault::Device(path), 4, "target a: device: a.olk")

@@ -14,6 +14,7 @@ use Rattle.code_file.specs.declared.error.CodeError.{CodeError}
 use Rattle.code_file.specs.declared.error.CodeErrorKind.{CodeErrorKind}
 use Rattle.code_file.specs.declared.error.CodeErrorKind.TheVariants.{TooMany, NoCode, NoMemory}
 use Rattle.machine_model.specs.declared.form.FormFault.{FormFault}
+use Rattle.machine_model.specs.declared.form.FormFault.TheVariants as form
 use Rattle.machine_model.specs.First.{Located}
 use Rattle.machine_model.specs.Operands.{is_link_text, text_of_literal}
 use Rattle.machine_model.specs.Form.{HasGoodForm, first_form_fault}
@@ -23,7 +24,7 @@ use Rattle.machine_model.specs.Safe.{IsFileCode}
 use Rattle.verifier.specs.declared.error.LoadError.{LoadError}
 use Rattle.verifier.specs.declared.error.LoadError.TheVariants as load
 use Rattle.verifier.specs.Private.Checks.{located_of}
-use Rattle.verifier.specs.Faults.{mismatch_error, read_error, IsLoadFault, IsCodeRefusal}
+use Rattle.verifier.specs.Faults.{form_error, mismatch_error, read_error, IsLoadFault, IsCodeRefusal}
 use Rattle.verifier.specs.Faults as faults
 
 -- ---- a first error is never out of memory
@@ -86,12 +87,16 @@ code_refused bytes c e file (IsCodeRefusal.bad_form f h) = IsLoadFault.bad_form 
 code_refused bytes c e file (IsCodeRefusal.mismatch m g h) = IsLoadFault.mismatch c m file g h
 code_refused bytes c e file IsCodeRefusal.no_memory = IsLoadFault.no_memory c file
 
+not_of_form : (f : FormFault) (place : ℕ) (m : Located ℕ) → form_error (record { place = place; what = f }) ≡ mismatch_error m → ⊥
+not_of_form form.UnknownOp place m e = absurd (cc)
+not_of_form _ place m e = absurd (cc)
+
 -- code that is rejected for its kinds is not typable
 pub exact : ((bytes : Text) (c d : Code) → IsCodeFile bytes c → IsCodeFile bytes d → c ≡ d)
     → ((c : Code) (m : Located ℕ) → IsFirstMismatch c m → IsTypable c → ⊥) → (bytes : Text) (e : LoadError) → IsLoadFault bytes e → (m : Located ℕ) (c : Code)
     → e ≡ mismatch_error m → IsCodeFile bytes c → IsTypable c → ⊥
 exact one untypable bytes e (IsLoadFault.no_code f h) m c is file y = absurd (cc)
-exact one untypable bytes e (IsLoadFault.bad_form d f g h) m c is file y = absurd (cc)
+exact one untypable bytes e (IsLoadFault.bad_form d f g h) m c is file y = not_of_form f.what f.place m is
 exact one untypable bytes e (IsLoadFault.mismatch d n g w h) m c is file y = untypable d n h (subst IsTypable (one bytes c d file g) y)
 exact one untypable bytes e (IsLoadFault.no_memory d g) m c is file y = absurd (cc)
 
@@ -112,9 +117,10 @@ file_code c k = record { some = k.header.some; links = λ n h. by_literal n (sli
 
 -- ---- what the checks found
 
-pub form_refused : (c d : Code) (found : Option (FormFault × ℕ)) (f : FormFault × ℕ) → d ≡ c → located_of found ≡ first_form_fault d → found ≡ Some f
-    → IsCodeRefusal c (load.Form f.0 f.1)
-form_refused c d found f same h is = IsCodeRefusal.bad_form (record { place = f.1; what = f.0 }) (ap first_form_fault (sym same) ∙ sym h ∙ ap located_of is)
+pub form_refused : (c d : Code) (found : Option (FormFault × ℕ)) (f : FormFault × ℕ) (e : LoadError) → d ≡ c → located_of found ≡ first_form_fault d
+    → found ≡ Some f → e ≡ form_error (record { place = f.1; what = f.0 }) → IsCodeRefusal c e
+form_refused c d found f e same h is er =
+    subst (IsCodeRefusal c) (sym er) (IsCodeRefusal.bad_form (record { place = f.1; what = f.0 }) (ap first_form_fault (sym same) ∙ sym h ∙ ap located_of is))
 
 pub kinds_refused : (c d : Code) (found : Option (ℕ × ℕ)) (m : ℕ × ℕ) (t : Table) → d ≡ c → HasGoodForm d → IsLeast d t → located_of found ≡ first_mismatch d t
     → found ≡ Some m → IsCodeRefusal c (load.KindMismatch m.1 m.0)

@@ -8,6 +8,7 @@ use Rattle.code_file.specs.declared.error.CodeError.{CodeError}
 use Rattle.code_file.specs.declared.error.CodeErrorKind.{CodeErrorKind}
 use Rattle.code_file.specs.declared.error.CodeErrorKind.TheVariants as kind
 use Rattle.machine_model.specs.declared.form.FormFault.{FormFault}
+use Rattle.machine_model.specs.declared.form.FormFault.TheVariants as fault
 use Rattle.machine_model.specs.First.{Located}
 use Rattle.machine_model.specs.Form.{HasGoodForm, first_form_fault}
 use Rattle.machine_model.specs.Mismatch.{IsFirstMismatch}
@@ -16,7 +17,22 @@ use Rattle.verifier.specs.declared.error.LoadError.TheVariants as load
 
 -- an error of form, with its place
 abbrev pub form_error : Located FormFault → LoadError
-form_error f = load.Form f.what f.place
+form_error f = of_form f.what f.place
+  where
+    of_form : FormFault → ℕ → LoadError
+    of_form fault.UnknownOp place = load.UnknownOp place
+    of_form fault.BadField place = load.BadField place
+    of_form fault.BadRegister place = load.BadRegister place
+    of_form fault.BadIndex place = load.BadIndex place
+    of_form fault.WrongTableKind place = load.WrongTableKind place
+    of_form fault.JumpNotForward place = load.JumpNotForward place
+    of_form fault.JumpOut place = load.JumpOut place
+    of_form fault.CrossesLoop place = load.CrossesLoop place
+    of_form fault.NestedLoop place = load.NestedLoop place
+    of_form fault.BadLoop place = load.BadLoop place
+    of_form fault.StrayNext place = load.StrayNext place
+    of_form fault.StraySep place = load.StraySep place
+    of_form fault.FallsOff place = load.FallsOff place
 
 -- the need at a place that is not met, and the register
 abbrev pub mismatch_error : Located ℕ → LoadError

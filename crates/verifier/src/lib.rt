@@ -27,5 +27,4 @@ pub use code_file::{Code, CodeError, CodeErrorKind};
 pub use code_model::Instruction;
 pub use error::LoadError;
 pub use loading::load;
-pub use machine_model::FormFault;
 pub use verified::Verified;

@@ -33,7 +33,7 @@ fn check(alloc: Global, code: &Code) -> Result<Vec<Instruction>, LoadError>
     least_table_decides();
     let layout = Layout::new(alloc, code)?;
     if let Some(found) = layout.first_fault() {
-        return Err(LoadError::Form(found.0, found.1));
+        return Err(LoadError::of_form(found.0, found.1));
     }
     let table = least_table(alloc, &layout)?;
     if let Some(found) = first_mismatch(&layout, &table) {

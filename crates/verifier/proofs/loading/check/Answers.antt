@@ -19,8 +19,8 @@ returns-in_err-instructions-clause-refused c = let p =
     err_from_is_err_and c.from_residual-in_err-instructions.result c.from_residual-in_err-instructions.ensures.1 in rw (p.1, p.2) IsCodeRefusal.no_memory
 
 pub returns-in-Some-clause-refused : goal.returns-in-Some-clause-refused
-returns-in-Some-clause-refused c = form_refused c.args.code.now c.in_ok-layout.layout.code.now c.first_fault.result c.in-Some.found c.in_ok-layout.ensures
-    c.first_fault.ensures c.in-Some.is
+returns-in-Some-clause-refused c = form_refused c.args.code.now c.in_ok-layout.layout.code.now c.first_fault.result c.in-Some.found c.of_form.result
+    c.in_ok-layout.ensures c.first_fault.ensures c.in-Some.is c.of_form.ensures
 
 pub returns-in-Some-first_mismatch-clause-refused : goal.returns-in-Some-first_mismatch-clause-refused
 returns-in-Some-first_mismatch-clause-refused c =
