@@ -1,6 +1,6 @@
 // The unit tests of the module: the cases of cases.js, requests of good form, limits, menus and commands. Runs in njs
-// and in node, in a folder with the module and sample.js, which run.py writes; prints each failure, and a last line
-// that counts.
+// and in node, in a folder with the module and sample.js, which test_rules.py writes. Prints a line of JSON for each
+// case, its name alone, or with what it gives and what was expected; and a last line with the number of cases.
 import citation from './citation.js';
 import door from './find.js';
 import health from './health.js';
@@ -19,13 +19,10 @@ const FORMATS = {
 };
 globalThis.fold = folding;
 let count = 0;
-let failures = 0;
 
 function expect(name, got, expected) {
     count++;
-    if (got === expected) return;
-    failures++;
-    console.log('FAILED ' + name + '\n  gives  ' + got + '\n  expected ' + expected);
+    console.log(JSON.stringify(got === expected ? [name] : [name, String(got), String(expected)]));
 }
 
 function written(pair) {
@@ -551,4 +548,4 @@ testCases();
 testCommands();
 testReasons();
 testHealth();
-testReplies().then(() => { console.log((failures === 0 ? 'ok ' : 'FAILED ') + count); });
+testReplies().then(() => { console.log(String(count)); });

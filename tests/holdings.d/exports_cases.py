@@ -3,7 +3,7 @@ import csv, glob, io, json, os, re, subprocess
 import xml.etree.ElementTree as xml
 from counting import expect
 from formats import DOCTYPE, HOLDINGS, KBART, LINKS, MOST_BYTES, faults_of
-from library_index import write_index
+from fixtures.library_index import write_index
 from version import SCHOLAR, TARGETS, Version, row, table
 
 # The day is 15 July 2026. For each row of a journal: what Google Scholar has to get of it, worked out by hand. None is

@@ -5,7 +5,7 @@ import glob, importlib, os, subprocess, sys, time
 
 HERE = os.path.dirname(os.path.abspath(__file__))
 TOP = os.path.dirname(os.path.dirname(HERE))
-sys.path[:0] = [HERE, os.path.join(TOP, "tests", "shared"), os.path.join(TOP, "update")]
+sys.path[:0] = [HERE, *(os.path.join(TOP, name) for name in ("tests/shared", "tests", "update"))]
 from counting import counts
 
 

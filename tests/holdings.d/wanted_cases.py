@@ -1,7 +1,7 @@
 """Tests of what was asked for in vain, as update/counts prints it."""
 import gzip, os, subprocess
 from counting import expect
-from library_index import write_index
+from fixtures.library_index import write_index
 from version import Version, row, table
 
 # Two numbers of one journal, an ISBN that a table has with ten digits, and a number that no table has.
