@@ -62,8 +62,14 @@ class Limits(SiteCase):
         for target in (LONG, SEARCHES[0]):
             self.expect(f"after them: {target[:20]}", wait_until(lambda: self.site.get(target).status == 200))
 
-    def test_long_addresses(self) -> None:
-        """Those of every method are limited. All are sent at once; nginx replies to one after the other."""
+
+class LongAddresses(SiteCase):
+    """Those of every method are limited, by an nginx that has limited nothing before."""
+
+    processes = 1
+
+    def test_methods(self) -> None:
+        """All are sent at once; nginx replies to one after the other."""
         for method, good in (("GET", 200), ("HEAD", 200), ("POST", 405)):
             lines = f"{method} /menu.css?x={'a' * 3000} HTTP/1.1\r\nHost: a\r\nContent-Length: 0\r\n"
             self.expect(f"before them: {method}", wait_until(lambda: self.site.get(LONG).status == 200))
