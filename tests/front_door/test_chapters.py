@@ -54,7 +54,7 @@ def output(site: Site, command: str, tls_port: int = 1) -> str:
     for old, new in pairs:
         command = command.replace(old, new)
     done = subprocess.run(["sh", "-c", command], capture_output=True, text=True, timeout=patience(60))
-    return (done.stdout + done.stderr).strip()
+    return f"{done.stdout}{done.stderr}".strip()
 
 
 def seen(site: Site, only: str = "") -> dict[tuple[str, str], str]:

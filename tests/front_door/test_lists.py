@@ -138,12 +138,12 @@ class Lists(TitlesCase):
             "ISSN 3020-2353, ISSN 3027-2483 AggregateNet: ab 1990, ohne die letzten 18 Monate"
             in re.sub(r"\s+", " ", shown_in(page.text)),
         )
-        address = html.unescape(re.search(r'<a href="(/find\?[^"]*)">Shipwreck', page.text)[1])
+        address = html.unescape(re.findall(r'<a href="(/find\?[^"]*)">Shipwreck', page.text)[0])
         self.expect("a title's link", address, "/find?rft.genre=journal&rft.issn=2992-183X")
 
     def test_searches(self) -> None:
         annals, studies = "Annals of Tidal Studies", "Études océanographiques ouvertes"
-        for query, expected in (
+        cases: list[tuple[str, list[str]]] = [
             ("journals?q=sound", ["Soundings"] * 2),
             ("journals?q=TIDAL+ann", [annals]),
             ("journals?q=2908-0142", [annals]),
@@ -153,7 +153,8 @@ class Lists(TitlesCase):
             ("journals?q=ouv+%C3%A9t+oceano", [studies]),
             ("journals?q=etudes+ou", [studies]),
             ("journals?q=of", [annals, "Journal of Lighthouse History", "Review of Coastal Law"]),
-        ):
+        ]
+        for query, expected in cases:
             reply = self.search(f"/{query}")
             self.tidy(query, reply.text)
             self.expect(query, re.findall(r'<a href="/find\?[^"]*is[sb]n=[^"]*">([^<]*)</a>', reply.text), expected)

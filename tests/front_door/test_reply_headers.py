@@ -47,7 +47,7 @@ DATA = {"access-control-allow-origin": "*", "cross-origin-resource-policy": "cro
 DAY = {"cache-control": "public, max-age=86400"}
 PAGES = {"allow": "GET, HEAD"}
 FORMS = {"allow": "GET, HEAD, POST"}
-ADDRESSES = [  # method, address, status, and headers that differ
+ADDRESSES: list[tuple[str, str, int, dict[str, str]]] = [  # method, address, status, and headers that differ
     ("GET", "/", 301, {}),
     ("GET", f"/find?{ARTICLE}", 200, {}),
     ("GET", "/find/", 301, {}),
@@ -86,7 +86,7 @@ ADDRESSES = [  # method, address, status, and headers that differ
     ("OPTIONS", "/cite", 405, PAGES),
     ("POST", "/menu.css", 405, {**PAGES, "cache-control": "public, max-age=3600"}),
 ]
-STAFF_ADDRESSES = [
+STAFF_ADDRESSES: list[tuple[str, str, int, dict[str, str]]] = [
     ("GET", f"/why?{ARTICLE}", 200, {}),
     ("GET", "/health", 200, {}),
     ("GET", f"/report.txt?{ARTICLE}", 200, {}),

@@ -1,7 +1,6 @@
 """The unit tests of the module, in njs and in node."""
 from __future__ import annotations
 
-import glob
 import json
 import re
 import shutil
@@ -27,7 +26,7 @@ def sample() -> list[str]:
 
 def write_modules(folder: str) -> None:
     """The modules of the front door, and what the scripts of tests import beside them."""
-    for path in (*glob.glob("front_door/*.js"), *_HERE.glob("*.js")):
+    for path in (*Path("front_door").glob("*.js"), *_HERE.glob("*.js")):
         shutil.copy(path, folder)
     fold = Path("front_door/fold.json").read_text(encoding="utf-8")
     Path(folder, "sample.js").write_text(f"export default {json.dumps(sample())};\n", encoding="utf-8")

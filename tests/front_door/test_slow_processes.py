@@ -17,7 +17,7 @@ SECONDS = 5  # nginx leaves a process after three
 def links_at(address: str) -> list[str] | str:
     """The names of the links that a probe finds there, or why there are none."""
     try:
-        return list(probes.links(address, QUERY))
+        return list(probes.links(address, QUERY) or {})
     except probes.Unreachable as fault:
         return str(fault).removeprefix(f"{address}: ")
 

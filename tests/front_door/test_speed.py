@@ -50,7 +50,7 @@ for (let i = 0; i < COUNT; i++) CALL;
 # For each: how often a script calls it, so that no script takes long, and how many calls of the peer may at most take
 # as long as one of it. When these limits were set, it was 3, 7, 15 and 40, then 56, 97, 31, 6, 15, 37, 90, 17, 7, 5 and
 # 18, and 0.9, 5, 0.3, 0.3 and 1.4. A limit of 200 is 27 ms where the peer takes 0.14 ms.
-REQUESTS = {
+REQUESTS: dict[str, tuple[int, float]] = {
     "usual": (200, 5),
     "long": (100, 12),
     "many": (40, 30),
@@ -67,7 +67,13 @@ REQUESTS = {
     "pages": (10, 15),
     "digits": (10, 40),
 }
-HEADERS = {"commas": (400, 3), "ranges": (100, 8), "hyphens": (3000, 0.5), "spaces": (3000, 0.5), "stars": (300, 4)}
+HEADERS: dict[str, tuple[int, float]] = {
+    "commas": (400, 3),
+    "ranges": (100, 8),
+    "hyphens": (3000, 0.5),
+    "spaces": (3000, 0.5),
+    "stars": (300, 4),
+}
 CALLS = {
     "nothing": ("0", 0),
     "peer": ("peer()", 500),

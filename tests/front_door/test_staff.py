@@ -202,10 +202,10 @@ class Staff(SiteCase):
             reply = self.site.send(b"GET /why?atitle=" + raw + b"&issn=2901-0012" + head, self.site.report_port)
             queries, _, _, commands = page_parts(reply.split(b"\r\n\r\n", 1)[1].decode())
             argument = self.arguments_of(commands["tidal-press"])[3]
-            self.expect(f"the raw bytes {raw}", (argument, b"<b>" in reply), (queries[0].replace("'", "%27"), False))
+            self.expect(f"the raw bytes {raw!r}", (argument, b"<b>" in reply), (queries[0].replace("'", "%27"), False))
             title = dict(reversed(parse_qsl(argument)))["rft.atitle"]
             expected = raw.decode("windows-1252") if raw[0] > 0x7F else unquote(raw.decode()).replace("<b>", "")
-            self.expect(f"the title of {raw}", title, expected)
+            self.expect(f"the title of {raw!r}", title, expected)
 
     def test_folders(self) -> None:
         """The folder of the registry has quotes in its name."""
@@ -316,7 +316,7 @@ class Staff(SiteCase):
 
         def opened(name: str, address: str | None) -> Reply:
             self.expect(f"{name}: the address", re.fullmatch(r"mailto:[!-~]+", address or "") is not None)
-            fields = dict(pair.split("=", 1) for pair in urlsplit(address).query.split("&"))
+            fields = dict(pair.split("=", 1) for pair in urlsplit(address or "").query.split("&"))
             self.expect(f"{name}: the fields", sorted(fields), ["body", "subject"])
             link = unquote(fields["body"], errors="strict")
             self.expect(f"{name}: the body", link.startswith("http://127.0.0.1:8079/why?"))
@@ -346,7 +346,7 @@ class Staff(SiteCase):
 
     def test_forms_of_problem_link(self) -> None:
         words = self.targets["words"]
-        for link, expected in (
+        cases: list[tuple[Any, bool]] = [
             (None, False),
             ("", False),
             (3, False),
@@ -357,7 +357,8 @@ class Staff(SiteCase):
             ("https://e.org/p?q={}&l=en", True),
             ("HTTP://e.org/{}", True),
             ({"de": "mailto:a@b?body={}"}, False),
-        ):
+        ]
+        for link, expected in cases:
             self.site.write_targets(
                 {**self.targets, "words": {**words, "problemLink": link} if link is not None else {}}
             )

@@ -60,12 +60,16 @@ class TimeOuts(SiteCase):
         is_right = limit - 0.5 < seconds < limit + patience(1)
         return None if is_right else f"the connection ended after {seconds:.1f} s, and not after {limit} s"
 
+    def best_fault_of(self, name: str) -> object:
+        fault: object = best_of_three(lambda: self.fault_of(name))
+        return fault
+
     def test_clients_that_stop(self) -> None:
         os.makedirs(self.site.path("current/export"))
         self.site.write("current/export/kbart.txt", "a" * MEGABYTES * 1_000_000)
         self.site.edit(('$openlink_export "";', '$openlink_export "kbart";'))
         names = [*SENT, "a reply that is not taken"]
         with concurrent.futures.ThreadPoolExecutor(len(names)) as pool:
-            faults = list(pool.map(lambda name: best_of_three(lambda: self.fault_of(name)), names))
+            faults = list(pool.map(self.best_fault_of, names))
         for name, fault in zip(names, faults):
             self.expect(name, fault, None)

@@ -15,6 +15,8 @@ from fixtures.titles_case import main_of
 from fixtures.titles_case import shown_in
 
 
+# The headers of readers in English and German, and what they read.
+LANGUAGES: tuple[dict[str, str], ...] = ({}, GERMAN)
 NOTHING = ("We found no full text online.", "Wir haben online keinen Volltext gefunden.")
 
 HELD = (
@@ -284,7 +286,7 @@ class Titles(TitlesCase):
             [["rft.isbn=9781234565497"], ["rft.isbn=9781234566265"], ["rft.isbn=9781234567033"], ["rft.issn=ANY"]],
         )
         self.expect("their names", re.findall(r"<h2>(Query \d)</h2>", page.text), [f"Query {i}" for i in (1, 2, 3, 4)])
-        row = re.search(r'<tr><th scope="row"><a href="#target-catalogue">.*?</tr>', page.text)[0]
+        row = re.findall(r'<tr><th scope="row"><a href="#target-catalogue">.*?</tr>', page.text)[0]
         self.expect(
             "their reasons",
             re.findall(r">([^<>]+)</code>(</strong>)?", row),
@@ -313,7 +315,7 @@ class Titles(TitlesCase):
     def test_not_known(self) -> None:
         """No page says that there is no full text if nothing could be looked up; each leads to the form."""
         for query in NOT_KNOWN:
-            for headers, words in (({}, NOTHING[0]), (GERMAN, NOTHING[1])):
+            for headers, words in zip(LANGUAGES, NOTHING):
                 reply = self.site.get(f"/find?{query}", headers=headers)
                 self.expect(
                     f"not known: {query}",
@@ -333,7 +335,7 @@ class Titles(TitlesCase):
     def test_held(self) -> None:
         """A title is in the lists, and the request has no year or volume with a link."""
         for query in WITHOUT_LINK:
-            for headers, held, nothing in (({}, HELD[0], NOTHING[0]), (GERMAN, HELD[1], NOTHING[1])):
+            for headers, held, nothing in zip(LANGUAGES, HELD, NOTHING):
                 reply = self.site.get(f"/find?{query}", headers=headers)
                 self.expect(
                     f"held, without a link: {query}",

@@ -60,7 +60,7 @@ def greeted(
                 connection.sendall(b"GET /robots.txt HTTP/1.0\r\n\r\n")
                 while connection.recv(1000):
                     pass
-                return connection.version(), connection.session.has_ticket
+                return connection.version(), bool(connection.session and connection.session.has_ticket)
     except ssl.SSLError as fault:
         return fault.reason
 
@@ -123,8 +123,8 @@ class Tls(SiteCase):
         block = REFUSING.findall(self.site.read("openlink.conf"))[0]
         self.site.edit((block, re.sub(r"(?m)^#", "", block)))
         self.expect("the site's own name", greeted(peer)[0], "TLSv1.3")
-        for name in ("evil.example", None):
-            self.expect(f"the name {name}", greeted(peer, name=name), "TLSV1_UNRECOGNIZED_NAME")
+        for other in ("evil.example", None):
+            self.expect(f"the name {other}", greeted(peer, name=other), "TLSV1_UNRECOGNIZED_NAME")
 
     @needs.command("curl")
     def test_monitoring(self) -> None:
@@ -155,7 +155,8 @@ class Tls(SiteCase):
         peer = with_tls(self.site, "why.conf")
         hashed = subprocess.run(["openssl", "passwd", "-6", "right"], capture_output=True, text=True, check=True).stdout
         self.site.write("openlink/passwords", f"staff:{hashed}")
-        for sent in ({}, basic("staff:wrong"), basic("nobody:right")):
+        without: list[dict[str, str]] = [{}, basic("staff:wrong"), basic("nobody:right")]
+        for sent in without:
             reply = peer.get(f"/why?{ARTICLE}", headers=sent)
             self.expect(
                 f"without the password: {sent}",
