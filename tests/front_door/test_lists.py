@@ -208,7 +208,7 @@ class Lists(TitlesCase):
             self.search(f"/journals?q={text.replace(' ', '+')}")
 
     def test_words(self) -> None:
-        """The language is kept in the address; logo and links are the library's."""
+        """The language is kept in the address."""
         reply = self.site.get(f"/find?lang=de&title=Annals+of+Tidal+Studies&{ARTICLE}")
         self.expect(
             "a language in the address",
