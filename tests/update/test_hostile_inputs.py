@@ -15,7 +15,7 @@ from pathlib import Path
 from fixtures import needs
 from fixtures.cases import Case
 from fixtures.patience import patience
-from fixtures.site import PROGRAM
+from fixtures.program import PATH as PROGRAM
 from fixtures.weeks import SAMPLE
 from fixtures.weeks import tables
 
@@ -69,10 +69,10 @@ class Machine(Case):
         done = subprocess.run(words, capture_output=True, text=True, timeout=patience(60))
         return done.returncode, (done.stdout + done.stderr).splitlines()
 
-    def update(self) -> tuple[int, list[str]]:
-        """That of all libraries."""
+    def update(self, name: str = "--all") -> tuple[int, list[str]]:
+        """That of all libraries, or of one."""
         words = ("--library", self.top, "--site", self.top / "openlink.conf", "--program", PROGRAM)
-        return self.run_of("update", *words, "--reload", "true", "--all")
+        return self.run_of("update", *words, "--reload", "true", name)
 
     def lines_after(self, lines: list[str], first: str) -> set[str]:
         """The lines that belong to this one."""
@@ -135,21 +135,23 @@ class Updates(Machine):
         self.expect("nor does it print one", "c0ffee" in "\n".join(printed), False)
 
     def test_lists_that_are_pipes(self) -> None:
-        """Nothing waits for a pipe, whichever file it is: west is updated after east."""
-        for name in ("targets.tsv", "probes.tsv", "targets.json", "sources.tsv"):
-            kept = self.east / "kept"
-            if (self.east / name).exists():
-                (self.east / name).rename(kept)
-            os.mkfifo(self.east / name)
-            shutil.rmtree(self.west.parent / "versions", ignore_errors=True)
-            (self.west.parent / "current").unlink(missing_ok=True)
-            status, printed = self.update()
-            told = [line for line in printed if f"{self.east / name}: not a regular file" in line]
-            self.expect(f"{name}: {printed}", (status != 0 or name == "sources.tsv", len(told)), (True, 1))
-            self.expect(f"west is updated in spite of {name}", self.is_served(self.west), True)
-            (self.east / name).unlink()
-            if kept.exists():
-                kept.rename(self.east / name)
+        """Nothing waits for a pipe, whichever list it is: the library after them is updated."""
+        libraries = {name: self.library(name.replace(".", "-")) for name in ("targets.tsv", "probes.tsv")}
+        os.mkfifo(self.east / "targets.json")
+        os.mkfifo(self.east / "sources.tsv")
+        for name, folder in libraries.items():
+            (folder / name).unlink(missing_ok=True)
+            os.mkfifo(folder / name)
+        status, printed = self.update()
+        self.expect(f"status: {printed}", status, 4)
+        pipes = [*(folder / name for name, folder in libraries.items()), self.east / "sources.tsv"]
+        for pipe in pipes:
+            told = [line for line in printed if f"{pipe}: not a regular file" in line]
+            self.expect(f"{pipe.name} is named", len(told), 1)
+        got = self.lines_after(printed, "targets.json: the old one is kept")
+        self.expect("the names of targets", got, {f"{self.east}/targets.json: not a regular file"})
+        served = [self.is_served(it) for it in (*libraries.values(), self.east, self.west)]
+        self.expect("versions", served, [False, False, True, True])
 
     def test_names_of_a_library(self) -> None:
         """A targets.json of 20 MB, which each page would need: it is not used."""
@@ -162,19 +164,17 @@ class Updates(Machine):
     def test_what_is_received(self) -> None:
         """Tables as they came are for the user of the update alone, also those that an earlier release has put; nginx
         and the processes read what they need."""
+        names = ("received/law.txt", "received/law.rules", "tables/law.txt", "code/law.olk", "registry.tsv", "received")
+        wanted = {**dict.fromkeys(names, 0o644), "received": 0o755, "received/law.txt": 0o600}
         for day in (1, 2):
             self.expect("the update", self.update()[0], 0)
             for library in (self.east, self.west):
-                modes = {
-                    name: stat.S_IMODE((library.parent / "current" / name).stat().st_mode)
-                    for name in ("received/law.txt", "tables/law.txt", "code/law.olk", "registry.tsv", "received")
-                }
-                wanted = {**dict.fromkeys(modes, 0o644), "received": 0o755, "received/law.txt": 0o600}
+                current = library.parent / "current"
+                modes = {name: stat.S_IMODE((current / name).stat().st_mode) for name in names}
                 self.expect(f"modes of {library.parent.name}, day {day}", modes, wanted)
+            for library in (self.east, self.west):
                 (library.parent / "current/received/law.txt").chmod(0o644)
-                table = (library / "law.txt").read_bytes().replace(b"Law", b"Laws")
-                (library / "other.txt").write_bytes(table)
-                self.write(library / "targets.tsv", "law\tlaw.rules\tlaw.txt\nother\tlaw.rules\tother.txt\n")
+                self.write(library / "targets.tsv", "law\tlaw.rules\tlaw.txt\nother\tlaw.rules\tlaw.txt\n")
 
 
 @needs.program()
@@ -187,19 +187,17 @@ class HonestInputs(Machine):
             folder.mkdir()
             shutil.copy(TABLE, folder / "law_2026-11.txt")
             shutil.copy(RULES, folder / "law.rules")
-        whole, staff = (f"{shared}/law.rules\t{shared}/law_*.txt", f"law.rules\t{tables_of_staff}/law_2026-11.txt")
+        whole, staff = f"{shared}/law.rules\t{shared}/law_*.txt", f"law.rules\t{tables_of_staff}/law_2026-11.txt"
         self.write(self.east / "targets.tsv", f"law\tlaw.rules\tlaw.txt\nwhole\t{whole}\nstaff\t{staff}\n")
-        status, printed = self.update()
-        self.expect(f"the shared one, {printed}", (status, "whole: new, 46 rows" in printed), (1, True))
-        self.expect("the other", "staff: left out, since it has no old files" in printed, True)
         allowed = self.write(Path(f"{self.east}.folders"), f"{tables_of_staff}\n", 0o666)
+        status, printed = self.update("east")
+        self.expect(f"the shared one, {printed}", (status, "whole: new, 2 rows" in printed), (1, True))
         line = f"{allowed}: not used, since others may have written it: chown root, chmod 644"
-        self.expect("a list that all may write", line in self.update()[1], True)
+        self.expect("a list that all may write", line in printed, True)
+        self.expect("the other", "staff: left out, since it has no old files" in printed, True)
         allowed.chmod(0o644)
-        status, printed = self.update()
-        self.expect(
-            f"with the list, {printed}", (status, [it for it in printed if "staff: new" in it] != []), (0, True)
-        )
+        status, printed = self.update("east")
+        self.expect(f"with the list, {printed}", (status, "staff: new, 2 rows" in printed), (0, True))
 
 
 @needs.command("curl")

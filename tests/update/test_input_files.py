@@ -10,6 +10,7 @@ import tempfile
 import threading
 from collections.abc import Callable
 from pathlib import Path
+from unittest import mock
 
 from fixtures.cases import Case
 from openlink_update import allowed_folders
@@ -184,11 +185,9 @@ class Reading(InputFiles):
 
     def test_a_file_that_grows_while_it_is_read(self) -> None:
         """Not more is read than a file may have."""
-        path = self.write("file", b"")
-        with self.folder.open("file") as file:
-            os.truncate(path, MOST_BYTES + 1)
-            self.expect("as if it had grown", len(file.read(MOST_BYTES)), MOST_BYTES)
-        self.expect("more than once", outcome(lambda: self.folder.read("file", 1)), "Unusable")
+        self.write("file", b"data")
+        with mock.patch("openlink_update.input_files.MOST_BYTES", 2):
+            self.expect("two bytes", self.folder.file("file").data, b"da")
 
     def test_a_folder_that_becomes_a_link(self) -> None:
         """Neither does one lead out that is replaced at any time."""
@@ -298,6 +297,10 @@ class OtherFolders(InputFiles):
         path.write_text(text)
         wrong = [f"{path}: line {number}: not the absolute path of a folder" for number in (5, 6)]
         self.expect("folders", allowed_folders.read(path), ([Path("/srv/tables"), Path("/srv/c")], wrong))
+        path.write_text("/srv\n" + "#" * 65_531)
+        self.expect("65,536 bytes", allowed_folders.read(path), ([Path("/srv")], []))
+        path.write_text("/srv\n" + "#" * 65_532)
+        self.expect("one more", allowed_folders.read(path), ([], [f"{path}: not used: more than 65,536 bytes"]))
         path.write_bytes(b"/srv/\xff\n")
         self.expect("not UTF-8", allowed_folders.read(path), ([], [f"{path}: not used: not UTF-8"]))
 
@@ -337,14 +340,14 @@ class Writing(InputFiles):
         self.link("link", outside)
         self.link("broken", "nothing")
         os.mkfifo(self.path / "pipe")
-        self.link(".openlink-new", outside)
+        self.link(".openlink.new", outside)
         for name in ("new", "file", "link", "broken", "pipe", "new folder/file", "folder/folder/file", "y" * 255):
             self.replace(name, b"other", 0o640)
             status = (self.path / name).lstat()
             got = stat.S_ISREG(status.st_mode), stat.S_IMODE(status.st_mode), self.folder.read(name)
             self.expect(f"a regular file with its mode and bytes, {name}", got, (True, 0o640, b"other"))
         self.expect("what the link led to", outside.read_bytes(), b"data")
-        self.expect("nothing is unfinished", list(self.path.rglob(".openlink-new")), [])
+        self.expect("nothing is unfinished", list(self.path.rglob(".openlink.new")), [])
 
     def test_what_is_not_replaced(self) -> None:
         self.write("folder/below")
@@ -365,7 +368,7 @@ class Writing(InputFiles):
         names = "folder/below", "file"
         self.expect("the files", [self.folder.read(name) for name in names], [b"data", b"data"])
         self.expect("outside", [path.read_bytes() for path in outside.parent.iterdir()], [b"data"])
-        self.expect("nothing is unfinished", list(self.top.rglob(".openlink-new")), [])
+        self.expect("nothing is unfinished", list(self.top.rglob(".openlink.new")), [])
 
     def test_remove(self) -> None:
         outside = self.write(self.top / "outside" / "file")

@@ -17,7 +17,10 @@ def read(path: Path) -> tuple[list[Path], list[str]]:
         with open(os.open(path, _FILE), "rb") as file:
             if not _is_of_root(os.fstat(file.fileno())):
                 return [], [f"{path}: not used, since others may have written it: chown root, chmod 644"]
-            lines = list(lines_in(file.read(_MOST_BYTES)))
+            data = file.read(_MOST_BYTES + 1)
+            if len(data) > _MOST_BYTES:
+                return [], [f"{path}: not used: more than {_MOST_BYTES:,} bytes"]
+            lines = list(lines_in(data))
     except FileNotFoundError:
         return [], []
     except OSError as fault:

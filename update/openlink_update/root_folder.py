@@ -13,7 +13,7 @@ from typing import BinaryIO
 
 _MOST_MB = 256
 MOST_BYTES = _MOST_MB * 2**20  # of a file
-_UNFINISHED = ".openlink-new"  # a file that gets its name by a rename
+_UNFINISHED = ".openlink.new"  # a file that gets its name by a rename
 _FOLDER = os.O_RDONLY | os.O_DIRECTORY | os.O_NOFOLLOW
 # A pipe that nobody writes to is opened at once, and then refused.
 _FILE = os.O_RDONLY | os.O_NOFOLLOW | os.O_NONBLOCK | os.O_NOCTTY
