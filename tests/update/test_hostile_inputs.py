@@ -98,7 +98,9 @@ class Updates(Machine):
         (self.east / "zero.txt").symlink_to("/dev/zero")
         (self.east / "tables").symlink_to(self.west)
         (self.east / "folder.txt").mkdir()
-        os.mkfifo(self.east / "pipe.txt")
+        for pipe in (self.east / "pipe.txt", self.write(self.top / "shared/file").parent / "pipe.txt"):
+            os.mkfifo(pipe)
+        (self.top / "shared/zero.txt").symlink_to("/dev/zero")
         with (self.east / "large.txt").open("wb") as file:
             file.truncate(256 * 2**20 + 1)
         self.write(self.east / "private.txt", "private", 0o000)
@@ -115,6 +117,8 @@ class Updates(Machine):
             "folder": ("folder.txt", f"{self.east}/folder.txt: Is a directory"),
             "pipe": ("pipe.txt", f"{self.east}/pipe.txt: not a regular file"),
             "large": ("large.txt", f"{self.east}/large.txt: more than 256 MB"),
+            "shared-pipe": (f"{self.top}/shared/pipe.txt", f"{self.top}/shared/pipe.txt: not a regular file"),
+            "shared-link": (f"{self.top}/shared/zero.txt", f"{self.top}/shared/zero.txt: zero.txt {link}"),
             "no-name": ("a\0b.txt", f"{self.east}/a?b.txt: not a name of a file"),
         }
         if os.geteuid() != 0:
