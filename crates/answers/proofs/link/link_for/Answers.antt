@@ -39,16 +39,14 @@ returns-in_err-ended-in-Some c = rw (is_err _ _ c.from_residual-in_err-ended-in-
 
 pub returns-in-Some : goal.returns-in-Some
 returns-in-Some c =
-    let entries = c.in_ok-environment.ensures ∙ ap (filled (texts_of c.deref.result.now) []) c.in_ok-request.ensures.pairs in
-    let value = c.in_ok-link.ensures.value ∙ ap (meaning c.args.rules.now) entries in
+    let value = c.in_ok-link.ensures.value ∙ ap (meaning c.args.rules.now) (c.in_ok-environment.ensures ∙ ap (filled (texts_of c.deref.result.now) []) c.in_ok-request.ensures.pairs) in
     IsLinkFor.linked (string_bytes c.in-Some.link) _
     (means _ _ _ _ (ap texts_of c.deref.ensures.value ∙ c.in_ok-lists.ensures) c.in_ok-request.ensures.accepted
     (sym (ap (option_map string_bytes) c.in-Some.is) ∙ value)) c.in_ok-ended-in-Some.ensures
 
 pub returns : goal.returns
 returns c =
-    let entries = c.in_ok-environment.ensures ∙ ap (filled (texts_of c.deref.result.now) []) c.in_ok-request.ensures.pairs in
-    let value = c.in_ok-link.ensures.value ∙ ap (meaning c.args.rules.now) entries in
+    let value = c.in_ok-link.ensures.value ∙ ap (meaning c.args.rules.now) (c.in_ok-environment.ensures ∙ ap (filled (texts_of c.deref.result.now) []) c.in_ok-request.ensures.pairs) in
     IsLinkFor.no_link
     (means _ _ _ _ (ap texts_of c.deref.ensures.value ∙ c.in_ok-lists.ensures) c.in_ok-request.ensures.accepted
     (sym (ap (option_map string_bytes) c.in-None.is) ∙ value))

@@ -33,8 +33,7 @@ returns-in_err-ended-in-Ok-Link c = rw (is_err _ _ c.from_residual-in_err-ended-
 pub returns-in-Ok-Link : goal.returns-in-Ok-Link
 returns-in-Ok-Link c =
     let filled = request c.args.code.now _ c.args.query.now c.in_ok-environment.field-0 _ c.in_ok-request.ensures.accepted
-    (c.in_ok-environment.ensures ∙ ap (filled _ []) c.in_ok-request.ensures.pairs)
-    (ap texts_of c.deref.ensures.value ∙ c.in_ok-lists.ensures) c.code.ensures.code in
+    (c.in_ok-environment.ensures ∙ ap (filled _ []) c.in_ok-request.ensures.pairs) (ap texts_of c.deref.ensures.value ∙ c.in_ok-lists.ensures) c.code.ensures.code in
     IsLinkFor.linked (string_bytes c.in-Ok-Link.link) _
     (record {
       env = c.in_ok-environment.field-0;
@@ -47,8 +46,7 @@ returns-in-Ok-Link c =
 pub returns-in-Ok-NoLink : goal.returns-in-Ok-NoLink
 returns-in-Ok-NoLink c =
     let filled = request c.args.code.now _ c.args.query.now c.in_ok-environment.field-0 _ c.in_ok-request.ensures.accepted
-    (c.in_ok-environment.ensures ∙ ap (filled _ []) c.in_ok-request.ensures.pairs)
-    (ap texts_of c.deref.ensures.value ∙ c.in_ok-lists.ensures) c.code.ensures.code in
+    (c.in_ok-environment.ensures ∙ ap (filled _ []) c.in_ok-request.ensures.pairs) (ap texts_of c.deref.ensures.value ∙ c.in_ok-lists.ensures) c.code.ensures.code in
     IsLinkFor.no_link
     (record {
       env = c.in_ok-environment.field-0;
@@ -60,8 +58,7 @@ returns-in-Ok-NoLink c =
 pub returns-in-Err-OverBudget : goal.returns-in-Err-OverBudget
 returns-in-Err-OverBudget c =
     let filled = request c.args.code.now _ c.args.query.now c.in_ok-environment.field-0 _ c.in_ok-request.ensures.accepted
-    (c.in_ok-environment.ensures ∙ ap (filled _ []) c.in_ok-request.ensures.pairs)
-    (ap texts_of c.deref.ensures.value ∙ c.in_ok-lists.ensures) c.code.ensures.code in
+    (c.in_ok-environment.ensures ∙ ap (filled _ []) c.in_ok-request.ensures.pairs) (ap texts_of c.deref.ensures.value ∙ c.in_ok-lists.ensures) c.code.ensures.code in
     let bound = (c.run_verified-outcome.ensures.over c.in-Err-OverBudget.most).0 (search rules) in
     IsLinkFor.over_budget _ (record { env = c.in_ok-environment.field-0; request = filled; bound = bound.0; over = bound.1 })
 
