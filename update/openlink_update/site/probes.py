@@ -9,7 +9,7 @@ from collections.abc import Iterator
 from urllib.parse import unquote, urlsplit
 
 from openlink_update.input_files import InputFolder
-from openlink_update.report import report
+from openlink_update.shown_text import report
 
 _SECONDS = 10  # for a reply
 _REFUSED = (400, 413, 414)
