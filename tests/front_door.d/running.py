@@ -50,6 +50,10 @@ http {{
 """
 
 
+# Tests send from one address what many readers do, so a reader's limits count only for a site that has them.
+READER_LIMIT = re.compile(r"(zone=openlink_reader_\w+:\w+ rate=)\d+(?=r/s;)")
+
+
 class Reply:
     def __init__(self, status, headers, body):
         self.status, self.headers, self.body = status, headers, body
@@ -57,6 +61,8 @@ class Reply:
 
 
 class Site:
+    has_reader_limits = False
+
     def __init__(self, processes=4, is_sample=False):
         """With the targets above, or with those of the sample library as it is."""
         self.folder = tempfile.mkdtemp(prefix="front_door.")
@@ -121,6 +127,8 @@ class Site:
                          ("127.0.0.1:8079", f"127.0.0.1:{self.report_port}")):
             assert any(old in text for text in texts.values()), f"the site has no {old}"
             texts = {name: text.replace(old, new) for name, text in texts.items()}
+        if not self.has_reader_limits:
+            texts = {name: READER_LIMIT.sub(r"\g<1>100000", text) for name, text in texts.items()}
         for name, text in texts.items():
             with open(self.path(name if name == "openlink.conf" else f"openlink/{name}"), "w") as file:
                 file.write(text)
