@@ -213,6 +213,7 @@ class Sharing(Case):
                 for name, text in files.items():
                     os.makedirs(os.path.dirname(f"{folder}/{version}/{name}"), exist_ok=True)
                     write(f"{folder}/{version}/{name}", text)
+                    os.utime(f"{folder}/{version}/{name}", (0, 0))  # one time: the bytes alone tell them apart
             for _ in "12":
                 same_files.link(f"{folder}/new", f"{folder}/old", [f"{folder}/other"])
                 same = {(one, other) for one in texts["new"] for version in ("old", "other") for other in texts[version]

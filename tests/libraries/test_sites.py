@@ -180,10 +180,13 @@ class Sites(Case):
         self.expect("its health", health, [200, 503])
 
     def test_remove(self) -> None:
-        """The other library stays, and nothing of the removed one is left but its input and its site."""
+        """The other library stays, and nothing of the removed one is left but its input, its site, and what the
+        operator has added to its units."""
         machine, east, wing = self.machine, self.east, self.wing
         port, ports = wing.ports()
         units = [f"openlink@{it}" for it in ports]
+        own = machine.path("etc/systemd/system", f"openlink@{ports[0]}.service.d")
+        write(f"{own}/memory.conf", "[Service]\nMemoryMax=1G\n")
         machine.calls()
         self.expect("remove", machine.library("remove", wing.name),
                     (0, f"{wing.name} is removed; its input and its site are in {wing.path()}.removed\n"))
@@ -191,6 +194,8 @@ class Sites(Case):
             "reload-or-restart nginx", f"disable --now {' '.join(units)}", "daemon-reload"])
         self.expect("its units", glob.glob(machine.path("etc/systemd/system", "openlink@*")),
                     [os.path.dirname(it) for it in glob.glob(machine.path("etc/systemd/system", "*", "*"))])
+        self.expect("the operator's own file", (os.listdir(own), read(f"{own}/memory.conf")),
+                    (["memory.conf"], "[Service]\nMemoryMax=1G\n"))
         left = [it for path in glob.glob(machine.path("etc/systemd/system", "*", "*")) for it in read(path).splitlines()
                 if it.startswith("WorkingDirectory=")]
         self.expect("those of the other", left, [f"WorkingDirectory={east.path('current')}"] * 2)

@@ -51,8 +51,8 @@ class Turns(Case):
             self.expect(f"{words}", machine.update(*words)[0], 2)
 
     def test_signals(self) -> None:
-        """A signal ends the turns; the library whose turn it is goes back. A killed update is the matter of its
-        library."""
+        """A signal ends the turns; the library whose turn it is goes back, and says so. A killed update is the matter
+        of its library."""
         machine, libraries = self.machine, self.libraries
         east, north, west = libraries
         deliver(libraries, "B")
@@ -66,7 +66,9 @@ class Turns(Case):
         machine.open_gate()
         status, printed = ended(child)
         self.expect(f"SIGTERM: {printed}", (status, weeks(libraries)), (3, ("BBB", True, ["3", "none", "none"])))
-        self.expect_lines("SIGTERM", printed, "openlink-update: ended by SIGTERM")
+        back = f"{os.path.basename(east.current() or 'none')} is in use again"
+        self.expect_lines("SIGTERM", printed, "openlink-update: ended by SIGTERM", back)
+        self.expect_lines("the report of the library", east.report()[1], "openlink-update: ended by SIGTERM", back)
         machine.close_gate(east)
         child = machine.begin("update", *machine.update_words("--all"))
         self.expect("once more", machine.wait_at_gate())

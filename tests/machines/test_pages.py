@@ -6,6 +6,7 @@ import http.server
 import os
 import shutil
 import threading
+import time
 
 from fixtures import needs
 from fixtures.cases import Case
@@ -24,6 +25,9 @@ CASES = [
     (NAMED, "", "", 404, "drained"), (NAMED, "", NAMED, 404, "drained"), (NAMED, "", AFTER, 503, MISSING),
     (NAMED, "20990101T000000Z\n", "", 404, "drained"), (NAMED, "20200101T000000Z\n", "", 200, "ok"),
 ]
+# Seconds from now at which draining ends, and the status and first line of the page. Those ahead are more than a
+# request takes here.
+ENDS = [(-1, 200, "ok"), (-60, 200, "ok"), (600, 404, "drained"), (1200, 404, "drained")]
 
 
 class Process(http.server.BaseHTTPRequestHandler):
@@ -98,6 +102,16 @@ class HealthPage(Case):
         self.expect("another path", machine.site.get("/find", port=machine.site.balancer_port).status, 404)
         self.expect("another method", machine.site.get("/health", "POST", b"", port=machine.site.balancer_port).status,
                     405)
+
+    def test_ends_of_draining(self) -> None:
+        """Draining ends at the second that the file names, as after a delivery that was killed."""
+        machine = self.machine
+        put(machine, "delivery", f"{NAMED}\n")
+        for seconds, status, first in ENDS:
+            put(machine, "drain", time.strftime("%Y%m%dT%H%M%SZ\n", time.gmtime(time.time() + seconds)))
+            got, lines, _ = machine.health()
+            self.expect(f"an end at {seconds} seconds from now", (got, lines[0]), (status, first))
+        put(machine, "drain", None)
 
     def test_processes(self) -> None:
         """Each library of the machine must have a process that answers."""

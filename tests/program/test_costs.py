@@ -2,9 +2,11 @@
 ./openlink and ./test call; where rt ci or nothing has proved the crates, it is not measured."""
 from __future__ import annotations
 
+import shutil
 import sys
 
-from fixtures import TOP, needs
+from fixtures import TOP
+from fixtures import needs
 from fixtures.cases import Case
 
 sys.path.insert(0, f"{TOP}/tools/prove")
@@ -13,14 +15,22 @@ from crates import Crates
 from toolchain import Toolchain
 
 
-@needs.toolchain()
+def record_of_proofs() -> costs.Record:
+    return costs.Record(Crates(TOP, "openlink", Toolchain().version))
+
+
+def lacking() -> str:
+    """Which crates were not measured as they are now."""
+    if not shutil.which("rt"):
+        return "no toolchain"
+    record = record_of_proofs()
+    count = len(record.lacking())
+    return f"tools/prove has not proved {count} of {len(record.crates.names)} crates here as they are now" if count else ""
+
+
 class Costs(Case):
+    @needs.measured_proofs(lacking())
     def test_shares(self) -> None:
-        crates = Crates(TOP, "openlink", Toolchain().version)
-        record = costs.Record(crates)
-        lacking = record.lacking()
-        if lacking:
-            self.skipTest(f"not measured: tools/prove has not proved {len(lacking)} of {len(crates.names)} crates here"
-                          " as they are now")
+        record = record_of_proofs()
         found = [*costs.dearer(record.current(), costs.read_shares(TOP), record.busy())]
         self.expect("dearer crates: tools/prove/shares.py prints all, and writes the table", found, [])

@@ -6,7 +6,6 @@ from __future__ import annotations
 
 import ast
 import os
-import re
 import shutil
 import subprocess
 import sys
@@ -24,10 +23,6 @@ COMMANDS = ("update", "fetch", "library", "holdings", "probe", "targets", "updat
 AMONG = ("weekly_run.py", "report.py", "input_files.py", "fetch/sources.py", "versions/library.py")
 LEAST, LEAST_SUBPACKAGES = 55, 9
 MOST_MODULES, MOST_WITH_A_REPLY = 15, 19  # of the package, that openlink-fetch loads
-# Modules without annotations, and in a form of their own.
-LATER = re.compile(
-    rf"{PACKAGE}/(index|exports)/"
-)
 FORBIDDEN = ("sys.path", "SourceFileLoader", "spec_from_", "type: ignore", "cast(")
 USERS = ("tests", "benches")  # beside the package: what a test uses is public
 SETTINGS = str(TOP / "pyproject.toml")
@@ -61,9 +56,8 @@ def modules(folder: Path) -> list[Path]:
 
 
 def checked(folder: Path) -> list[Path]:
-    """The modules and commands that all checks are for."""
-    every = [*modules(folder), *(folder / name for name in COMMANDS)]
-    return [path for path in every if not LATER.match(str(path.relative_to(folder)))]
+    """The modules and commands."""
+    return [*modules(folder), *(folder / name for name in COMMANDS)]
 
 
 def said(words: list[str], folder: Path) -> list[str]:
@@ -76,9 +70,7 @@ def said(words: list[str], folder: Path) -> list[str]:
 
 def faults_of_tool(name: str, folder: Path, paths: list[Path], command: str) -> list[str]:
     """What a tool, or another command in its place, says of these files."""
-    lines = said([command or name, *TOOLS[name][1:], *map(str, paths)], folder)
-    # A call to a function without annotations is the fault of its module.
-    return [line for line in lines if not LATER.match(line) and "[no-untyped-call]" not in line]
+    return said([command or name, *TOOLS[name][1:], *map(str, paths)], folder)
 
 
 def faults_of_words(folder: Path) -> Iterator[str]:
@@ -126,7 +118,7 @@ def faults_of_names(folder: Path) -> Iterator[str]:
     for path in python_files(folder):
         used.update(uses_in(ast.parse(path.read_text(encoding="utf-8"))))
     for path in modules(folder):
-        if path not in checked(folder) or path.name == "__init__.py":
+        if path.name == "__init__.py":
             continue
         name = ".".join(path.relative_to(folder).with_suffix("").parts)
         for public in public_names(ast.parse(path.read_text(encoding="utf-8"))):
@@ -280,8 +272,8 @@ class Checks(Case):
             self.expect(f"without {name}", [*faults_of_numbers(without, folder)], [f"{name} is not found"])
 
     def test_which_files_are_checked(self) -> None:
-        """The commands too, and at least half of the modules."""
+        """The commands too."""
         folder = TOP / "update"
         found = checked(folder)
         self.expect("commands", [it for it in COMMANDS if folder / it not in found], [])
-        self.expect(f"{len(found)} files", len(found) > len(modules(folder)) / 2)
+        self.expect("modules", [it for it in modules(folder) if it not in found], [])

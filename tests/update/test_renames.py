@@ -4,11 +4,11 @@ from __future__ import annotations
 import os
 import signal
 
+from fixtures import PYTHON
 from fixtures import needs
 from fixtures.cases import Case
 from fixtures.library import HERE
 from fixtures.library import Library
-from fixtures.library import PYTHON
 from fixtures.library import ended
 from update.test_ends import OTHER
 from update.test_ends import served

@@ -136,7 +136,7 @@ class Run:
         """Writes the version's holdings for others."""
         path = self.names_file.path_in(version)
         targets = Path(path) if path else None
-        fault = export_files.make(version, maker.tables_for_export(), self._site, targets)
+        fault = export_files.make(version, maker.prepared_parts(), maker.titles, self._site, targets)
         if fault:
             report(f"the lists for others name targets without labels: {fault}")
 

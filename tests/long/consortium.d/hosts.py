@@ -1,7 +1,7 @@
 """The machines of the consortium: each a host with network and mount namespaces of its own, and with the front door,
 the scripts and the libraries as an operator installs them. A bridge joins them with haproxy and the readers."""
 import os, re, shutil, signal, subprocess
-import installation
+from fixtures import installation
 from haproxy_states import states_of
 
 HERE = os.path.dirname(os.path.abspath(__file__))

@@ -1,7 +1,7 @@
 """Forty made providers, and their tables week by week. A table is a list of rows; how it becomes the bytes of a file is
 in tables.py."""
 import dataclasses
-from made_titles import Made, isbn, issn
+from fixtures.made_titles import Made, isbn, issn
 
 COUNT, HOSTS = 40, 8  # providers, and their hosts; the last provider has the last host for itself
 PLAIN = 36  # from this one on they have plain tables of journals, for slips of their own

@@ -2,7 +2,7 @@
 import contextlib, datetime, os, random, signal, subprocess, threading, time
 from openlink_update.children import is_open
 from links import State
-from patience import wait_until
+from fixtures.patience import wait_until
 from slips import KEPT, USED, Slip
 
 

@@ -1,11 +1,11 @@
 """The library's machine: its folders, the processes under a supervisor, nginx with the front door, the providers'
 server, and runs of update/fetch and update/update on it."""
 import json, os, shutil, signal, subprocess, tempfile, threading
+from fixtures import PYTHON
 from fixtures.library import HERE as FIXTURES, FrontDoor, Library
-from input import PYTHON
+from fixtures.patience import patience, wait_until
+from fixtures.providers import HOSTS, Providers, sign
 from links import FULL, LOAN, LOANS
-from patience import patience, wait_until
-from providers import HOSTS, Providers, sign
 
 HERE = os.path.dirname(os.path.abspath(__file__))
 REPLIES = {"401": "return 401", "403": "return 403", "404": "return 404", "500": "return 500", "204": "return 204",
@@ -76,7 +76,8 @@ class Vendors(Providers):
             os.unlink(self.path("files", "slips", f"{provider.file}.{kind}"))
 
     def ports(self):
-        return {self.year_port, self.port, self.plain, self.stranger, self.expired, self.raw.server_address[1]}
+        return {self.year_port, self.port, self.second, self.plain, self.stranger, self.expired,
+                self.raw.server_address[1]}
 
     def certify(self, days):
         """Gives the last host a certificate that is good for these days."""

@@ -7,7 +7,7 @@ from collection import PLAIN, Collection
 from links import Held, State
 from machine import Machine, Vendors, ended, names_of
 from mail import AFTER_A_KILL, Week
-from patience import patience
+from fixtures.patience import patience
 
 MONDAY = datetime.date(2027, 1, 4)
 SECRET = PLAIN + 1  # the provider whose address has a token

@@ -7,6 +7,7 @@ import shutil
 import socket
 import subprocess
 
+from openlink_update.disk import sync
 from openlink_update.machines import library_files as files
 from openlink_update.machines.libraries import LOCAL, MAIL, REPORT, SITE, Libraries, is_name
 from openlink_update.outcome import ALL_NEW, DEVICE, Failure
@@ -88,6 +89,7 @@ def _add(options: _Options, places: files.Places, libraries: Libraries) -> None:
     files.write_logs(places, options.name)
     files.write_machine(places)
     os.rename(unfinished, folder)
+    sync(libraries.folder)
     try:
         files.write_units(places, options.name, folder, ports)
         run(["systemctl", "daemon-reload"])
@@ -118,6 +120,7 @@ def _remove(options: _Options, places: files.Places, libraries: Libraries) -> No
         shutil.rmtree(folder / name, ignore_errors=True)
     os.unlink(folder / "lock")
     os.rename(folder, remains)
+    sync(libraries.folder)
     lock.close()
     report(f"{options.name} is removed; its input and its site are in {remains}")
 

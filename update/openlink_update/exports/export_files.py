@@ -4,7 +4,8 @@
     kbart.txt               one KBART file of all targets
     titles.tsv              all titles, for a spreadsheet
 
-They are made of the tables as they are prepared, without walls: pairs of a target and its table, or a part of it."""
+They are made of the tables as they are prepared, without walls: pairs of the name of a target and its table, or of the
+name of a part and the part. titles.tsv has the titles of the index of these tables."""
 import contextlib
 import datetime
 import os
@@ -15,10 +16,12 @@ from typing import TextIO
 
 from openlink_update.exports import kbart_file, scholar, title_sheet
 from openlink_update.exports.site_names import SiteNames
+from openlink_update.index.title_groups import Title, Titles
 from openlink_update.site.front_door import Site
+from openlink_update.tables.parts import base_of
 from openlink_update.tables.table import Table
 
-Tables = Iterable[tuple[str, Table]]
+_Tables = Iterable[tuple[str, Table]]
 _STAMP = re.compile(r"(\d{4})(\d\d)(\d\d)T\d{6}Z")
 _PART = re.compile(r"holdings-\d+\.xml")
 
@@ -48,7 +51,8 @@ def _ended(lines: Iterable[str]) -> Iterator[str]:
     return (f"{line}\n" for line in lines)
 
 
-def _items(target: str, table: Table, names: SiteNames, day: datetime.date) -> Iterator[str]:
+def _items(part: str, table: Table, names: SiteNames, day: datetime.date) -> Iterator[str]:
+    target = base_of(part)
     if names.is_full_text(target):
         yield from scholar.items(kbart_file.rows_of(table), names.label(target), day)
 
@@ -67,39 +71,46 @@ def _write_items(items: Iterable[str], site: Site, names: SiteNames, folder: Pat
         _write(folder, "links.xml", [text])
 
 
-def _write_scholar(version: Path, tables: Tables, site: Site, names: SiteNames, folder: Path) -> None:
+def _write_scholar(version: Path, tables: _Tables, site: Site, names: SiteNames, folder: Path) -> None:
     day = day_of(version)
-    _write_items((item for target, table in tables for item in _items(target, table, names, day)), site, names, folder)
+    _write_items((item for part, table in tables for item in _items(part, table, names, day)), site, names, folder)
 
 
-def _write_kbart(version: Path, tables: Tables, site: Site, names: SiteNames, folder: Path) -> None:
+def _write_kbart(version: Path, tables: _Tables, site: Site, names: SiteNames, folder: Path) -> None:
     _write(folder, "kbart.txt", _ended(kbart_file.lines(tables, names)))
 
 
-def _write_titles(version: Path, tables: Tables, site: Site, names: SiteNames, folder: Path) -> None:
-    _write(folder, "titles.tsv", _ended(title_sheet.lines(title_sheet.titles_of(version), names)))
+def _write_titles(version: Path, tables: _Tables, site: Site, names: SiteNames, folder: Path) -> None:
+    titles = Titles()
+    for part, table in tables:
+        titles.add_table(part, table)
+    _write_sheet(titles.finish().titles, names, folder)
 
 
-WRITERS: dict[str, Callable[[Path, Tables, Site, SiteNames, Path], None]] = {
+def _write_sheet(titles: Iterable[Title], names: SiteNames, folder: Path) -> None:
+    _write(folder, "titles.tsv", _ended(title_sheet.lines(titles, names)))
+
+
+WRITERS: dict[str, Callable[[Path, _Tables, Site, SiteNames, Path], None]] = {
     "scholar": _write_scholar,
     "kbart": _write_kbart,
     "titles": _write_titles,
 }
 
 
-def make(version: Path, tables: Tables, site: Site, targets: Path | None) -> str:
-    """Writes all of them into the version, with the labels of a targets.json. Returns what is wrong with it, if
-    something is. Each table is written to the KBART file when its items for Google Scholar are made, so that only one
-    is in memory."""
+def make(version: Path, tables: _Tables, titles: Iterable[Title], site: Site, targets: Path | None) -> str:
+    """Writes all of them into the version, with the labels of a targets.json; `titles` are those of the tables. Returns
+    what is wrong with it, if something is. Each table is written to the KBART file when its items for Google Scholar
+    are made, so that only one is in memory."""
     names, folder, day = SiteNames(targets), version / "export", day_of(version)
     with _replacing(folder, "kbart.txt") as file:
         file.write(f"{kbart_file.heading()}\n")
 
         def items() -> Iterator[str]:
-            for target, table in tables:
-                file.writelines(_ended(kbart_file.lines_of(target, table, names)))
-                yield from _items(target, table, names, day)
+            for part, table in tables:
+                file.writelines(_ended(kbart_file.lines_of(part, table, names)))
+                yield from _items(part, table, names, day)
 
         _write_items(items(), site, names, folder / "scholar")
-    _write_titles(version, tables, site, names, folder)
+    _write_sheet(titles, names, folder)
     return names.fault

@@ -4,6 +4,7 @@ from collections.abc import Iterable, Iterator
 
 from openlink_update.exports.site_names import SiteNames
 from openlink_update.received.headers import COLUMNS
+from openlink_update.tables.parts import base_of
 from openlink_update.tables.table import Table
 
 _OLDER = {"coverage_notes": "notes"}  # the name of a column in the first edition
@@ -23,9 +24,9 @@ def heading() -> str:
     return "\t".join((*COLUMNS, _PROVIDER))
 
 
-def lines_of(target: str, table: Table, names: SiteNames) -> Iterator[str]:
+def lines_of(part: str, table: Table, names: SiteNames) -> Iterator[str]:
     """Yields the lines of a target, or of a part of it."""
-    provider = " ".join(names.label(target).split())
+    provider = " ".join(names.label(base_of(part)).split())
     for row in rows_of(table):
         yield "\t".join((*(row.get(name, "") for name in COLUMNS), provider))
 
@@ -33,5 +34,5 @@ def lines_of(target: str, table: Table, names: SiteNames) -> Iterator[str]:
 def lines(tables: Iterable[tuple[str, Table]], names: SiteNames) -> Iterator[str]:
     """Yields the lines of the file."""
     yield heading()
-    for target, table in tables:
-        yield from lines_of(target, table, names)
+    for part, table in tables:
+        yield from lines_of(part, table, names)

@@ -5,13 +5,14 @@ import datetime
 import re
 from collections.abc import Iterable, Iterator
 from xml.sax.saxutils import escape
+
 from openlink_update.exports.site_names import SiteNames
-from openlink_update.tables.identifiers import form_of, is_issn
 from openlink_update.index.titles import plain
 from openlink_update.tables.embargo import Embargo
+from openlink_update.tables.identifiers import form_of, is_issn
 from openlink_update.tables.row_dates import DATE, NONE, date_in
 
-MOST_BYTES = 1_000_000  # of a part
+_MOST_BYTES = 1_000_000  # of a part
 _NOT_FULL_TEXT = ("abstracts", "print")
 _NUMBER = re.compile(r"[1-9]\d{0,5}", re.A)
 _NO_XML = re.compile("[^\t\n\r\x20-\ud7ff\ue000-\ufffd\U00010000-\U0010ffff]")
@@ -85,13 +86,13 @@ def items(rows: Iterable[dict[str, str]], provider: str, day: datetime.date) -> 
 
 
 def holdings(items: Iterable[str]) -> Iterator[str]:
-    """Yields documents with all items, each of at most MOST_BYTES."""
+    """Yields documents with all items, each of at most _MOST_BYTES."""
     head, end = _HEAD.format(*_HOLDINGS), f"</{_HOLDINGS[0]}>\n"
     parts: list[str] = []
     size = 0
     for item in items:
         length = len(item.encode())
-        if parts and len(head) + size + length + len(end) > MOST_BYTES:
+        if parts and len(head) + size + length + len(end) > _MOST_BYTES:
             yield head + "".join(parts) + end
             parts, size = [], 0
         parts.append(item)

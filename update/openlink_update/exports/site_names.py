@@ -1,54 +1,56 @@
 """What targets.json says of the library and its targets, in the default language."""
 import json
+import os
+
+
+def _member(value: object, name: str) -> object:
+    return value.get(name) if isinstance(value, dict) else None
 
 
 class SiteNames:
-    def __init__(self, path):
+    def __init__(self, path: str | os.PathLike[str] | None) -> None:
         """Reads a targets.json, if the site names one. `fault` says why it cannot be read; then targets have only their
         names."""
-        self.fault, self.site = "", {}
+        self.fault = ""
+        self._site: object = {}
         try:
             if path:
                 with open(path, encoding="utf-8") as file:
-                    self.site = json.load(file)
+                    self._site = json.load(file)
         except OSError as fault:
             self.fault = f"{path}: {fault.strerror}"
         except ValueError as fault:
             self.fault = f"{path}: {fault}"
-        self.groups = [self.member(group, "name") for group in self.list_of("groups")]
-        self.language = next((it for it in self.list_of("languages") if isinstance(it, str)), "en")
+        self._groups = [_member(group, "name") for group in self._list_of("groups")]
+        self._language = next((it for it in self._list_of("languages") if isinstance(it, str)), "en")
 
-    @staticmethod
-    def member(value, name):
-        return value.get(name) if isinstance(value, dict) else None
-
-    def list_of(self, name):
-        found = self.member(self.site, name)
+    def _list_of(self, name: str) -> list[object]:
+        found = _member(self._site, name)
         return found if isinstance(found, list) else []
 
-    def text(self, value):
+    def _text(self, value: object) -> str:
         """A text that is the same in all languages, or one of several."""
         if isinstance(value, dict):
-            value = value.get(self.language)
+            value = value.get(self._language)
         return value.strip() if isinstance(value, str) else ""
 
-    def target(self, name):
-        return self.member(self.member(self.site, "targets"), name)
+    def _target(self, name: str) -> object:
+        return _member(_member(self._site, "targets"), name)
 
-    def label(self, name):
-        return self.text(self.member(self.target(name), "label")) or name
+    def label(self, name: str) -> str:
+        return self._text(_member(self._target(name), "label")) or name
 
-    def is_full_text(self, name):
+    def is_full_text(self, name: str) -> bool:
         """Whether the links of a target are in the first group, as the front door puts them."""
-        if not self.groups:
+        if not self._groups:
             return True
-        target = self.target(name)
-        group = self.text(self.member(target, "group"))
-        return target is not None and (group == self.groups[0] or group not in self.groups)
+        target = self._target(name)
+        group = self._text(_member(target, "group"))
+        return target is not None and (group == self._groups[0] or group not in self._groups)
 
-    def library(self):
-        return self.text(self.member(self.member(self.site, "words"), "library"))
+    def library(self) -> str:
+        return self._text(_member(_member(self._site, "words"), "library"))
 
-    def scholar(self, name):
+    def scholar(self, name: str) -> str:
         """A text for Google Scholar."""
-        return self.text(self.member(self.member(self.site, "scholar"), name))
+        return self._text(_member(_member(self._site, "scholar"), name))

@@ -9,71 +9,78 @@ enough that no key of the page before has it, but at least two and at most MOST_
 PAGE titles, and each letter begins a new one. A line of a page has the cells TITLE, NUMBERS and COVERAGE.
 """
 import os
+from collections.abc import Iterable
+from pathlib import Path
+
 from openlink_update.index.index_files import write_lines
+from openlink_update.index.title_groups import Title
 
 PAGE = 50  # titles
-MOST_START = 32  # characters of the beginning of a page
-DIGITS_LETTER, OTHER = "0-9", "other"
-LAST_ALPHABET = "\u06ff"  # those after Arabic have no letters of their own here
+_MOST_START = 32  # characters of the beginning of a page
+_DIGITS, _OTHER = "0-9", "other"
+_LAST_ALPHABET = "\u06ff"  # those after Arabic have no letters of their own here
+
+Page = tuple[str, list[Title]]  # its letter and titles
+_Numbered = tuple[int, list[Title]]
 
 
-def letter_of(key):
+def _letter_of(key: str) -> str:
     """The letter under which a key is: that of its first character."""
     first = key[:1]
     if first.isdigit() and first.isascii():
-        return DIGITS_LETTER
-    return first if first.isalpha() and first <= LAST_ALPHABET else OTHER
+        return _DIGITS
+    return first if first.isalpha() and first <= _LAST_ALPHABET else _OTHER
 
 
-def order_of(letter):
+def _order_of(letter: str) -> tuple[int, str]:
     """a to z, digits, other alphabets, and last what is no letter."""
-    if letter == OTHER:
+    if letter == _OTHER:
         return 3, ""
-    if letter == DIGITS_LETTER:
+    if letter == _DIGITS:
         return 1, ""
     return (0 if letter.isascii() else 2), letter
 
 
-def ordered(titles):
-    return sorted(titles, key=lambda title: (order_of(letter_of(title.key)), title.key, title.name))
+def ordered(titles: Iterable[Title]) -> list[Title]:
+    return sorted(titles, key=lambda title: (_order_of(_letter_of(title.key)), title.key, title.name))
 
 
-def pages_of(titles):
+def pages_of(titles: Iterable[Title]) -> list[Page]:
     """Pages of titles in their order, each with its letter."""
-    pages = []
+    pages: list[Page] = []
     for title in titles:
-        letter = letter_of(title.key)
+        letter = _letter_of(title.key)
         if not pages or pages[-1][0] != letter or len(pages[-1][1]) == PAGE:
             pages.append((letter, []))
         pages[-1][1].append(title)
     return pages
 
 
-def write_pages(folder, pages, count, digits):
+def write_pages(folder: Path, pages: list[Page], count: int, digits: int) -> None:
     """Writes the pages of `count` titles, and the letters; `digits` is the number of digits of the names of words."""
-    os.makedirs(folder)
-    letters = {}
+    folder.mkdir(parents=True)
+    letters: dict[str, list[_Numbered]] = {}
     for number, (letter, titles) in enumerate(pages):
-        write_lines(folder, str(number), [line_of(title).encode() for title in titles])
+        write_lines(folder / str(number), [_line_of(title).encode() for title in titles])
         letters.setdefault(letter, []).append((number, titles))
     lines = [
-        f"{letter}\t{its[0][0]}\t{len(its)}\t{sum(len(titles) for _, titles in its)}\t{starts_of(its)}"
+        f"{letter}\t{its[0][0]}\t{len(its)}\t{sum(len(titles) for _, titles in its)}\t{_starts_of(its)}"
         for letter, its in letters.items()
     ]
-    write_lines(folder, "letters", [line.encode() for line in (f"{count}\t{digits}", *lines)])
+    write_lines(folder / "letters", [line.encode() for line in (f"{count}\t{digits}", *lines)])
 
 
-def starts_of(pages):
+def _starts_of(pages: list[_Numbered]) -> str:
     """The beginnings of the pages of a letter."""
     starts, before = [], ""
     for _, titles in pages:
         key = titles[0].key
         length = max(2, len(os.path.commonprefix([before, key])) + 1)
         length += key[length - 1 : length] == " "
-        starts.append(key[: min(length, MOST_START)].rstrip())
+        starts.append(key[: min(length, _MOST_START)].rstrip())
         before = titles[-1].key
     return ";".join(starts)
 
 
-def line_of(title):
+def _line_of(title: Title) -> str:
     return f"{title.name}\t{title.forms}\t{title.coverage_text()}"

@@ -56,7 +56,7 @@ def _row_of(target: str, number: int, cells: list[str]) -> Row | None:
     title = plain(title)[:MOST_CHARACTERS] if forms else ""
     if not title:
         return None
-    coverage = f"{target} {number} {date_in(first)} {date_in(last)} {embargo_in(embargo)}"
+    coverage = f"{target} {number} {date_in(first)} {date_in(last)} {_embargo_in(embargo)}"
     while coverage.endswith(f" {NONE}"):
         coverage = coverage[:-2]
     return Row(title, forms, columns, _is_journal(kind, forms), coverage, title_id, preceding_id)
@@ -67,6 +67,6 @@ def _is_journal(kind: str, forms: list[str]) -> bool:
     return kind.strip().lower() != "monograph" and any(map(is_issn, forms))
 
 
-def embargo_in(text: str) -> str:
+def _embargo_in(text: str) -> str:
     embargo = Embargo.parse(text)
     return embargo.index_text if embargo is not None else NONE

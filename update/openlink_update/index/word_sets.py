@@ -1,9 +1,9 @@
 """The titles that have a word, for the search: for each word, and for each beginning of many words, the places of its
 titles in the list. A title's place is PAGE times the number of its page, plus the number of lines before it there. Its
 words are those of its key, its article, and its words with umlauts as two letters; words of one character are left out,
-and of a longer word only the first MOST_LETTERS count. Of a title the first MOST_WORDS count. Once the titles of a kind
-have ANY_NEW different words, each further title brings at most MOST_NEW that none before it has, so that random words
-take no more memory than the titles themselves.
+and of a longer word only the first _MOST_LETTERS count. Of a title the first _MOST_WORDS count. Once the titles of a
+kind have _ANY_NEW different words, each further title brings at most _MOST_NEW that none before it has, so that random
+words take no more memory than the titles themselves.
 
 A file is named after the MD5 sum of the first three characters of the word. It begins with a line that has the length
 of its text in bytes, this line included. The lines of the text have the cells WORD, COUNT and PLACES. PLACES is
@@ -15,116 +15,141 @@ of its text in bytes, this line included. The lines of the text have the cells W
 
 To find the titles with words that begin with three characters or more, take the first line that begins with them. If
 its PLACES begin with @ or #, it has them all. Otherwise each line that begins with them has some, and all of them
-together have at most FEW. Beginnings of two characters have lines of their own, always with @ or #, in the file named
+together have at most _FEW. Beginnings of two characters have lines of their own, always with @ or #, in the file named
 after the MD5 sum of these two."""
-import array, collections, itertools, os, sys
-from openlink_update.index.index_files import MOST_BYTES, digest, text_of, write
-from openlink_update.index.title_list import PAGE
+import array
+import collections
+import dataclasses
+import itertools
+import os
+import sys
+from collections.abc import Iterable, Iterator
+from pathlib import Path
+
+from openlink_update.index.index_files import MOST_BYTES, digest, text_of
+from openlink_update.index.title_groups import Title
+from openlink_update.index.title_list import PAGE, Page
 from openlink_update.index.titles import written_key
 
-MOST_LETTERS = 60  # of a word
-MOST_WORDS = 40  # of a title
-ANY_NEW, MOST_NEW = 100_000, 4  # different words of all titles, and those that a further title may bring
-FEW = 64  # places that words which begin alike have in all without a line for their beginning
-HEAD = 3  # letters that words in one file have in common
+_MOST_LETTERS = 60  # of a word
+_MOST_WORDS = 40  # of a title
+_ANY_NEW, _MOST_NEW = 100_000, 4  # different words of all titles, and those that a further title may bring
+_FEW = 64  # places that words which begin alike have in all without a line for their beginning
+_HEAD = 3  # letters that words in one file have in common
+
+_Sets = dict[str, "array.array[int]"]  # by word: its places in ascending order
 
 
-def digits_for(titles):
+@dataclasses.dataclass(frozen=True, slots=True)
+class _Line:
+    word: bytes
+    places: "array.array[int]"
+    has_all: bool  # whether the places are those of all words that begin with this one
+
+
+def digits_for(titles: int) -> int:
     """How many digits the names of files have, so that each is small and there are few."""
     return 1 if titles <= 1000 else 2 if titles <= 20000 else 3
 
 
-def words_in(title):
+def words_in(title: Title) -> list[str]:
     words = [*title.key.split(" "), title.article, *written_key(title.name).split(" ")]
-    found = dict.fromkeys(word[:MOST_LETTERS] for word in words if len(word) > 1)
-    return list(itertools.islice(found, MOST_WORDS))
+    found = dict.fromkeys(word[:_MOST_LETTERS] for word in words if len(word) > 1)
+    return list(itertools.islice(found, _MOST_WORDS))
 
 
-def places_by_head(pages):
-    """The words of all titles, by their first letters, each with its places in ascending order."""
-    found = collections.defaultdict(lambda: array.array("I"))
+def places_by_head(pages: Iterable[Page]) -> dict[str, _Sets]:
+    """The words of all titles, by their first letters, each with its places."""
+    found: _Sets = collections.defaultdict(lambda: array.array("I"))
     for number, (_, titles) in enumerate(pages):
         for place, title in enumerate(titles, PAGE * number):
             new = 0  # words that only this title has yet
             for word in words_in(title):
                 new += word not in found
-                if word in found or len(found) < ANY_NEW or new <= MOST_NEW:
+                if word in found or len(found) < _ANY_NEW or new <= _MOST_NEW:
                     found[word].append(place)
-    heads = collections.defaultdict(dict)
+    heads: dict[str, _Sets] = collections.defaultdict(dict)
     for word, places in found.items():
-        heads[word[:HEAD]][word] = places
+        heads[word[:_HEAD]][word] = places
     return heads
 
 
-def union(sets):
+def _union(sets: "list[array.array[int]]") -> "array.array[int]":
     return sets[0] if len(sets) == 1 else array.array("I", sorted(set().union(*sets)))
 
 
-def lines_of(words, places):
-    """Yields lines for sorted words that begin alike: a text, its places, and whether they are those of all words that
-    begin with the text."""
-    if sum(len(places[word]) for word in words) <= FEW:
+def _lines_of(words: list[str], places: _Sets) -> Iterator[_Line]:
+    """Yields lines for sorted words that begin alike."""
+    if sum(len(places[word]) for word in words) <= _FEW:
         for word in words:
-            yield word, places[word], False
+            yield _Line(word.encode(), places[word], False)
         return
     start = os.path.commonprefix([words[0], words[-1]])
-    yield start, union([places[word] for word in words]), True
+    yield _Line(start.encode(), _union([places[word] for word in words]), True)
     rest = (word for word in words if word != start)
     for _, same in itertools.groupby(rest, lambda word: word[len(start)]):
-        yield from lines_of(list(same), places)
+        yield from _lines_of(list(same), places)
 
 
-def all_lines(pages):
+def _all_lines(pages: list[Page]) -> Iterator[tuple[str, _Line]]:
     """Yields the lines of the index, each after the letters that name its file."""
-    by_two = collections.defaultdict(list)
+    by_two: dict[str, list["array.array[int]"]] = collections.defaultdict(list)
     for head, places in places_by_head(pages).items():
-        by_two[head[:2]].append(union(list(places.values())))
-        if len(head) == HEAD:
-            for line in lines_of(sorted(places), places):
+        by_two[head[:2]].append(_union(list(places.values())))
+        if len(head) == _HEAD:
+            for line in _lines_of(sorted(places), places):
                 yield head, line
     for start, sets in by_two.items():
-        yield start, (start, union(sets), True)
+        yield start, _Line(start.encode(), _union(sets), True)
 
 
-def write_words(folder, pages, digits):
-    os.makedirs(folder)
-    files, last = collections.defaultdict(list), PAGE * len(pages) - 1
-    for head, (word, places, has_all) in all_lines(pages):
-        files[digest(head)[:digits]].append((word.encode(), places, has_all))
+def write_words(folder: Path, pages: list[Page], digits: int) -> None:
+    folder.mkdir(parents=True)
+    files: dict[str, list[_Line]] = collections.defaultdict(list)
+    last = PAGE * len(pages) - 1
+    for head, line in _all_lines(pages):
+        files[digest(head)[:digits]].append(line)
     for name, lines in files.items():
-        write(folder, name, data_of(sorted(lines, key=lambda line: line[0]), last // 8 + 1))
+        (folder / name).write_bytes(_data_of(sorted(lines, key=lambda line: line.word), last // 8 + 1))
 
 
-def data_of(lines, most):
+def _data_of(lines: list[_Line], most: int) -> bytes:
     """The bytes of a file: its lines, and then the places of those that have all, in the shorter of two forms. A line's
     places take at most `most` bytes."""
-    texts, sets, size = [], [], 0
-    for word, places, has_all in lines:
-        if not has_all:
-            texts.append(b"%b\t%d\t%b" % (word, len(places), " ".join(map(str, places)).encode()))
+    texts: list[bytes] = []
+    sets: list[bytes] = []
+    size = 0
+    for line in lines:
+        start = b"%b\t%d\t" % (line.word, len(line.places))
+        if not line.has_all:
+            texts.append(start + " ".join(map(str, line.places)).encode())
             continue
-        is_list = 4 * len(places) <= most
-        data = numbers_of(places) if is_list else bits_of(places)
+        is_list = 4 * len(line.places) <= most
+        data = _numbers_of(line.places) if is_list else _bits_of(line.places)
         if size + len(data) > MOST_BYTES:
             break
-        texts.append(b"%b\t%d\t%b%d" % (word, len(places), b"@" if is_list else b"#", size))
+        texts.append(b"%b%b%d" % (start, b"@" if is_list else b"#", size))
         sets.append(data)
         size += len(data)
-    text = text_of(texts)
+    return _with_length(text_of(texts)) + b"".join(sets)
+
+
+def _with_length(text: bytes) -> bytes:
+    """A text after a line that has the length of both."""
     length = len(text) + 2
     while len(b"%d\n" % length) + len(text) != length:
         length += 1
-    return b"%d\n%b%b" % (length, text, b"".join(sets))
+    return b"%d\n%b" % (length, text)
 
 
-def numbers_of(places):
+def _numbers_of(places: "array.array[int]") -> bytes:
     numbers = array.array("I", places)
     if sys.byteorder == "little":
         numbers.byteswap()
     return numbers.tobytes()
 
 
-def bits_of(places):
+def _bits_of(places: "array.array[int]") -> bytes:
     """A bit for each place up to the last, the first one the highest of the first byte."""
     bits = bytearray(places[-1] // 8 + 1)
     for place in places:

@@ -6,6 +6,7 @@ import shutil
 from pathlib import Path
 
 from openlink_update import children
+from openlink_update.disk import sync
 from openlink_update.machines.libraries import LOCAL, SITE, is_name
 from openlink_update.outcome import Failure
 from openlink_update.places import FRONT_DOOR
@@ -51,8 +52,11 @@ class Places:
 
 
 def write(path: Path, text: str, mode: int = 0o644) -> None:
+    """Writes a file, and waits until it is on the disk."""
     with open(os.open(path, os.O_WRONLY | os.O_CREAT | os.O_TRUNC, mode), "w", encoding="utf-8") as file:
         file.write(text)
+    sync(path)
+    sync(path.parent)
 
 
 def read(path: Path) -> str:
@@ -114,6 +118,7 @@ def write_units(places: Places, name: str, folder: Path, ports: list[int]) -> No
         path = _unit_path(places, port)
         os.makedirs(path.parent, exist_ok=True)
         write(path, _UNIT.format(name=name, folder=folder))
+    sync(places.units)
 
 
 def remove_units(places: Places, ports: list[int]) -> None:
@@ -122,6 +127,8 @@ def remove_units(places: Places, ports: list[int]) -> None:
         path.unlink()
         if not os.listdir(path.parent):
             path.parent.rmdir()
+    if ports:
+        sync(places.units)
 
 
 def write_library(places: Places, folder: Path, name: str, host: str, port: int, ports: list[int]) -> None:

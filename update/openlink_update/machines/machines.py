@@ -48,9 +48,10 @@ PROBES, _OF = "probes.tsv", "# hold in "
 # Commands for another machine, in its folder. A file gets its name by a rename, so that the health page sees it whole.
 # A library whose last run was killed has no version. Draining ends by itself, if the run is killed; an empty file is
 # the operator's.
+_UMASK = "umask 022"  # nginx reads as another user
 _STATE = """[ ! -e delivery ] || echo "delivery $(head -n 1 delivery)"
 for it in . *; do [ ! -L "$it/current" ] || [ -L "$it/before" ] || echo "$it $(readlink "$it/current")"; done"""
-_NAME_DELIVERY = "echo {stamp} >delivery.new && mv delivery.new delivery"
+_NAME_DELIVERY = "echo {stamp} >delivery.new && sync delivery.new && mv delivery.new delivery && sync ."
 _DRAIN = """[ -e drain ] && [ ! -s drain ] || {
 date -u -d '+20 minutes' +%Y%m%dT%H%M%SZ >drain.new && mv drain.new drain; }"""
 _END_DRAIN = "[ ! -s drain ] || rm drain"
@@ -112,6 +113,7 @@ def _write(path: Path, text: str) -> None:
     """Writes a file as a whole."""
     new = path.with_name(f"{path.name}.new")
     new.write_text(text, encoding="utf-8")
+    sync(new)
     os.rename(new, path)
     sync(path.parent)
 
@@ -182,7 +184,7 @@ class Machine:
         return run([*shlex.split(self.shell), self.host, text], seconds)
 
     def in_folder(self, text: str) -> str:
-        return self.command(f"cd {shlex.quote(str(self.folder))} || exit\n{text}")
+        return self.command(f"cd {shlex.quote(str(self.folder))} || exit\n{_UMASK}\n{text}")
 
     def ask(self) -> None:
         """Asks for its delivery and the versions in use. What is no name of one counts as none."""
@@ -223,7 +225,8 @@ class Machine:
         return self.folder.joinpath(name, *names)
 
     def _copy(self, source: str, target: str, *options: str) -> None:
-        words = ["rsync", "-a", "--delete", "--mkpath", "--timeout=60", "-e", self.shell, *options]
+        words = ["rsync", "-a", "--delete", "--mkpath", "--timeout=60", f"--rsync-path={_UMASK}; rsync"]
+        words += ["-e", self.shell, *options]
         run([*words, source, f"{self.host}:{target}"], _SECONDS_TO_SEND)
 
     def _send(self, sendable: _Sendable) -> None:

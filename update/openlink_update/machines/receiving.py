@@ -3,6 +3,7 @@ import os
 import shutil
 from pathlib import Path
 
+from openlink_update.disk import sync
 from openlink_update.input_files import InputFolder
 from openlink_update.machines.machines import PROBES, text_in
 from openlink_update.outcome import ALL_NEW, Failure, ignore_signals
@@ -36,7 +37,9 @@ class Receiver(Run):
         ignore_signals()
         library.settle()
         if sent.exists():
+            sync(sent)
             os.rename(sent, library.path(PROBES))
+            sync(library.folder)
         library.remove_old(most)
         self._remove_sent()
         report(f"{stamp} is in use")

@@ -30,9 +30,8 @@ def _change_cells(header: list[str], rows: _Rows, names: tuple[str, ...], change
         for row in rows:
             if len(row) > place and row[place]:
                 new = change(row[place])
-                if new != row[place]:
-                    row[place] = new
-                    count += 1
+                count += new != row[place]
+                row[place] = new  # equal or not: `change` may return the same text for many cells
     return count
 
 

@@ -11,7 +11,7 @@ _ISBN_13 = re.compile(r"97[89]\d{10}", re.A)
 def form_of(cell: str) -> str:
     """The number in a cell in the form that finds its row: an ISSN with its hyphen, or an ISBN of ten or thirteen
     digits; '' if there is none."""
-    if _COMMON(cell):
+    if not cell or _COMMON(cell):
         return cell
     text = cell.replace("-", "").replace(" ", "").upper()
     if len(text) == 8:

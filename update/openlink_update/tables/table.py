@@ -1,5 +1,6 @@
 """A holdings table in memory. Every reader and every writer of a table uses this one class."""
 import dataclasses
+import io
 from collections.abc import Iterable
 
 _BYTE_ORDER_MARK = b"\xef\xbb\xbf"
@@ -16,8 +17,9 @@ class Table:
     @classmethod
     def parse(cls, data: bytes) -> "Table":
         """The table of bytes whose lines end as the program reads them: with LF, CR LF or CR. Blank lines are none."""
-        text = data.removeprefix(_BYTE_ORDER_MARK).replace(b"\r\n", b"\n").replace(b"\r", b"\n")
-        rows = [line.split("\t") for line in text.decode("utf-8", "replace").split("\n") if line]
+        # Line by line: all lines at once take as much memory as the rows.
+        lines = io.TextIOWrapper(io.BytesIO(data.removeprefix(_BYTE_ORDER_MARK)), "utf-8", "replace")
+        rows = [line.removesuffix("\n").split("\t") for line in lines if line != "\n"]
         return cls(tuple(rows[0]), rows[1:]) if rows else cls((), [])
 
     def to_bytes(self) -> bytes:

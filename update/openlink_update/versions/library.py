@@ -155,7 +155,9 @@ class Library:
         with open(new, "w", encoding="ascii") as file:
             file.write(f"{_now().strftime(STAMP)}\n")
         os.chmod(new, 0o644)
+        sync(new)
         os.rename(new, self.path("updated"))
+        sync(self.folder)
 
     def forget_updates(self) -> None:
         """Another machine makes the versions from now on, and knows when."""

@@ -26,12 +26,12 @@ from collections.abc import Callable, Iterator
 from pathlib import Path
 
 from openlink_update.index import title_index
+from openlink_update.index.title_groups import Title
 from openlink_update.input_files import InputFile
 from openlink_update.outcome import Failure, Refused
 from openlink_update.received import patterns
 from openlink_update.shown_text import amount
 from openlink_update.tables import date_order, dropped_rows, row_changes
-from openlink_update.tables.parts import base_of
 from openlink_update.tables.preparation import Prepared
 from openlink_update.tables.table import Table
 from openlink_update.versions import earlier_files, shared_tables
@@ -125,6 +125,7 @@ class Maker:
         self.names: list[str] = []
         self.kept: list[str] = []
         self.left_out: list[str] = []
+        self.titles: list[Title] = []  # of the index, for the exports
         for part in ("received", "code", "tables", "dropped"):
             (self._folder / part).mkdir()
         self._tables, self._prepared = Tables(self._folder, today), PreparedTables(self._folder)
@@ -159,22 +160,20 @@ class Maker:
         self._write("registry.tsv", self._tables.registry(self.names))
         self._write("allowed.tsv", self._judge.text(self.names).encode())
         self._write(earlier_files.NAME, self._earlier.text(self.names, self._today).encode())
-        title_index.begin(str(self._folder / "index"), has_list)
+        title_index.begin(self._folder / "index", has_list)
 
     def make_index(self, has_list: bool) -> None:
         """Makes the index, which takes longest."""
-        title_index.make(str(self._folder / "index"), has_list, self._prepared_parts())
-
-    def tables_for_export(self) -> Iterator[tuple[str, Table]]:
-        """Yields the tables of all targets without walls. A large one comes in parts, each after the target's name."""
-        for part, table in self._prepared_parts():
-            yield base_of(part), table
+        self.titles = title_index.make(self._folder / "index", has_list, self.prepared_parts())
 
     def remove_prepared(self) -> None:
         """Removes what only the index and the exports need."""
         self._prepared.remove()
+        self.titles = []
 
-    def _prepared_parts(self) -> Iterator[tuple[str, Table]]:
+    def prepared_parts(self) -> Iterator[tuple[str, Table]]:
+        """Yields the tables of all targets without walls, each after the target's name. A large one comes in parts,
+        each after the name of the part."""
         for name in self.names:
             yield from self._tables.divided(name, self._prepared.table(name))
 

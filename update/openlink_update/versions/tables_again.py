@@ -12,8 +12,8 @@ from openlink_update.versions.served import divided, names_in, targets_in
 
 
 def tables_of(version: Path, day: datetime.date) -> Iterator[tuple[str, Table]]:
-    """Yields the tables of all targets of a version that was made on a day. A large one comes in its parts, each after
-    the target's name. A Failure says which cannot be prepared."""
+    """Yields the tables of all targets of a version that was made on a day, each after the target's name. A large one
+    comes in its parts, each after the name of the part. A Failure says which cannot be prepared."""
     names = names_in(version)
     for target in targets_in(version):
         files = files_in(version, target)
@@ -24,8 +24,7 @@ def tables_of(version: Path, day: datetime.date) -> Iterator[tuple[str, Table]]:
         except Refused as refusal:
             raise Failure(f"{target}: its table cannot be prepared: {refusal.reasons[0]}", DEVICE) from refusal
         has_parts = sum(parts.base_of(name) == target for name in names) > 1
-        for _, part in divided(table, _places(target, table, day) if has_parts else {target: range(len(table.rows))}):
-            yield target, part
+        yield from divided(table, _places(target, table, day) if has_parts else {target: range(len(table.rows))})
 
 
 def _places(target: str, table: Table, day: datetime.date) -> dict[str, Sequence[int]]:

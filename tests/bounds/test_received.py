@@ -1,0 +1,121 @@
+"""Files of providers as they came: how large a table, a line and an archive may be."""
+from __future__ import annotations
+
+import gzip
+import io
+import zipfile
+from collections.abc import Callable
+from unittest import mock
+
+from bounds.refusals import reason
+from fixtures.cases import Case
+from openlink_update.received import archives
+from openlink_update.received import headers
+from openlink_update.received import limits
+from openlink_update.received import texts
+from openlink_update.tables import preparation
+
+NAMES = "publication_title,print_identifier,online_identifier"
+
+
+def zipped(names: list[str], data: bytes = b"text") -> bytes:
+    file = io.BytesIO()
+    with zipfile.ZipFile(file, "w", zipfile.ZIP_DEFLATED) as archive:
+        for name in names:
+            archive.writestr(name, data)
+    return file.getvalue()
+
+
+class Tables(Case):
+    def test_columns(self) -> None:
+        said = "line 2 has 501 cells, and a table may have 500 columns"
+        for name, separator in (("tabs", "\t"), ("commas", ","), ("semicolons", ";")):
+            head = NAMES.replace(",", separator) + "\n"
+            for count, wanted in ((500, ""), (501, said)):
+                row = separator.join("x" * count) + "\n"
+                self.expect(f"{count}, {name}", reason(preparation.read, f"{head}{row}".encode()), wanted)
+        self.expect(
+            "what is in quotes separates nothing",
+            reason(preparation.read, f'{NAMES}\n"{",".join("x" * 501)}",a,b\n'.encode()),
+            "",
+        )
+
+    def test_bytes_of_a_line(self) -> None:
+        said = (
+            "line 2 has 100,{:03} bytes, and 100,000 are possible: is it a table, with an end of line after each row?"
+        )
+        head = NAMES.replace(",", "\t") + "\n"
+        for name, data, wanted in (
+            ("100,000", head + "x" * 100_000, ""),
+            ("100,001", head + "x" * 100_001, said.format(1)),
+            ("100,000 of two bytes each", head + "ä" * 50_000, ""),
+            ("100,002 of two bytes each", head + "ä" * 50_001, said.format(2)),
+            ("a line end counts for nothing", f"{head}{'x' * 100_000}\r\n", ""),
+        ):
+            self.expect(name, reason(preparation.read, data.encode()), wanted)
+        for count, wanted in ((50_000, ""), (50_001, said.format(2))):
+            self.expect(
+                f"{count} characters of UTF-16", reason(preparation.read, (head + "x" * count).encode("utf-16")), wanted
+            )
+
+    def test_bytes_of_a_row_in_lines(self) -> None:
+        """A cell in quotes may have lines, as one has whose quote is not closed."""
+        for count, wanted in ((99_998, ""), (99_999, "line 2: quotes that do not match")):
+            cell = "\n".join(["x" * 1000] * 99 + ["x" * (count - 99_000)])
+            self.expect(
+                f"{count} and two quotes",
+                reason(preparation.read, f'{NAMES}\n"{cell}",\n'.encode()[:-2] + b"\n"),
+                wanted,
+            )
+
+    def test_lines(self) -> None:
+        said = "it has 2,000,001 lines, and a table may have 2,000,000: is it a table of holdings?"
+        for name, end in (("LF", b"\n"), ("CR LF", b"\r\n"), ("CR", b"\r")):
+            self.expect(f"2,000,000, {name}", reason(limits.check, end * 2_000_000), "")
+            self.expect(f"2,000,001, {name}", reason(limits.check, end * 2_000_001), said)
+            self.expect(f"2,000,000 without a last end, {name}", reason(limits.check, end * 1_999_999 + b"x"), "")
+            self.expect(f"2,000,001 without a last end, {name}", reason(limits.check, end * 2_000_000 + b"x"), said)
+        self.expect("a text", reason(limits.check, "\n" * 2_000_001), said)
+
+    def test_header(self) -> None:
+        """It is among the first twenty lines, and has three names of the standard."""
+        head = "publication_title\tprint_identifier\tonline_identifier"
+        self.expect("in line 20", headers.find(["x"] * 19 + [head]), (19, "\t"))
+        self.expect("in line 21", headers.find(["x"] * 20 + [head]), (None, "\t"))
+        self.expect("two names", headers.find([head.rpartition("\t")[0] + "\tmine"]), (None, "\t"))
+        table = preparation.read(f"{'about' * 3}\n{head}\na\tb\tc\n".encode())
+        self.expect("what stands above it is left out", table[1], [["a", "b", "c"]])
+
+    def test_web_page(self) -> None:
+        """It begins within the first 10,000 characters."""
+        around = len("<!---->")
+        for end, wanted in ((10_000, True), (10_001, False)):
+            data = f"<!--{'x' * (end - around - len('<html'))}--><html>"
+            self.expect(f"its name ends with character {end}", texts.is_web_page(data), wanted)
+
+
+class Archives(Case):
+    def test_bytes(self) -> None:
+        """Of the file that is unpacked, while it is unpacked."""
+        said = "more than 256 MB when unpacked: ask the provider for smaller files"
+        self.expect("256 MB", (limits.MOST_BYTES, reason(limits.check_size, 256 * 2**20)), (268_435_456, ""))
+        self.expect("and a byte", reason(limits.check_size, 256 * 2**20 + 1), said)
+        packers: dict[str, Callable[[bytes], bytes]] = {
+            "gzip": gzip.compress,
+            "zip": lambda data: zipped(["table.txt"], data),
+        }
+        with mock.patch.object(limits, "MOST_BYTES", 5000):
+            for name, pack in packers.items():
+                self.expect(f"the last, {name}", archives.unpacked(pack(bytes(5000))), bytes(5000))
+                self.expect(f"beyond, {name}", reason(archives.unpacked, pack(bytes(5001))), said)
+                with mock.patch.object(archives, "CHUNK", 100):
+                    self.expect(f"in pieces, {name}", reason(archives.unpacked, pack(bytes(5001))), said)
+
+    def test_members(self) -> None:
+        names = [f"{number}.txt" for number in range(10_000)]
+        self.expect("10,000", archives.unpacked(zipped(names), "77.txt"), b"text")
+        self.expect(
+            "10,001",
+            reason(archives.unpacked, zipped([*names, "other"]), "77.txt"),
+            "a zip file with more than 10,000 members: pack the table alone",
+        )

@@ -1,0 +1,168 @@
+"""The key of a title: cases, and the same keys in njs."""
+from __future__ import annotations
+
+import json
+import os
+import random
+import subprocess
+import tempfile
+
+from fixtures import needs
+from fixtures.cases import Case
+from openlink_update.index import titles
+
+# A title, its key, and the key without the subtitle.
+CASES = [
+    ("Annals of Tidal Studies", "annals of tidal studies", ""),
+    ("The  ANNALS of\ttidal-studies.", "annals of tidal studies", ""),
+    ("The", "the", ""),
+    ("Études océanographiques", "etudes oceanographiques", ""),
+    ("E\u0301tudes", "etudes", ""),
+    ("Die Straße & das Æther", "strasse and das aether", ""),
+    ("R&amp;D", "r and d", ""),
+    ("R&amp;amp;D", "r and d", ""),
+    ("AT&T; and &bogus;", "at and t and and bogus", ""),
+    ("Caf&eacute; &#233; &#xE9;", "cafe e e", ""),
+    ("&#55296;&#0;", "and 55296 and 0", ""),
+    ("<i>E. coli</i> in H<sub>2</sub>O", "e coli in h2o", ""),
+    ("&lt;i&gt;E. coli&lt;/i&gt;", "e coli", ""),
+    ("3 < 4 > 2", "3 4 2", ""),
+    ("L'Année sociologique", "annee sociologique", ""),
+    ("«L’École»", "ecole", ""),
+    ("L'!", "l", ""),
+    ("Un’altra storia", "altra storia", ""),
+    ("UN's role", "uns role", ""),
+    ("Reader's Guide", "readers guide", ""),
+    ("Los Angeles", "angeles", ""),
+    ("Gli studi", "studi", ""),
+    ("Der Der", "der", ""),
+    ("Zeit\u00adschrift\u200b", "zeitschrift", ""),
+    ("ΟΔΥΣΣΕΎΣ", "οδυσσευσ", ""),
+    ("İstanbul Йод", "istanbul иод", ""),
+    ("Teil Ⅳ, № １２", "teil iv 12", ""),
+    ("中国科学", "中国科学", ""),
+    ("...", "", ""),
+    ("", "", ""),
+    ("Acta: X", "acta x", "acta"),
+    ("Acta = Acts", "acta acts", "acta"),
+    ("Acta – Reports", "acta reports", "acta"),
+    ("Acta-Reports", "acta reports", ""),
+    ("Acta (Online)", "acta online", "acta"),
+    ("Acta [1995] (Online)", "acta 1995 online", "acta 1995"),
+    ("Acta (Online) B", "acta online b", ""),
+    ("Acta / edited by A. Li", "acta edited by a li", "acta"),
+    ("Input/output", "input output", ""),
+    ("Annals of Tides, The", "annals of tides", ""),
+    ("Annals of Tides, the.", "annals of tides", ""),
+    ("Siècle, Le", "siecle", ""),
+    ("Annals of Tides, A", "annals of tides a", ""),
+    ("Tides, ebb, and the", "tides ebb and the", ""),
+    (", The", "the", ""),
+    ("The Tides, The", "tides", ""),
+    (": X", "x", ""),
+    ("A" * 499 + " é", "a" * 499, ""),
+    ("A" * 600 + ": b", "a" * 500, ""),
+]
+PIECES = [
+    *" '’:=()[]-–—&;<>/#xliugnABCXYZabcßéÉàñäÖüЙйΣςσ\u0301\u00ad\u200b１Ⅳﬁ漢語😀",
+    "&amp;",
+    "&eacute;",
+    "&#39;",
+    "&#x2019;",
+    "<i>",
+    "</i>",
+    "the ",
+    "The ",
+    "L'",
+    "l’",
+    "un'",
+    "Die ",
+    " : ",
+    " - ",
+    " / ",
+    ", the",
+    ", Les",
+    "a\u0308",
+    "O\u0308",
+    "u\u0308",
+]
+SCRIPT = """import titles from 'titles.js';
+import fs from 'fs';
+globalThis.fold = JSON.parse(fs.readFileSync('fold.json'));
+const list = fs.readFileSync(process.argv[2], 'utf8').split('\\n');
+const short = (it) => titles.shorter(it) === titles.plain(it.slice(0, 500)) ? '' : titles.keyOf(titles.shorter(it));
+const keys = (it) => [titles.keyOf(it), short(it), titles.keyOf(titles.writtenOut(it))].join('\\t');
+fs.writeFileSync(process.argv[3], list.map(keys).join('\\n'));
+"""
+PART = 2500  # njs frees no memory, so it gets few titles at a time
+
+
+def texts() -> list[str]:
+    """The cases, every character below U+3000, a part of the others, and made texts of hard pieces."""
+    source = random.Random(7)
+    found = [title for title, _, _ in CASES]
+    codes = [*range(0x20, 0x3000), *source.sample(range(0x3000, 0x2FA20), 2000)]
+    found += [f"a{chr(code)}b" for code in codes if not 0xD800 <= code < 0xE000]
+    # Texts of 32 characters and of their multiples, since njs has found their ends hard.
+    found += ["".join(source.choices(PIECES, k=source.randrange(1, 25))) for _ in range(4000)]
+    for length in (32, 64, 96):
+        found += ["é" * length, "a" * (length - 1) + "é", "é" * (length - 1) + "–", "ab" * (length // 2 - 1) + "é&amp;"]
+    # Only the first 500 characters count, of which the last may be an umlaut, or begin a word or a subtitle.
+    for length in (498, 499, 500, 501, 5000):
+        found += [f"{'a' * length}{end}" for end in ("ü b", " bc", ": b", " (b)")]
+    return [text.replace("\n", " ") for text in found]
+
+
+def in_njs(texts: list[str]) -> list[str]:
+    """The keys that front_door/titles.js makes, as lines."""
+    with tempfile.TemporaryDirectory() as folder:
+        for name, text in (("keys.js", SCRIPT), ("titles", "\n".join(texts))):
+            with open(os.path.join(folder, name), "w", encoding="utf-8") as file:
+                file.write(text)
+        paths = [os.path.join(folder, name) for name in ("keys.js", "titles", "keys")]
+        subprocess.run(["njs", "-p", os.path.abspath("front_door"), *paths], cwd="front_door", check=True)
+        with open(paths[2], encoding="utf-8") as file:
+            return file.read().split("\n")
+
+
+class Keys(Case):
+    """The same keys in the update and the front door."""
+
+    def test_cases(self) -> None:
+        for title, key, short in CASES:
+            self.expect(f"the key of {title[:40]!r}", (titles.key_of(title), titles.short_key(title)), (key, short))
+
+    def test_umlauts(self) -> None:
+        for title, written, key in (
+            ("Küste & Öl", "kueste & oel", "kueste and oel"),
+            ("Straße", "straße", ""),
+            ("A\u0308rzte", "aerzte", "aerzte"),
+            ("H&auml;fen", "haefen", "haefen"),
+            ("Ñandú", "ñandú", ""),
+            ("Hafen", "hafen", ""),
+            ("R&amp;D", "r&d", ""),
+        ):
+            self.expect(
+                f"the umlauts of {title}", (titles.written_out(title), titles.written_key(title)), (written, key)
+            )
+
+    def test_table(self) -> None:
+        with open("front_door/fold.json", encoding="utf-8") as file:
+            self.expect(
+                "front_door/fold.json is what update/openlink_update/index/titles.py prints",
+                json.load(file),
+                {"letters": titles.letters(), "entities": titles.entities()},
+            )
+
+    @needs.command("njs")
+    def test_same_keys(self) -> None:
+        found = texts()
+        for start in range(0, len(found), PART):
+            part = found[start : start + PART]
+            differing = [
+                (text, keys)
+                for text, keys in zip(part, in_njs(part), strict=True)
+                if keys
+                != "\t".join((titles.key_of(text), titles.short_key(text), titles.key_of(titles.written_out(text))))
+            ]
+            self.expect(f"njs makes the keys of {len(part)} titles from {start}", differing[:5], [])

@@ -1,0 +1,56 @@
+"""Restarts that do not bring the new version: a process that answers counts as restarted only with its targets."""
+from __future__ import annotations
+
+import os
+
+from fixtures import needs
+from fixtures.cases import Case
+from fixtures.library import Library
+
+OLD_ONE = "it has the targets of another version"
+
+
+@needs.nginx()
+@needs.program()
+class Restarts(Case):
+    def test_restart_that_does_nothing(self) -> None:
+        """Without probes, the names of the targets alone say that a process still has the old version."""
+        with Library() as library:
+            os.unlink(library.input.path("probes.tsv"))
+            first, port = library.current(), library.site.ports[0]
+            library.input.names.remove("book-house")
+            library.input.write_list()
+            status, printed = library.run("--seconds", "1", restart="true")
+            self.expect(
+                f"a command that does nothing: {printed}",
+                (status, library.current(), library.weeks_served(), library.left_behind()),
+                (3, first, {"A"}, []),
+            )
+            self.expect_lines(
+                "why",
+                printed,
+                f"openlink-update: the process at port {port} does not answer within 1 seconds: {OLD_ONE}",
+                f"{first} is in use again",
+            )
+            status, printed = library.run()
+            self.expect(f"a command that restarts: {printed}", (status, len(library.names())), (0, 4))
+
+    def test_some_restarts_that_do_nothing(self) -> None:
+        """The second process stays with the old version: the first goes back to it too."""
+        with Library() as library:
+            os.unlink(library.input.path("probes.tsv"))
+            first, (_, port) = library.current(), library.site.ports
+            library.input.names.remove("book-house")
+            library.input.write_list()
+            restart = f"sh -c '[ PORT = {port} ] || exec {library.restart}'"
+            status, printed = library.run("--seconds", "1", restart=restart)
+            self.expect(
+                f"one that does nothing: {printed}",
+                (status, library.current(), library.weeks_served(), library.left_behind()),
+                (3, first, {"A"}, []),
+            )
+            self.expect_lines(
+                "why",
+                printed,
+                f"openlink-update: the process at port {port} does not answer within 1 seconds: {OLD_ONE}",
+            )
