@@ -40,7 +40,7 @@ function linesWith(bytes, beginning, most) {
         else high = middle;
     }
     let found = null;
-    for (let size = high - low + READ_BYTES; found === null; size *= 8) {
+    for (let size = high - low + READ_BYTES; found === null; size *= 2) {
         const text = bytes.slice(low, low + size).toString();
         found = linesIn(text, beginning, most, high - low, low + size >= bytes.length);
     }

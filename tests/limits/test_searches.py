@@ -20,6 +20,7 @@ TITLES, TARGETS = 1200, 20
 MOST_OF_WORD, MOST_OF_PAGE, MOST_PAGES = 1 << 20, 50 * 1301 + 300, 50 + 22
 MOST_OF_LETTERS = 65536
 MOST_ROWS = 12
+SHARED, MOST_OF_NUMBER, MOST_OF_LINE = "2901-0012", 1 << 14, 50_000  # a number of many titles, and bytes of its lines
 SCRIPT = """import search from 'search.js';
 import fs from 'fs';
 globalThis.fold = JSON.parse(fs.readFileSync('fold.json'));
@@ -70,6 +71,7 @@ def tables() -> dict[str, bytes]:
         rows.append(journal(name + "ж" * (500 - len(name)), f"{1000000 + number}0", "", "2001-01-01", "2010-12-31"))
     rare = [f"{start}{number:057}" for start in ("alp", "bet", "gam") for number in range(16000)]
     rare_rows = [journal(" ".join(rare[at : at + 8]), f"{3000000 + at}0") for at in range(0, len(rare), 8)]
+    rows += [journal(f"Щ{number:05} " + "щ" * 490, SHARED) for number in range(60)]
     names = [f"a-target-with-a-long-name-{number:03}" for number in range(TARGETS)]
     return {**{name: table(*rows) for name in names}, "rare": table(*rare_rows)}
 
@@ -96,3 +98,10 @@ class Searches(Case):
             total = sum(size for _, size in found.reads)
             self.expect(f"{name}: {total} bytes in {len(found.reads)} files", total <= most)
             self.expect(f"{name}: {found.rows} rows", found.rows <= MOST_ROWS)
+
+    def test_number(self) -> None:
+        """A search for a number that many titles have shows some of them."""
+        lines = [len("\t".join(cells).encode()) for cells in self.made.of_key(SHARED)]
+        self.expect(f"{len(lines)} titles of {sum(lines)} bytes", sum(lines[1:]) <= MOST_OF_NUMBER < MOST_OF_LINE)
+        found = searched(self.made.folder, SHARED, 1)
+        self.expect("those that are found", (found.titles, found.titles > 1), (len(lines), True))
