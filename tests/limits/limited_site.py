@@ -9,8 +9,8 @@ from collections.abc import Iterable
 from pathlib import Path
 
 from fixtures.cases import Case
+from fixtures.nginx_site import Site
 from fixtures.patience import patience
-from fixtures.site import Site
 
 BALANCER = "set_real_ip_from 127.0.0.1;\nreal_ip_header X-Forwarded-For;\n"
 

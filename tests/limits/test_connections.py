@@ -7,7 +7,7 @@ from pathlib import Path
 
 from fixtures import needs
 from fixtures.cases import Case
-from fixtures.site import Site
+from fixtures.nginx_site import Site
 from limits.idle_clients import idle_connections
 from limits.idle_clients import status_for
 

@@ -9,8 +9,8 @@ import threading
 
 from fixtures import needs
 from fixtures.cases import Case
+from fixtures.local_ports import free_ports
 from fixtures.patience import wait_until
-from fixtures.site import free_ports
 from limits.limited_site import LimitedSite
 from limits.limited_site import Reader
 from limits.limited_site import reader_of

@@ -7,9 +7,9 @@ It needs root. `Door` starts nginx and the processes of the program, with the sa
 import glob, os, re, resource, shutil, signal, socket, subprocess, sys, tempfile, threading, time
 
 TOP = os.path.dirname(os.path.dirname(os.path.dirname(os.path.abspath(__file__))))
-sys.path.insert(0, f"{TOP}/tests/shared")
-from library_index import write_index
-from patience import wait_until
+sys.path.append(f"{TOP}/tests")
+from fixtures.library_index import write_index
+from fixtures.patience import wait_until
 INSIDE = "FRONT_DOOR_NAMESPACES"
 SHARED = "/usr/local/share"  # where the files are that the site includes
 READER_LIMIT = re.compile(r"(zone=openlink_reader_\w+:\w+ rate=)\d+(?=r/s;)")
