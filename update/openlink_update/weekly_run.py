@@ -47,7 +47,7 @@ class Run:
         """Makes a version from a folder and, unless it is only a trial, puts it in use. Returns the exit status."""
         targets = target_list.read(folder)
         names = [target.name for target in targets]
-        for line in (*self._site.differences(names, self.names_file.path_of_next(folder)), *_unused(folder, targets)):
+        for line in (*self.names_file.differences(names, folder), *_unused(folder, targets)):
             report(line)
         return self._next_version(
             folder,
@@ -266,7 +266,10 @@ class Run:
 
 def _unused(folder: InputFolder, targets: list[Target]) -> list[str]:
     """A line for files that a folder's list fetches and no target has, as after a slip in a name."""
-    fetched = sources.read(folder)[0] if folder.exists(sources.LIST) else []
+    try:
+        fetched = sources.read(folder)[0] if folder.exists(sources.LIST) else []
+    except OSError as fault:
+        return [f"{fault.filename or folder.place(sources.LIST)}: {fault.strerror}"]
     patterns = [path for target in targets for path in (*target.tables, target.rules)]
     files = [source.file for source in fetched]
     unused = [file for file in files if not any(archives.fits(str(folder.place(file)), each) for each in patterns)]

@@ -213,7 +213,7 @@ class Machine:
                 faults.append(str(failure))
         self.in_folder(_END_DRAIN)
         if os.path.isdir(self._place(SHARED)):
-            self._copy(f"{self._place(SHARED)}/", f"{self._place(SHARED)}/", "--exclude=.fetch")
+            self._copy(f"{self._place(SHARED)}/", f"{self._place(SHARED)}/")
         if faults:
             raise Failure("\n".join(faults))
 
@@ -245,7 +245,7 @@ class Machine:
         self.command(shlex.join(words), _SECONDS_TO_RECEIVE)
         report(f"{self.host}: {'' if is_alone else f'{name}: '}{sendable.stamp} is in use")
         if os.path.isdir(sendable.input):
-            self._copy(f"{sendable.input}/", f"{self._place(name)}/input/", "--exclude=.fetch")
+            self._copy(f"{sendable.input}/", f"{self._place(name)}/input/")
 
 
 class Delivery:
