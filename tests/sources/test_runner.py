@@ -102,8 +102,8 @@ class Reports(RunnerCase):
 NAMES = [
     (["sources"], 6), (["sums"], 3), (["sources.test_sums"], 3), (["sources.sums"], 3), (["sources.Sums"], 4),
     (["sources.Sums.test_two"], 2), (["sources.test_sums.Sums.test_two"], 1), (["sources.Words", "sources.Sums"], 6),
-    (["a_crate"], 1), (["a_crate", "sums", "sources.test_sums.Words"], 4), (["-k", "two"], 2), (["-k", "*Words.*one"], 2),
-    (["sums", "-k", "one"], 2), (["--early", "-k", "two", "-k", "Words"], 4),
+    (["a_crate"], 1), (["a_crate", "sums", "sources.test_sums.Words"], 4), (["-k", "two"], 2),
+    (["-k", "*Words.*one"], 2), (["sums", "-k", "one"], 2), (["--early", "-k", "two", "-k", "Words"], 4),
 ]
 WRONG = [["nowhere"], ["sources.Nowhere"], ["sources.Sums.test_three"], ["sums", "nowhere"], ["-k", "nowhere"],
          ["--nowhere"], ["--early", "--program"], ["source"], ["Sums"], ["--program", "sums"], [""]]

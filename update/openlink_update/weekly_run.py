@@ -11,12 +11,12 @@ from openlink_update.exports import export_files
 from openlink_update.fetch import sources
 from openlink_update.input_files import InputFolder
 from openlink_update.outcome import ALL_NEW, KEPT, Failure, ignore_signals
-from openlink_update.report import report
+from openlink_update.received import archives
+from openlink_update.shown_text import report
 from openlink_update.site.front_door import FrontDoor, Site
 from openlink_update.site.names_file import NAME, NamesFile
 from openlink_update.site.probing import Difference, Probes, Trial
 from openlink_update.site.processes import Processes
-from openlink_update.received import archives
 from openlink_update.tables import coverage
 from openlink_update.update_options import Options
 from openlink_update.versions import making, same_files, target_list

@@ -20,7 +20,7 @@ from openlink_update.outcome import (
     ignore_signals,
     raise_signals,
 )
-from openlink_update.report import prepare_streams, report
+from openlink_update.shown_text import prepare_streams, report
 from openlink_update.site.front_door import Site
 from openlink_update.update_options import LIBRARY, Options
 from openlink_update.versions import shared_tables

@@ -16,9 +16,8 @@ from openlink_update.fetch.fetch_state import State
 from openlink_update.fetch.sources import Source
 from openlink_update.input_files import InputFolder
 from openlink_update.outcome import ALL_NEW, DEVICE, KEPT, USAGE, Failure, Interrupted, Unreadable, raise_signals
-from openlink_update.report import prepare_streams, report
 from openlink_update.root_folder import Unusable
-from openlink_update.shown_text import amount
+from openlink_update.shown_text import amount, prepare_streams, report
 
 _INPUT = "/etc/openlink/input"
 _MOST_DAYS = 90  # that a file may go without a change

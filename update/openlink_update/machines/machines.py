@@ -33,8 +33,7 @@ from openlink_update.disk import sync
 from openlink_update.input_files import InputFolder
 from openlink_update.machines.libraries import SHARED, SITE, Libraries
 from openlink_update.outcome import ALL_NEW, KEPT, Failure, reset_signals
-from openlink_update.report import report
-from openlink_update.shown_text import line_of
+from openlink_update.shown_text import line_of, report
 from openlink_update.site.front_door import FrontDoor, Site
 from openlink_update.site.names_file import NamesFile
 from openlink_update.site.probing import Probes
