@@ -7,10 +7,11 @@ import re
 import sys
 import time
 from collections.abc import Iterator
+from pathlib import Path
 from urllib.parse import unquote, urlsplit
 
-from openlink_update.input_files import InputFolder
-from openlink_update.report import report
+from openlink_update.input_files import lines_in
+from openlink_update.shown_text import report
 
 _SECONDS = 10  # for a reply
 _REFUSED = (400, 413, 414)
@@ -35,10 +36,10 @@ class Probe:
     targets: tuple[str, ...]  # that the page must show
 
 
-def read(folder: InputFolder, name: str) -> list[Probe]:
-    """The probes of a file. A ValueError says which line is wrong."""
+def read(data: bytes) -> list[Probe]:
+    """The probes in a file with these bytes. A ValueError says which line is wrong."""
     probes = []
-    for line in folder.lines(name, "latin-1"):  # queries have any bytes
+    for line in lines_in(data, "latin-1"):  # queries have any bytes
         query, *cells = line.cells
         names = " ".join(cells).split()
         if not names or not all(_NAME.fullmatch(name) for name in names):
@@ -153,7 +154,7 @@ def main(words: list[str] | None = None) -> int:
         return 2
     path, front_door, reports = words + [_FRONT_DOOR, _REPORTS][len(words) - 1 :]
     try:
-        probes = read(InputFolder("."), path)
+        probes = read(Path(path).read_bytes())
     except (OSError, ValueError) as fault:
         report(f"openlink-probe: {path}: {getattr(fault, 'strerror', None) or fault}", "stderr")
         return 3
