@@ -16,7 +16,7 @@ from fixtures.exported_version import TARGETS
 from fixtures.exported_version import Version
 from fixtures.exported_version import row
 from fixtures.exported_version import table
-from fixtures.site import library_index
+from fixtures import library_index
 from holdings.formats import DOCTYPE
 from holdings.formats import HOLDINGS
 from holdings.formats import KBART

@@ -9,7 +9,7 @@ from fixtures.cases import Case
 from fixtures.exported_version import Version
 from fixtures.exported_version import row
 from fixtures.exported_version import table
-from fixtures.site import library_index
+from fixtures import library_index
 
 # Two numbers of one journal, an ISBN that a table has with ten digits, and a number that no table has.
 LOG = """2026-09 2901-0012 1951

@@ -8,12 +8,12 @@ import subprocess
 import tempfile
 
 from fixtures import needs
-from fixtures.cases import Case
 from fixtures.balanced_machine import two_machines
+from fixtures.cases import Case
+from fixtures.haproxy_states import states_of
+from fixtures.local_ports import free_ports
 from fixtures.patience import patience
 from fixtures.patience import wait_until
-from fixtures.site import free_ports
-from fixtures.site import states_of
 from openlink_update import children
 
 FILE = "packaging/haproxy/haproxy.cfg"

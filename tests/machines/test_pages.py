@@ -9,11 +9,11 @@ import threading
 import time
 
 from fixtures import needs
-from fixtures.cases import Case
 from fixtures.balanced_machine import Machine
+from fixtures.cases import Case
+from fixtures.local_ports import free_ports
 from fixtures.patience import patience
 from fixtures.patience import wait_until
-from fixtures.site import free_ports
 
 BEFORE, NAMED, AFTER = "20261121T000000Z", "20261122T000000Z", "20261123T000000Z"
 MISSING = f"the delivery {AFTER} is missing: openlink-update --send brings it"

@@ -25,7 +25,8 @@ def lacking() -> str:
         return "no toolchain"
     record = record_of_proofs()
     count = len(record.lacking())
-    return f"tools/prove has not proved {count} of {len(record.crates.names)} crates here as they are now" if count else ""
+    of = len(record.crates.names)
+    return f"tools/prove has not proved {count} of {of} crates here as they are now" if count else ""
 
 
 class Costs(Case):

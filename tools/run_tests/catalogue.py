@@ -16,10 +16,10 @@ MODULE = "tools/run_tests/module.py"
 
 @dataclasses.dataclass
 class Test:
-    """A process of its own: a module of unittest, a script, or the #[test] functions of a crate."""
+    """A process of its own: a module of unittest, or the #[test] functions of a crate."""
 
     name: str
-    kind: str  # "module", "script" or "crate"
+    kind: str  # "module" or "crate"
     command: list[str]
     folder: str = "."
     methods: list[str] = dataclasses.field(default_factory=list)  # of a module: CLASS.METHOD
@@ -46,12 +46,6 @@ def modules() -> list[Test]:
     return found
 
 
-def scripts() -> list[Test]:
-    """The scripts directly in tests/, which run the program."""
-    names = sorted(it for it in os.listdir("tests") if os.path.isfile(f"tests/{it}"))
-    return [Test(it, "script", [f"tests/{it}"]) for it in names if "." not in it]
-
-
 def crates() -> list[Test]:
     """The crates that have #[test] functions."""
     found = set()
@@ -65,7 +59,7 @@ def crates() -> list[Test]:
 
 
 def everything() -> list[Test]:
-    return [*crates(), *modules(), *scripts()]
+    return [*crates(), *modules()]
 
 
 def _methods_of(test: Test, name: str) -> list[str] | None:
@@ -83,7 +77,7 @@ def _methods_of(test: Test, name: str) -> list[str] | None:
 
 
 def named(tests: list[Test], name: str) -> list[Test]:
-    """The tests that a name chooses: PACKAGE, [PACKAGE.]MODULE, PACKAGE.CLASS[.METHOD], a crate or a script."""
+    """The tests that a name chooses: PACKAGE, [PACKAGE.]MODULE, PACKAGE.CLASS[.METHOD], or a crate."""
     found = [it for it in tests if it.kind != "module" and it.name == name]
     for test in tests:
         methods = _methods_of(test, name) if test.kind == "module" else None

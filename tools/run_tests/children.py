@@ -71,11 +71,6 @@ class Run:
         elif self.test.kind == "crate":
             for passed, failed in re.findall(r"^test result: .*?(\d+) passed; (\d+) failed", "\n".join(lines), re.M):
                 found.update(passed=int(passed), failed=int(failed))
-        elif self.test.kind == "script" and not status:
-            said = lines[-1].removeprefix(f"tests/{self.test.name}: ") if lines else ""
-            is_skipped = said.startswith("skipped: ")
-            found.update({"skipped" if is_skipped else "passed": 1})
-            found.update(reasons=[said.removeprefix("skipped: ")]) if is_skipped else found.update(said=f": {said}")
         # Whatever it says of its tests: a status of failure, or not a single test, is a failure.
         if not found["failed"] and (status or not found["passed"] + found["skipped"]):
             found["failed"] = 1

@@ -2,7 +2,7 @@
 the scripts and the libraries as an operator installs them. A bridge joins them with haproxy and the readers."""
 import os, re, shutil, signal, subprocess
 from fixtures import installation
-from haproxy_states import states_of
+from fixtures.haproxy_states import states_of
 
 HERE = os.path.dirname(os.path.abspath(__file__))
 TOP = os.path.dirname(os.path.dirname(os.path.dirname(HERE)))

@@ -33,8 +33,7 @@ from openlink_update.disk import sync
 from openlink_update.input_files import InputFolder
 from openlink_update.machines.libraries import SHARED, SITE, Libraries
 from openlink_update.outcome import ALL_NEW, KEPT, Failure, reset_signals
-from openlink_update.report import report
-from openlink_update.shown_text import line_of
+from openlink_update.shown_text import line_of, report
 from openlink_update.site.front_door import FrontDoor, Site
 from openlink_update.site.names_file import NamesFile
 from openlink_update.site.probing import Probes
@@ -214,7 +213,7 @@ class Machine:
                 faults.append(str(failure))
         self.in_folder(_END_DRAIN)
         if os.path.isdir(self._place(SHARED)):
-            self._copy(f"{self._place(SHARED)}/", f"{self._place(SHARED)}/", "--exclude=.fetch")
+            self._copy(f"{self._place(SHARED)}/", f"{self._place(SHARED)}/")
         if faults:
             raise Failure("\n".join(faults))
 
@@ -246,7 +245,7 @@ class Machine:
         self.command(shlex.join(words), _SECONDS_TO_RECEIVE)
         report(f"{self.host}: {'' if is_alone else f'{name}: '}{sendable.stamp} is in use")
         if os.path.isdir(sendable.input):
-            self._copy(f"{sendable.input}/", f"{self._place(name)}/input/", "--exclude=.fetch")
+            self._copy(f"{sendable.input}/", f"{self._place(name)}/input/")
 
 
 class Delivery:

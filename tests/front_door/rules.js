@@ -1,0 +1,551 @@
+// The unit tests of the module: the cases of cases.js, requests of good form, limits, menus and commands. Runs in njs
+// and in node, in a folder with the module and sample.js, which test_rules.py writes. Prints a line of JSON for each
+// case, its name alone, or with what it gives and what was expected; and a last line with the number of cases.
+import citation from './citation.js';
+import door from './find.js';
+import health from './health.js';
+import index from './index.js';
+import languages from './languages.js';
+import menus from './menu.js';
+import openurl from './openurl.js';
+import program from './program.js';
+import staff from './why.js';
+import cases from './cases.js';
+import folding from './fold.js';
+import sample from './sample.js';
+
+const FORMATS = {
+    J: 'info:ofi/fmt:kev:mtx:journal', B: 'info:ofi/fmt:kev:mtx:book', D: 'info:ofi/fmt:kev:mtx:dissertation'
+};
+globalThis.fold = folding;
+let count = 0;
+
+function expect(name, got, expected) {
+    count++;
+    console.log(JSON.stringify(got === expected ? [name] : [name, String(got), String(expected)]));
+}
+
+function written(pair) {
+    const at = pair.indexOf('=');
+    const value = pair.slice(at + 1).split('+').join(' ');
+    return pair.slice(0, at) + '=' + encodeURIComponent(pair.slice(0, at) === 'rft_val_fmt' ? FORMATS[value] : value);
+}
+
+// Without the row keys, as anyOf leaves them out.
+function other(text) {
+    return ['rft.issn=ANY'].concat(text.split('&').filter(function (pair) {
+        return pair !== '' && !/^rft\.(issn|eissn|isbn)=/.test(decodeURIComponent(pair.split('=')[0]) + '=');
+    })).join('&');
+}
+
+function testCases() {
+    Object.keys(cases).forEach(function (rule) {
+        expect(rule + ' has three cases', cases[rule].length >= 3, true);
+        cases[rule].forEach(function (it) {
+            const added = it[2].split(' ').filter(Boolean).map(written);
+            const kept = it.length > 3 ? it[3] : it[1];
+            const expected = added.concat(kept === '' ? [] : [kept]).join('&');
+            expect(rule + ': ' + it[0], openurl.requestOf(it[1]), expected);
+            expect(rule + ': ' + it[0] + ', for any', openurl.anyOf(it[1]), other(expected));
+        });
+    });
+}
+
+// The pairs of a request of good form come out unchanged and in order, after added ones.
+function testGoodForm() {
+    sample.forEach(function (request) {
+        const out = openurl.requestOf(request);
+        expect('good form', out.slice(-request.length - 1), '&' + request);
+        out.slice(0, -request.length - 1).split('&').forEach(function (pair) {
+            expect('added to good form: ' + pair,
+                /^(x\.(issn|eissn|isbn|doi|pmid|from|to)|rft\.(issn|isbn))=/.test(pair), true);
+        });
+    });
+}
+
+function repeated(text, times) {
+    const parts = [];
+    while (parts.length < times) parts.push(text);
+    return parts.join('');
+}
+
+function testLimits() {
+    const long = 'title=' + repeated('a', 7000) + '&issn=2901-0012&rft.genre=article';
+    const out = openurl.requestOf(long);
+    expect('a long title goes once',
+        out.length < 12000 && /rft\.jtitle=a{7000}&/.test(out) && !/&title=/.test(out), true);
+    expect('a long title keeps the rest', /^rft\.issn=2901-0012&.*&rft\.genre=article$/.test(out), true);
+    const tail = openurl.requestOf('rft_val_fmt=x&rft.volume=3&' + repeated('rft.au=' + repeated('b', 70) + '&', 200));
+    expect('pairs at the end go',
+        tail.length <= 12000 && tail.length > 11900 && /^rft_val_fmt=x&rft\.volume=3&/.test(tail), true);
+    expect('pairs are read up to 300', openurl.requestOf(repeated('a=1&', 400)).split('&').length, 301);
+    expect('nothing', openurl.requestOf('') + '|' + openurl.anyOf(''), '|rft.issn=ANY');
+    const hostile = ['%', '=', '&=', 'a', '%E9=%E9', repeated('%E9', 4000), '=' + repeated('%', 4000)];
+    hostile.concat('title=' + repeated('%E9', 2600)).forEach(function (text) {
+        const sent = openurl.requestOf(text);
+        expect('hostile: ' + text.slice(0, 20), /^[\x21-\x7e]*$/.test(sent) && sent.length <= 12000, true);
+    });
+}
+
+function testMenus() {
+    const found = (texts) => program.joined(texts).map((it) => it.target + ' ' + it.url + ' ' + it.source).join(', ');
+    expect('menus are joined', found(['a\tx\nb\ty\n', 'b\tz\nc\tw', 'd\tv\nc\tu\n']), 'a x 0, b y 0, c w 1, d v 2');
+    expect('parts of a table', found(['b.2\tx\nb.3\ty\nc\tz\nd.1\tw\n', 'b\tv\na.12.2\tu\n.2\tt\n']),
+        'b x 0, c z 0, d.1 w 0, a.12 u 1, .2 t 1');
+    expect('names of every object, joined', found(['__proto__\tx\ntoString\ty\n\tz\nw\n', '__proto__\tv\n']),
+        '__proto__ x 0, toString y 0');
+    const reports = ['a\tlink 0\nb\tno row\nc\tno link\nd\tno row\n', 'a\tno row\nb\tlink 2\nc\tlink 1\nd\tno row\n'];
+    expect('reports are joined', program.joinedReports(reports),
+        'a\tlink 0\nb\tlink 2\nc\tlink 1\nd\tno row\n');
+    const site = { groups: [{ name: 'A' }, { name: 'B', onlyWithout: 'A' }],
+        targets: { a: {}, b: { group: 'B', label: 'Bee', note: 'n' }, constructor: {} } };
+    const listed = function (menu) {
+        return JSON.stringify(menus.shownGroups(menus.groupsOf(program.joined([menu]), languages.siteIn(site, ''))));
+    };
+    expect('a group that another one hides', listed('b\thttp://b/\na\thttp://a/\n'),
+        '[{"name":"A","links":[{"target":"a","label":"a","url":"http://a/"}]}]');
+    expect('a group alone', listed('b\thttp://b/\n'),
+        '[{"name":"B","links":[{"target":"b","label":"Bee","url":"http://b/","note":"n"}]}]');
+    expect('links that are none', listed('a\tjavascript:x\nb\thttp://a/ b\nc\thttp://\u00e9/\nx\n'), '[]');
+    expect('names of every object', listed('toString\thttp://t/\n__proto__\thttp://p/\nconstructor\thttp://c/\n'),
+        '[{"name":"A","links":[{"target":"constructor","label":"constructor","url":"http://c/"}]},'
+        + '{"name":"More","links":[{"target":"toString","label":"toString","url":"http://t/"},'
+        + '{"target":"__proto__","label":"__proto__","url":"http://p/"}]}]');
+    site.groups = [{ name: 'A' }, { name: 'B' }, { name: 'B', label: 'Twin' }];
+    expect('two groups of one name', listed('b\thttp://b/\n'),
+        '[{"name":"B","links":[{"target":"b","label":"Bee","url":"http://b/","note":"n"}]}]');
+}
+
+// What the page says of a request without full text whose title has a row: the request, the row, and the notice.
+const NOTICES = [
+    ['issn=2901-0012', 't 0 2001', 'held'], ['issn=2901-0012', 't.2 0', 'held'],
+    ['issn=2901-0012&volume=3', 't 0 2001', 'held'], ['issn=2901-0012&volume=3&date=2001', 't 0 2001', 'nothing'],
+    ['issn=2901-0012&date=2000', 't 0 2001-05 2003-04', 'nothing'],
+    ['issn=2901-0012&date=2001', 't 0 2001-05 2003-04', 'held'],
+    ['issn=2901-0012&date=2003-12', 't 0 2001-05 2003-04', 'held'],
+    ['issn=2901-0012&date=2004', 't 0 2001-05 2003-04', 'nothing'],
+    ['issn=2901-0012&date=1900', 't 0 - 2003', 'held'], ['issn=2901-0012&date=2004', 't 0 - 2003', 'nothing'],
+    ['isbn=9781234560102', 't 0 2001', 'nothing'], ['issn=2901-0012', 'other 0 2001', 'nothing'],
+    ['issn=2901-0012', 'unnamed 0 2001', 'nothing'], ['issn=2901-0012', 'plain 0 2001', 'held']
+];
+function testNotices() {
+    const named = { groups: [{ name: 'A' }, { name: 'B' }], words: { held: 'NOTICE held', nothing: 'NOTICE nothing' },
+        targets: { t: { group: 'A' }, other: { group: 'B' }, plain: {} } };
+    NOTICES.forEach(function (it) {
+        const q = openurl.queryOf(it[0]);
+        q.titles = [{ kind: 'j', title: 'x', numbers: [], standard: [], rows: [it[1]], related: [] }];
+        q.knowledge = 'number';
+        const site = languages.siteIn(named, '');
+        const page = menus.pageOf(q, menus.groupsOf([], site), site);
+        expect('the notice of ' + it[0] + ', ' + it[1], /NOTICE (\w+)|$/.exec(page)[1], it[2]);
+    });
+}
+
+// The title of an article, and whether the page says that it was retracted, before its links.
+const RETRACTIONS = [
+    ['RETRACTED: Silt', true], ['Retracted article: Silt', true], ['RETRACTED CHAPTER: Silt', true],
+    ['[Retracted] Silt', true], ['*RETRACTED* Silt', true], ['Retracted \u2013 Silt', true],
+    ['Silt (Retracted article. See vol. 18, pg. 344, 2015)', true], ['Silt (Retracted in 2015)', true],
+    ['Silt - RETRACTED', true], ['Silt [This article has been retracted]', true],
+    ['RETRACTED PAPER: Silt', true], ['Retracted publication: Silt', true], ['Retracted study: Silt', true],
+    ['Retracted version: Silt', true], ['Retracted manuscript: Silt', true], ['Retracted conference paper: Silt', true],
+    ['Retracted book: Silt', true], ['[This paper was retracted] Silt', true], ['[Retracted]: Silt', true],
+    ['Silt *Retracted*', true], ['Silt (Retracted 2015)', true], ['Silt - RETRACTED ARTICLE', true],
+    ['Silt. RETRACTED PAPER', true],
+    ['Retraction: Silt', false], ['Retraction of: Silt', false], ['Retraction notice to Silt', false],
+    ['Retraction Note: Silt', false], ['Silt (Retraction of vol 12, pg 3, 2013)', false],
+    ['Retracted articles: a review', false], ['Why articles are retracted', false],
+    ['Silt (retracted testimony)', false], ['Retracted and republished: Silt', false]
+];
+function testRetractions() {
+    const site = languages.siteIn({ groups: [{ name: 'A' }], targets: {}, words: { retracted: 'RETRACTION <' } }, '');
+    RETRACTIONS.forEach(function (it) {
+        ['atitle', 'rft.btitle', 'title'].forEach(function (key) {
+            const q = openurl.queryOf(key + '=' + encodeURIComponent(it[0]) + '&issn=2901-0012');
+            const groups = menus.groupsOf(program.joined(['t\thttp://t/\n']), site);
+            const page = menus.pageOf(q, groups, site);
+            expect('retracted in JSON: ' + key + '=' + it[0], menus.dataOf(q, groups, site).retracted,
+                it[1] ? true : undefined);
+            const at = page.indexOf('RETRACTION &lt;');
+            expect('retracted: ' + key + '=' + it[0], at > 0 && at < page.indexOf('http://t/'), it[1]);
+            expect('the title ' + it[0], page.indexOf('<bdi>Silt</bdi>') > 0, it[1]);
+        });
+    });
+    const lookedUp = openurl.begun('issn=2901-0012');
+    lookedUp.put('rft.atitle', ['RETRACTED: Silt']);  // as a look-up does
+    openurl.finish(lookedUp);
+    expect('a title that was looked up', lookedUp.first('rft.atitle') + ' ' + lookedUp.isRetracted, 'Silt true');
+}
+
+// What a request says of its kind, and the type of RIS.
+const RIS_TYPES = [
+    ['genre=article&issn=2901-0012', 'JOUR'], ['rft_val_fmt=info:ofi/fmt:kev:mtx:journal', 'JOUR'],
+    ['title=Tides', 'JOUR'], ['genre=unknown&issn=2901-0012', 'JOUR'],
+    ['genre=book&title=Tides', 'BOOK'], ['isbn=9781234560102', 'BOOK'],
+    ['rft_val_fmt=info:ofi/fmt:kev:mtx:book', 'BOOK'],
+    ['genre=bookitem&isbn=9781234560102', 'CHAP'], ['isbn=9781234560102&atitle=Silt', 'CHAP'],
+    ['rft_val_fmt=info:ofi/fmt:kev:mtx:book&rft.atitle=Silt', 'CHAP'],
+    ['genre=dissertation&title=On+Silt', 'THES'], ['rft_val_fmt=info:ofi/fmt:kev:mtx:dissertation', 'THES'],
+    ['rft_val_fmt=info:ofi/fmt:kev:mtx:dc&rft.type=info:eu-repo/semantics/doctoralThesis', 'THES'],
+    ['genre=report&title=Silt', 'RPRT'], ['rft_val_fmt=info:ofi/fmt:kev:mtx:book&rft.genre=report', 'RPRT'],
+    ['rft_val_fmt=info:ofi/fmt:kev:mtx:dc&rft.type=Report', 'RPRT'],
+    ['rft.genre=dataset&rft.title=Levels', 'DATA'], ['rft_val_fmt=info:ofi/fmt:kev:mtx:dc&rft.type=Dataset', 'DATA'],
+    ['rft_val_fmt=info:ofi/fmt:kev:mtx:dataset&rft.title=Levels', 'DATA'],
+    ['genre=preprint&atitle=Silt', 'UNPB'], ['rft_val_fmt=info:ofi/fmt:kev:mtx:journal&rft.genre=preprint', 'UNPB'],
+    ['rft_val_fmt=info:ofi/fmt:kev:mtx:dc&rft.type=preprint', 'UNPB'],
+    ['genre=proceeding&isbn=9781234560102&atitle=Silt', 'CONF'], ['genre=conference&title=Dredging', 'CONF'],
+    ['rft_val_fmt=info:ofi/fmt:kev:mtx:dc&rft.type=conferencePaper', 'CONF'],
+    ['genre=constructor', 'JOUR'], ['rft.genre=__proto__&rft.isbn=9781234560102', 'BOOK'],
+    ['genre=issue&issn=2901-0012', 'JOUR'], ['genre=document&title=Silt', 'BOOK']
+].concat([
+    ['journalArticle', 'JOUR'], ['bookSection', 'CHAP'], ['bookPart', 'CHAP'], ['chapter', 'CHAP'], ['thesis', 'THES'],
+    ['bachelorThesis', 'THES'], ['masterThesis', 'THES'], ['workingPaper', 'RPRT'], ['proceedings', 'CONF'],
+    ['conferenceObject', 'CONF'], ['conferenceProceedings', 'CONF'], ['conferenceOrWorkshopItem', 'CONF'],
+    ['patent', 'PAT']
+].map((it) => ['rft_val_fmt=info:ofi/fmt:kev:mtx:dc&rft.type=' + it[0], it[1]]));
+// The lines of RIS after the type, without the end of the record.
+const RIS_FIELDS = [
+    ['genre=article&au=Li,+W&au=Berg&atitle=Silt&title=Tides&date=2003-05-01&volume=12&issue=3&spage=101&epage=118'
+        + '&issn=2901-0012&id=doi:10.5555/a&id=pmid:7', 'AU  - Li, W|AU  - Berg|TI  - Silt|T2  - Tides|PY  - 2003'
+        + '|VL  - 12|IS  - 3|SP  - 101|EP  - 118|SN  - 2901-0012|DO  - 10.5555/a|AN  - PMID 7'],
+    ['genre=book&title=Harbours&isbn=9781234560102&aulast=Li&auinit=W',
+        'AU  - Li, W|TI  - Harbours|SN  - 9781234560102'],
+    ['jtitle=Tides&aucorp=Port&issn=2901-0012', 'AU  - Port|TI  - Tides|SN  - 2901-0012'],
+    ['genre=article&atitle=Silt%0D%0AAU++-+x', 'TI  - Silt AU - x'],
+    ['genre=article&au=Li%0D%0AER++-+x&atitle=Silt', 'AU  - Li ER - x|TI  - Silt'],
+    ['genre=article&atitle=' + repeated('a', 1100), 'TI  - ' + repeated('a', 1000)]
+];
+// The citation as text.
+const CITATIONS = [
+    ['genre=article&au=Li&atitle=Silt&title=Tides&date=2003-05-01&volume=12&issue=3&pages=101-118&issn=2901-0012'
+        + '&id=doi:10.5555/a&id=pmid:7', 'Li, Silt, Tides, 2003, v12, i3, p101-118, d10.5555/a, m7, n2901-0012'],
+    ['genre=book&btitle=Harbours&isbn=9781234560102&aulast=Li&aufirst=W', 'Li, W, Harbours, b9781234560102'],
+    ['genre=bookitem&atitle=Silt&btitle=Harbours&aulast=Li&auinit=W', 'Li, W, Silt, Harbours'],
+    ['genre=dissertation&title=On+Silt&aucorp=Port', 'Port, On Silt'],
+    ['rft.genre=dissertation&atitle=Silt&rft.title=Reports&aulast=Li&auinit1=J', 'Li, J, Silt, Reports'],
+    ['stitle=Ann+Tid&spage=7&aulast=Li', 'Li, Ann Tid, p7'], ['jtitle=Tides&stitle=Td&rft.title=Silt', 'Silt, Tides'],
+    ['genre=book&btitle=Harbours&rft.title=Silt', 'Harbours'],
+    ['au=A&au=B&au=C&jtitle=Tides', 'A; B; C, Tides'], ['au=A&au=B&au=C&au=D&jtitle=Tides', 'A; B; C and others, Tides']
+];
+const PLAIN_WORDS = {
+    volume: 'v{}', issue: 'i{}', pages: 'p{}', doi: 'd{}', pmid: 'm{}', issn: 'n{}', isbn: 'b{}',
+    others: '{} and others'
+};
+function testCitations() {
+    const site = languages.siteIn({ words: PLAIN_WORDS }, '');
+    RIS_FIELDS.forEach((it) => {
+        const q = openurl.queryOf(it[0]);
+        const lines = citation.risOf(q, openurl.kindOf(q), site).split('\r\n');
+        expect('fields of RIS of ' + it[0].slice(0, 60), lines.slice(1).join('|'), it[1] + '|ER  - |');
+    });
+    CITATIONS.forEach((it) => {
+        const html = citation.citationHtml(citation.citationOf(openurl.queryOf(it[0]), site), site);
+        expect('the citation of ' + it[0], html.replace(/<[^>]*>/g, ''), it[1]);
+    });
+}
+function testRis() {
+    RIS_TYPES.forEach(function (it) {
+        const q = openurl.queryOf(it[0]);
+        const text = citation.risOf(q, openurl.kindOf(q), languages.siteIn({}, ''));
+        expect('RIS of ' + it[0], text.split('\r\n')[0], 'TY  - ' + it[1]);
+    });
+}
+
+// A header, the languages that are offered, and the one that is chosen.
+const HEADERS = [
+    ['', 'en de', 'en'], ['de', 'en de', 'de'], ['DE', 'en de', 'de'], ['de-AT', 'en de', 'de'],
+    ['de-Latn-AT', 'en de', 'de'],
+    ['de-AT, en;q=0.9', 'en de', 'de'], ['en;q=0.3, de;q=0.8', 'en de', 'de'], ['fr, de;q=0.5', 'en de', 'de'],
+    ['fr', 'en de', 'en'], ['de;q=0', 'de en', 'en'], ['de;q=0.000, fr', 'de en', 'en'],
+    ['en;q=0, de;q=0', 'de en', 'de'],
+    ['*', 'en de', 'en'], ['*, en;q=0.5', 'en de', 'de'], ['fr, *;q=0.1', 'en de', 'en'], ['*;q=0', 'en de', 'en'],
+    ['de, *;q=0', 'en de', 'de'], ['de;q=0.5, en;q=0.5', 'en de', 'de'], ['de ; q=1.000 , en', 'en de', 'de'],
+    ['de;q=0.001', 'en de', 'de'], ['pt', 'en pt-BR', 'pt-BR'], ['pt-PT', 'en pt-BR', 'en'],
+    ['pt-br', 'en pt pt-BR', 'pt-BR'],
+    ['pt', 'en pt-BR pt', 'pt'], ['zh-Hant-TW', 'en zh zh-Hant', 'zh-Hant'], ['den', 'en de', 'en'],
+    ['d', 'en de', 'en'],
+    ['de;q=2, en', 'de en', 'en'], ['de;q=0.1234, en', 'de en', 'en'], ['de;q=, en', 'de en', 'en'],
+    ['de;level=1, en', 'de en', 'en'],
+    ['de-AT, de;q=0', 'de en', 'en'], ['de-AT, de;q=0.0, fr', 'de en', 'en'], ['de, en;q=0.05', 'en de', 'de'],
+    ['de_AT, en', 'de en', 'en'], ['<de>, "en", \u00e9, de\r\nX: y', 'en de', 'en'], [',,,de,,', 'en de', 'de'],
+    ['__proto__', 'en', 'en']
+];
+
+function testHeaders() {
+    HEADERS.forEach(function (it) {
+        expect('language for ' + it[0], languages.chosen(it[0], it[1].split(' ')), it[2]);
+    });
+    expect('500 bytes', languages.chosen(repeated(' ', 498) + 'de', ['en', 'de']), 'de');
+    expect('a range that is cut', languages.chosen(repeated(' ', 498) + 'de-AT', ['en', 'de']), 'en');
+    expect('commas', languages.chosen(repeated(',', 8192), ['en', 'de']), 'en');
+    expect('ranges beyond the twentieth', languages.chosen(repeated('fr,', 20) + 'de', ['en', 'de']), 'en');
+}
+
+// The languages that a site offers and the texts that a page has in them.
+function testWords() {
+    globalThis.words_en = { heading: 'Find', group: 'Links', nothing: 'Nothing' };
+    globalThis.words_de = { heading: 'Finden', group: 3, nothing: '  ' };
+    globalThis.words_pt_BR = {};
+    globalThis.words_he = {};
+    globalThis.words_ur_Latn = {};
+    globalThis.words_uz_Latn = {};
+    globalThis.words_uz_Arab = {};
+    const site = function (targets, header) { return languages.siteIn(targets, header); };
+    const chosen = function (list, header) { return site({ languages: list }, header).language; };
+    expect('no languages', chosen(undefined, 'de'), 'en');
+    const noLanguages = [3, {}, 'de', [], [3], ['fr'], ['de_', 7]];
+    expect('languages that are none', noLanguages.map(function (it) { return chosen(it, 'de'); }).join(' '),
+        'en en en en en en en');
+    expect('one that is not loaded', chosen(['fr', 'de', 'en'], 'fr'), 'de');
+    expect('a region', chosen(['en', 'pt-BR'], 'pt'), 'pt-BR');
+    expect('the direction',
+        site({ languages: ['he', 'en'] }, '').dir + ' ' + site({ languages: ['he', 'en'] }, 'en').dir, 'rtl ltr');
+    expect('the direction of a script', ['ur-Latn', 'uz-Latn', 'uz-Arab'].map(function (it) {
+        return site({ languages: [it] }, '').dir;
+    }).join(' '), 'ltr ltr rtl');
+    const heading = function (words, header) {
+        // No group is named, so there is one with the word `group`.
+        return menus.groupsOf([], site({ languages: ['en', 'de'], words }, header))[0].name;
+    };
+    expect('a word', heading({}, 'en'), 'Links');
+    expect('a word that is no text', heading({}, 'de'), 'Links');
+    globalThis.words_de.group = 'Verweise';
+    expect('a word in another language', heading({}, 'de'), 'Verweise');
+    expect('a word of the site', heading({ group: 'A' }, 'en') + ' ' + heading({ group: 'A' }, 'de'), 'A Verweise');
+    const both = { group: { en: 'A', de: 'B' } };
+    expect('words of the site', heading(both, 'en') + ' ' + heading(both, 'de'), 'A B');
+    expect('a word of the site for one language',
+        heading({ group: { de: 'B' } }, 'en') + ' ' + heading({ group: { en: 'A' } }, 'de'), 'Links Verweise');
+    delete globalThis.words_de.group;
+    expect('a plain word for all languages', heading({ group: 'A' }, 'de'), 'A');
+    const labels = {
+        languages: ['en', 'de'], groups: [{ name: 'G', label: { de: 'H' } }],
+        targets: {
+            a: { label: { en: 'A', de: 'B' }, note: { de: 'n' } }, b: { label: { en: 'C' } }, c: { label: { fr: 'D' } }
+        }
+    };
+    const found = program.joined(['a\thttp://a/\nb\thttp://b/\nc\thttp://c/\n']);
+    const listed = function (header) {
+        const group = menus.shownGroups(menus.groupsOf(found, site(labels, header)))[0];
+        return group.name + ' ' + group.label + ': '
+            + group.links.map(function (it) { return it.label + ' ' + it.note; }).join(', ');
+    };
+    expect('labels', listed('en'), 'G undefined: A undefined, C undefined, c undefined');
+    expect('labels in another language', listed('de'), 'G H: B n, C undefined, c undefined');
+}
+
+// The commands of the page for staff. The registry's paths are relative to its folder.
+function testCommands() {
+    const registry = staff.registryOf('a\tcode/a.olk\ttables/a.txt\r\n\nb part\tcode/a.olk\t/t/it\'s.txt\n'
+        + 'c\tx\nconstructor\tc.d/e\tf\n');
+    expect('a registry', Object.keys(registry).join(), 'a,b part,constructor');
+    const received = function (path) { return path === '/r/received/a.rules'; };
+    const command = function (targets, name, query) {
+        return staff.commandOf(name, registry[name], languages.siteIn(targets, ''), received) + ' '
+            + staff.quotedQuery(query);
+    };
+    expect('a command', command({}, 'a', 'rft.issn=2901-0012&x=1'),
+        "openlink explain '/etc/openlink/current/rules/a.rules' '/etc/openlink/current/tables/a.txt' "
+        + "'rft.issn=2901-0012&x=1'");
+    expect('the rules of the code', command({ folder: '/srv/r/' }, 'b part', 'a=b'),
+        "openlink explain '/srv/r/rules/a.rules' '/t/it'\\''s.txt' 'a=b'");
+    expect('code in another folder', command({ folder: '/r' }, 'constructor', ''),
+        "openlink explain '/r/rules/e.rules' '/r/f' ''");
+    const named = function (rules) {
+        return command({ folder: '/r', targets: { a: { rules } } }, 'a', '').split("'")[1];
+    };
+    expect('rules as they were received', command({ folder: '/r' }, 'b part', '').split("'")[1], '/r/received/a.rules');
+    expect('rules that are named', [named('own/b.rules'), named('/o/b.rules'), named(3), named(undefined)].join(),
+        '/r/own/b.rules,/o/b.rules,/r/received/a.rules,/r/received/a.rules');
+    expect('a folder that is no text', command({ folder: ['/r'] }, 'a', '').split("'")[1],
+        '/etc/openlink/current/rules/a.rules');
+    expect('quotes', command({ folder: '' }, 'a', "a='$(id)`\\\"%27%'"),
+        "openlink explain '/rules/a.rules' '/tables/a.txt' 'a=%27$(id)`\\\"%27%%27'");
+}
+
+// The reports on both queries, and which of the queries a target gets.
+const REASONS = [
+    ['link 3', 'no row', 0], ['link 3', 'link 0', 0], ['no row', 'link 0', 1], ['no row', 'no link', 1],
+    ['no row', 'no row', 0],
+    ['no link', 'no row', 0], ['no link', 'no link', 0], ['no link', 'link 0', 1], ['not a web link', 'no row', 0],
+    ['no row', 'over budget', 1]
+];
+function testReasons() {
+    const report = function (i) {
+        return REASONS.map(function (it, n) { return 't' + n + '\t' + it[i] + '\n'; }).join('');
+    };
+    program.reasonsOf([report(0), report(1)]).forEach(function (it, n) {
+        expect('the query of ' + REASONS[n].join(', '), it.name + ' ' + it.reasons.join(', ') + ' ' + it.used,
+            't' + n + ' ' + REASONS[n][0] + ', ' + REASONS[n][1] + ' ' + REASONS[n][2]);
+    });
+    expect('a target that the second report lacks', JSON.stringify(program.reasonsOf(['a\tno row\n', ''])),
+        '[{"name":"a","reasons":["no row",""],"used":0}]');
+    expect('no report', program.reasonsOf(['', '']).length, 0);
+}
+
+// A reply to a subrequest of nginx, which has tried two processes. The status 'cut' is that of a reply that a process
+// has not written to its end: 200, with less text than its head says.
+function replyWith(status) {
+    const text = 'a\thttp://a/\n';
+    const bytes = Buffer.from(status === 'cut' ? text.slice(0, -1) : text);
+    return { status: status === 'cut' ? 200 : status, headersOut: { 'Content-Length': String(text.length) },
+        responseBuffer: bytes, variables: { upstream_addr: '127.0.0.1:1, 127.0.0.1:2' } };
+}
+
+// A request of nginx whose subrequests get these statuses; -1 throws.
+function requestWith(uri, statuses) {
+    return {
+        variables: { request_uri: uri }, rawVariables: { args: Buffer.from('issn=2901-0012') }, headersIn: {},
+        headersOut: {}, method: 'GET', requested: 0, places: [],
+        subrequest: function (place, options) {
+            if (place.startsWith('/index/')) return Promise.resolve({ status: 204 });  // there is no index
+            const status = statuses[this.requested++];
+            this.places.push(place + ' ' + options.args);
+            if (status < 0) throw new Error('no\nreply');
+            return Promise.resolve(replyWith(status));
+        },
+        return: function (status, text) {
+            this.replied = status + ' ' + /(<h1>|<a href="[^"]*"|.error.:...|.citation.)|$/.exec(text)[0];
+        }
+    };
+}
+
+function testHealth() {
+    const site = '# server 127.0.0.1:1;\nupstream openlink {\n    server 127.0.0.1:8081 max_fails=0;\n'
+        + '\tserver  127.0.0.1:8082;\n    #server 127.0.0.1:8083;\n    server 192.0.2.1:80;\n}\nserver {\n';
+    expect('ports of a site', health.portsOf(site).join(' '), '8081 8082');
+    const day = Date.UTC(2028, 1, 29, 12);  // a leap day
+    [['20280229T120000Z', 0], ['20280228T120001Z', 0], ['20280228T120000Z', 1], ['20270301T000000Z', 365],
+        ['20280301T000000Z', 0], ['20280229T1200Z', -1], ['none', -1]].forEach(function (it) {
+        expect('the age of ' + it[0], health.ageOf('/etc/openlink/versions/' + it[0], day), it[1]);
+    });
+    [[[true, true], '200 ok'], [[true, false], '200 some processes do not answer'],
+        [[false, false], '503 no process answers'], [[], '503 no process answers']].forEach(function (it) {
+        const reply = health.replyOf(it[0].map(String), it[0], 'version', { isOld: false, line: 'updated' });
+        expect('health ' + it[0], reply.status + ' ' + reply.text.split('\n')[0], it[1]);
+    });
+    [[[true, true], '200 old,port true answers'], [[true, false], '200 old,some processes do not answer'],
+        [[false, false], '503 no process answers,old']].forEach(function (it) {
+        const reply = health.replyOf(it[0].map(String), it[0], 'version', { isOld: true, line: 'updated' });
+        expect('health, old, ' + it[0], reply.status + ' ' + reply.text.split('\n').slice(0, 2).join(','), it[1]);
+    });
+    testUpdates();
+}
+
+function testUpdates() {
+    const now = Date.UTC(2028, 2, 10, 12);  // after a leap day
+    const unknown = 'no update by openlink-update is known';
+    [['20280301T120000Z\n', 9, false, 'updated 20280301T120000Z, 9 days ago'],
+        ['20280301T115959Z\n', 9, true, 'updated 20280301T115959Z, 9 days ago'],
+        ['20280229T120000Z', 9, true, 'updated 20280229T120000Z, 10 days ago'],
+        ['20280309T120000Z', 1, false, 'updated 20280309T120000Z, 1 day ago'],
+        ['20280309T115959Z', 1, true, 'updated 20280309T115959Z, 1 day ago'],
+        ['20270301T000000Z', 0, false, 'updated 20270301T000000Z, 375 days ago'],
+        ['20280311T120000Z', 9, false, 'updated 20280311T120000Z, 0 days ago'],
+        [null, 9, false, unknown], ['', 9, false, unknown], ['20280301', 9, false, unknown]].forEach(function (it) {
+        const update = health.updateOf(it[0], now, it[1]);
+        expect('updated ' + it[0] + ', at most ' + it[1], update.isOld + ' ' + update.line, it[2] + ' ' + it[3]);
+    });
+    [['9', 9], ['0', 0], ['30', 30], [undefined, 9], ['', 9], ['-1', 9], ['ten', 9], ['1e9', 9]].forEach(function (it) {
+        expect('the limit ' + it[0], health.limitOf(it[0]), it[1]);
+    });
+}
+
+async function expectReply(name, handler, request, expected) {
+    await handler(request);
+    expect(name, request.replied + ', requested ' + request.requested, expected);
+}
+
+async function testRetries() {
+    await expectReply('requested again', door.json, requestWith('/find.json?', [502, 200, 200]),
+        '200 "citation", requested 3');
+    await expectReply('requested again after half a reply', door.json, requestWith('/find.json?', ['cut', 200, 200]),
+        '200 "citation", requested 3');
+    await expectReply('requested again in vain', door.find, requestWith('/find?', [502, 502, 200]),
+        '503 <h1>, requested 2');
+}
+
+async function testReplies() {
+    const both = requestWith('/find?', [200, 200]);
+    await expectReply('both menus', door.find, both, '200 <h1>, requested 2');
+    expect('the locations of both', both.places.map((it) => it.split(' ')[0]).join(' '), '/_menu /_menu_there');
+    expect('the process of both', both.variables.openlink_process, '127.0.0.1:2');
+    await Promise.all([502, 504, 'cut'].map((status) => expectReply('both again, after ' + status, door.json,
+        requestWith('/find.json?', [200, status, 200, 200]), '200 "citation", requested 4')));
+    await expectReply('half of a reply twice', door.go, requestWith('/go?', [200, 'cut', 200, 'cut', 200]),
+        '503 <h1>, requested 4');
+    if (typeof njs === 'undefined') await testRetries();  // the njs command line has no timers
+    await expectReply('not requested again', door.json, requestWith('/find.json', [504, 200]),
+        '503 "error":503, requested 1');
+    await expectReply('no status', door.find, requestWith('/find?', [200, 0]), '503 <h1>, requested 2');
+    await expectReply('refused', door.go, requestWith('/go?', [400, 200]), '400 <h1>, requested 1');
+    const request = requestWith('/why?', [200, 200]);
+    request.rawVariables.args = Buffer.from("au=O'Neill&issn=2901-0012");
+    let page = '';
+    request.return = function (status, text) { this.replied = status; page = text; };
+    await staff.why(request);
+    expect('the page for staff', request.replied, 200);
+    const listed = page.split('<pre dir="ltr">').slice(1).map(function (it) { return it.split('</pre>')[0]; });
+    const sent = listed.map(function (it, i) {
+        return (i === 0 ? '/_report ' : '/_report_there ') + it.split('&#39;').join("'").split('&amp;').join('&');
+    });
+    expect('the queries that were sent', sent.join(' '), request.places.join(' '));
+    expect('the second one', listed[1].slice(0, 12), 'rft.issn=ANY');
+    await expectReply('no reports', staff.why, requestWith('/why?', [200, 503]), '503 <h1>, requested 2');
+    await expectReply('refused, for staff', staff.why, requestWith('/why?', [200, 400]), '400 <h1>, requested 2');
+    const broken = requestWith('/find?', [200, -1]);
+    await expectReply('an exception', door.find, broken, '503 <h1>, requested 2');
+    expect('an exception in the log', broken.variables.openlink_found, 'exception:no_reply');
+}
+
+// The lines of a file of the index that begin so, against a search through all of them. The lines have up to 13,000
+// bytes, some keys have several, and the texts after the keys have characters of two and three bytes, as the keys may.
+const ARABIC = '0123456789';
+const THREE_BYTES = '\u2460\u2461\u2462\u2463\u2464\u2465\u2466\u2467\u2468\u2469';
+function numeral(number, digits) { return String(number).split('').map((digit) => digits[Number(digit)]).join(''); }
+function madeLines(digits, most, longest) {
+    const lines = [];
+    let number = 7;
+    for (let i = 0; lines.length < most; i++) {
+        number = (number * 1103515245 + 12345) % 2147483648;
+        const length = number % 9 === 0 ? number % longest : number % 150;
+        const text = repeated(number % 2 === 0 ? '\u00e9' : number % 3 === 0 ? 'a\u20ac' : 'a', length);
+        for (let j = 0; j <= number % 3; j++) lines.push(numeral(10000 + 3 * i, digits) + '\t' + j + text);
+    }
+    return lines;
+}
+function testLines() {
+    [[ARABIC, 0, 1], [ARABIC, 1, 50], [ARABIC, 3, 50], [ARABIC, 40, 50], [ARABIC, 300, 50], [ARABIC, 300, 4500],
+        [THREE_BYTES, 300, 50], [THREE_BYTES, 300, 4500]].forEach(function (it) {
+        const lines = madeLines(it[0], it[1], it[2]);
+        const bytes = Buffer.from('\n' + lines.map(function (line) { return line + '\n'; }).join(''));
+        const wrong = [];
+        const sought = ['!', '\u30ff'];
+        for (let key = 9990; key < 10010 + 3 * lines.length; key += it[1] > 40 ? 5 : 1) {
+            sought.push(numeral(key, it[0]) + (key % 2 === 0 ? '\t' : ''), numeral(key, it[0]).slice(0, 4));
+        }
+        sought.forEach(function (beginning) {
+            const expected = lines.filter(function (line) { return line.startsWith(beginning); });
+            const found = index.linesWith(bytes, beginning, 50).map(function (cells) { return cells.join('\t'); });
+            if (found.join('\n') !== expected.slice(0, 50).join('\n')) wrong.push(beginning);
+        });
+        expect('lines found among ' + it.join(' of '), wrong.join(), '');
+    });
+}
+
+testCases();
+testLines();
+testGoodForm();
+testLimits();
+testMenus();
+testNotices();
+testRetractions();
+testRis();
+testCitations();
+testHeaders();
+testWords();
+testCases();
+testCommands();
+testReasons();
+testHealth();
+testReplies().then(() => { console.log(String(count)); });

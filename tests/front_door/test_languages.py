@@ -1,0 +1,113 @@
+"""The page and the JSON in the language that the header prefers, and in one that is read from right to left."""
+from __future__ import annotations
+
+import json
+import re
+
+from fixtures.nginx_site import Reply
+from fixtures.site_case import ARTICLE
+from fixtures.site_case import SiteCase
+
+HEADERS = [
+    (None, "en"),
+    ("", "en"),
+    ("en-GB,en;q=0.9", "en"),
+    ("de-AT,de;q=0.9,en;q=0.8", "de"),
+    ("fr", "en"),
+    ("fr;q=0.9,de;q=0.1", "de"),
+    ("de;q=0", "en"),
+    ("," * 8000, "en"),
+    ("de" + ",x" * 3000, "de"),
+    ("\u00e4\u00fc,de".encode().decode("latin-1"), "de"),
+]
+IN_GERMAN = [
+    ">Problem melden (Ihre Anfrage wird an die Bibliothek gesendet)</a>",
+    "<title>Storm surges – Bibliothek der Beispieluniversität</title>",
+    "<h1>Diesen Titel finden</h1>",
+    "Bd. 12",
+    "Nr. 3",
+    "S. 101",
+    "<h2>Volltext</h2>",
+    ">Bibliothekskatalog</a>",
+    ">Im Web suchen</a>",
+]
+
+
+class Languages(SiteCase):
+    """What is in the language of the reader."""
+
+    def reply_in(self, header: str | None, target: str = f"/find?{ARTICLE}") -> Reply:
+        return self.site.get(target, headers={} if header is None else {"Accept-Language": header})
+
+    def test_header(self) -> None:
+        for header, language in HEADERS:
+            reply, name = self.reply_in(header), f"Accept-Language {(header or '')[:20]}"
+            self.expect(
+                name,
+                (reply.status, reply.headers["Content-Language"], reply.headers.get_all("Vary")),
+                (200, language, ["Accept-Encoding", "Accept-Language"]),
+            )
+            self.expect(f"{name}: the page", f'<html lang="{language}" dir="ltr">' in reply.text)
+
+    def test_german(self) -> None:
+        reply = self.reply_in("de")
+        self.tidy("a page in German", reply.text)
+        for part in IN_GERMAN:
+            self.expect(f"the page in German has {part}", part in reply.text)
+        note = self.reply_in("de", "/find?issn=2943-081X&date=2012").text
+        self.expect("a note in German", "Außerhalb des Campus" in note)
+        nothing = self.reply_in("de", "/find?issn=3006-1962&atitle=x").text
+        self.expect("no full text in German", "Fragen Sie die Auskunft" in nothing)
+
+    def test_german_json(self) -> None:
+        reply = self.reply_in("de", f"/find.json?{ARTICLE}")
+        group = json.loads(reply.text)["groups"][1]
+        self.expect(
+            "JSON in German",
+            (group["name"], group["label"], group["links"][0]["label"]),
+            ("In the library", "In der Bibliothek", "Bibliothekskatalog"),
+        )
+        self.expect(
+            "headers of JSON",
+            (reply.headers["Content-Language"], reply.headers.get_all("Vary")),
+            ("de", ["Accept-Encoding", "Accept-Language"]),
+        )
+
+    def test_german_errors(self) -> None:
+        titles = {("/none", "GET"): "Seite nicht gefunden", ("/find", "DELETE"): "Methode nicht angenommen"}
+        for (target, method), title in titles.items():
+            reply = self.site.get(target, method, headers={"Accept-Language": "de"})
+            vary = reply.headers.get_all("Vary") or []
+            self.expect(
+                f"an error in German: {method}",
+                (f"<h1>{title}</h1>" in reply.text, reply.headers["Content-Language"], "Accept-Language" in vary),
+                (True, "de", True),
+            )
+
+    def test_redirect(self) -> None:
+        reply = self.site.get("/go?issn=2943-081X&date=2012")
+        self.expect("a redirect has no language", (reply.status, reply.headers["Content-Language"]), (302, None))
+
+    def add_hebrew(self) -> None:
+        """Adds Hebrew as an operator does, with one word in it."""
+        self.site.write("openlink/words/he.json", json.dumps({"heading": "חיפוש"}))
+        data = json.loads(self.site.read("openlink/targets.json"))
+        self.site.write("openlink/targets.json", json.dumps({**data, "languages": ["de", "he", "fr"]}))
+        german = f"js_preload_object words_de from {self.site.path('openlink/words/de.json')};\n"
+        hebrew = german.replace("words_de", "words_he").replace("de.json", "he.json")
+        self.site.edit((german, german + hebrew))
+
+    def test_hebrew(self) -> None:
+        self.add_hebrew()
+        reply = self.reply_in("he-IL, fr")
+        self.tidy("a page from right to left, reader", reply.text)
+        parts = ('<html lang="he" dir="rtl">', "<h1>חיפוש</h1>", "Bd. 12")
+        self.expect("Hebrew", [part in reply.text for part in parts], [True] * 3)
+        other = self.reply_in("en, fr", "/find")
+        self.expect("another default", other.headers["Content-Language"], "de")
+        reply = self.site.get(f"/why?{ARTICLE}", headers={"Accept-Language": "he-IL, fr"}, port=self.site.report_port)
+        self.tidy("a page from right to left, staff", reply.text)
+        of_staff = ('<html lang="he" dir="rtl">', "<h2>Berichte</h2>")
+        self.expect("Hebrew for staff", [part in reply.text for part in of_staff], [True] * 2)
+        turned = re.findall(r"<(?:pre|code)(?! (?:lang=\"en\" )?dir=\"ltr\")", reply.text)
+        self.expect("commands and reports stay from left to right", turned, [])

@@ -1,0 +1,238 @@
+"""The look-up of a DOI or PubMed number that comes alone, by services that reply in every way."""
+from __future__ import annotations
+
+import concurrent.futures
+import http.client
+import json
+import os
+import stat
+import time
+from typing import Any
+
+from fixtures import needs
+from fixtures.lookup_services import DOI_300
+from fixtures.lookup_services import ENOUGH
+from fixtures.lookup_services import FALSE_LENGTHS
+from fixtures.lookup_services import READERS
+from fixtures.lookup_services import Services
+from fixtures.lookup_services import bytes_in
+from fixtures.lookup_services import switched_on
+from fixtures.local_ports import free_ports
+from fixtures.nginx_site import Reply
+from fixtures.patience import best_of_three
+from fixtures.patience import patience
+from fixtures.patience import wait_until
+from fixtures.site_case import SiteCase
+
+FULL_TEXT = "tidal-press aggregate-net catalogue"
+ALONE = "so we do not know whether the library has the full text."
+
+
+@needs.command("openssl")
+class Lookups(SiteCase):
+    """The look-up is switched on."""
+
+    services: Services
+    plain: str
+
+    @classmethod
+    def setUpClass(cls) -> None:
+        super().setUpClass()
+        cls.services, cls.plain = Services(cls.site.folder), cls.site.read("openlink.conf")
+        cls.addClassCleanup(cls.services.stop)
+        cls.switch_on()
+        cls.site.keep()
+
+    @classmethod
+    def switch_on(cls, port: int | None = None, certificate: str | None = None, **limits: str) -> None:
+        services, cache = cls.services, cls.site.path("lookups")
+        limits = {"rate": "rate=300r/s", **limits}
+        text = switched_on(cls.plain, port or services.port, certificate or services.certificate, cache, **limits)
+        cls.site.write_site(text)
+
+    def data(self, query: str) -> Any:
+        return json.loads(self.site.get(f"/find.json?{query}").text)
+
+    def targets(self, query: str) -> str:
+        return " ".join(link["target"] for group in self.data(query)["groups"] for link in group["links"])
+
+    def test_found(self) -> None:
+        """What a service says fills in what the request lacks, and finds its links as any request does."""
+        self.expect(
+            "a DOI",
+            self.data("id=doi:10.5555/good")["citation"],
+            {
+                "author": "Smith, Jane",
+                "title": "Storm surges & the law",
+                "journal": "Annals of Tidal Studies",
+                "year": "2003",
+                "volume": "12",
+                "issue": "3",
+                "pages": "101-118",
+                "doi": "10.5555/good",
+                "issn": "2901-0012",
+            },
+        )
+        self.expect("its links", self.targets("id=doi:10.5555/good"), f"{FULL_TEXT} doi-resolver web-search")
+        self.expect(
+            "a PubMed number", self.targets("sid=Entrez:PubMed&id=pmid:99990001"), f"{FULL_TEXT} pubmed web-search"
+        )
+        self.expect("its citation", self.data("id=pmid:99990001")["citation"]["author"], "Smith")
+        self.expect(
+            "a title without a number", self.targets("id=doi:10.5555/title"), f"{FULL_TEXT} doi-resolver web-search"
+        )
+        self.expect("a chapter", self.targets("id=doi:10.5555/chapter"), "book-house doi-resolver web-search")
+        self.expect("what the request says", self.data("id=doi:10.5555/good&volume=9")["citation"]["volume"], "9")
+        self.expect("a large reply", self.targets("id=doi:10.5555/large"), f"{FULL_TEXT} doi-resolver web-search")
+        page = self.site.get("/find?id=doi:10.5555/good")
+        self.tidy("a page after a look-up", page.text)
+        self.expect("asked once, then from the cache", self.services.asked["10.5555/good"], 1)
+
+    def test_not_asked(self) -> None:
+        before = sum(self.services.asked.values())
+        for query in (
+            "id=doi:10.5555/a&issn=2901-0012",
+            "id=pmid:7&title=x",
+            "rft.atitle=x",
+            "id=pmid:1234567890",
+            f"id=doi:{DOI_300}a",
+        ):
+            self.data(query)
+        self.expect("not asked", sum(self.services.asked.values()), before)
+        self.expect(
+            "a DOI of 300 characters", self.targets(f"id=doi:{DOI_300}"), f"{FULL_TEXT} doi-resolver web-search"
+        )
+
+    def test_privacy(self) -> None:
+        """The services get the number and the address for contact; the files of the cache are nginx's alone."""
+        self.site.get(
+            "/find?id=pmid:99990002&sid=secret",
+            headers={
+                "Cookie": "a=secret",
+                "Referer": "http://secret/",
+                "User-Agent": "secret",
+                "X-Forwarded-For": "192.0.2.1",
+            },
+        )
+        for number in ("good", "chapter", "title"):
+            self.data(f"id=doi:10.5555/{number}")
+        sent = json.dumps(self.services.heads)
+        self.expect("nothing of a reader", ("secret" in sent, "192.0.2.1" in sent), (False, False))
+        self.expect(
+            "the contact",
+            ("mailto:links@library.example.org" in sent, "email=links@library.example.org" in sent),
+            (True, True),
+        )
+        files = [
+            os.path.join(folder, name) for folder, _, names in os.walk(self.site.path("lookups")) for name in names
+        ]
+        modes = {oct(stat.S_IMODE(os.stat(file).st_mode)) for file in files}
+        self.expect("the cache's files", (len(files) > 3, modes), (True, {"0o600"}))
+        self.expect("no DOI in the log", "10.5555" in self.site.read("log/openlink.log"), False)
+
+    def test_faults(self) -> None:
+        """A service that fails in any way leaves the page as it is without one, within three seconds."""
+        names = ("none", "busy", "half", "list", "null", "deep", "huge", "over", "hostile", "slow", "drip")
+
+        def asked(name: str) -> tuple[Reply, float]:
+            start = time.monotonic()
+            reply = self.site.get(f"/find?id=doi:10.5555/{name}")
+            return reply, time.monotonic() - start
+
+        with concurrent.futures.ThreadPoolExecutor(len(names)) as pool:
+            results = list(pool.map(asked, names))
+        for name, (reply, seconds) in zip(names, results):
+            self.expect(f"{name}: the seconds", seconds < patience(5))
+            found = reply.status, "doi.example.org" in reply.text, ALONE in reply.text, "<script" in reply.text
+            self.expect(f"{name}: the page", (*found, reply.headers["X-Evil"]), (200, True, True, False, None))
+            self.expect(f"{name}: its numbers", "2901-0012" in reply.text, False)
+            self.tidy(f"{name}: the page", reply.text)
+        self.expect("a summary that is an error", ALONE in self.site.get("/find?id=pmid:99990002").text)
+
+    def test_endless(self) -> None:
+        """A reply that does not end, whatever it says of its length: the page comes, nginx ends the connection, and the
+        disk has less than a megabyte of it."""
+        for name in ("endless", "dripping", *(f"says{length}" for length in FALSE_LENGTHS)):
+            before = bytes_in(self.site.path("lookups")) + bytes_in(self.site.path("temp"))
+            reply = self.site.get(f"/find?id=doi:10.5555/{name}")
+            self.expect(f"{name}: the page", (reply.status, ALONE in reply.text), (200, True))
+            ended = wait_until(lambda: self.services.endless.get(f"10.5555/{name}"))
+            if not ended:
+                self.expect(f"{name}: the end", "none")
+                continue
+            sent, disk = ended
+            self.expect(f"{name}: nginx ends it, after {sent} bytes", sent < (400 if name == "dripping" else ENOUGH))
+            self.expect(f"{name}: {disk - before} bytes on the disk", disk - before < 1_000_000)
+
+    def test_connection(self) -> None:
+        """The next request on a connection does not wait for a look-up that came too late."""
+
+        def asked(number: str) -> None:
+            peer = http.client.HTTPConnection("127.0.0.1", self.site.port, timeout=patience(30))
+            start = time.monotonic()
+            for target in (f"/find?id=doi:10.5555/{number}", "/find?issn=2901-0012"):
+                peer.request("GET", target)
+                reply = peer.getresponse()
+                self.expect(f"{number}: {target}", (reply.status, b"</html>" in reply.read()), (200, True))
+            self.expect(f"{number}: both within six seconds", time.monotonic() - start < patience(7))
+            peer.close()
+
+        with concurrent.futures.ThreadPoolExecutor(2) as pool:
+            list(pool.map(asked, ("late", "trickle")))
+
+    def ask_at_once(self, name: str) -> float:
+        """Readers of that many addresses, each with a number of its own. All get the page. Returns the seconds of
+        all."""
+
+        def asked(i: int) -> tuple[int, bool, bool]:
+            address = (f"127.0.1.{i + 1}", 0)
+            peer = http.client.HTTPConnection("127.0.0.1", self.site.port, timeout=patience(30), source_address=address)
+            peer.request("GET", f"/find?id=doi:10.5555/{name}{i}")
+            reply = peer.getresponse()
+            page = reply.read().decode()
+            peer.close()
+            return reply.status, "</html>" in page, "doi.example.org" in page
+
+        start = time.monotonic()
+        with concurrent.futures.ThreadPoolExecutor(READERS) as pool:
+            results = list(pool.map(asked, range(READERS)))
+        self.expect(f"{name}: the pages", results, [(200, True, True)] * READERS)
+        return time.monotonic() - start
+
+    def test_rate(self) -> None:
+        """All readers together ask the services three times a second, after three that may come at once."""
+        self.switch_on(rate="rate=3r/s")
+        seconds = self.ask_at_once("rate")
+        asked = sum(count for number, count in self.services.asked.items() if number.startswith("10.5555/rate"))
+        self.expect(f"asked {asked} times in {seconds:.1f} s", 4 <= asked <= 4 + 3 * seconds)
+
+    def test_requests_at_a_time(self) -> None:
+        """Twenty for all readers together."""
+        self.switch_on(burst=f"burst={READERS} nodelay;")
+
+        def not_twenty() -> int | None:
+            self.ask_at_once("held")
+            return self.services.most_held if self.services.most_held != 20 else None
+
+        # On a busy machine the first of twenty can run out of time before the last one comes.
+        self.expect("asked at once", best_of_three(not_twenty), None)
+
+    def test_certificate_of_a_stranger(self) -> None:
+        self.switch_on(certificate="/etc/ssl/certs/ca-certificates.crt")
+        page = self.site.get("/find?id=doi:10.5555/again").text
+        self.expect("a certificate of a stranger", ALONE in page)
+        self.expect("it is asked for nothing", self.services.asked["10.5555/again"], 0)
+
+    def test_no_services(self) -> None:
+        self.switch_on(port=free_ports(1)[0])
+        self.expect("down", ALONE in self.site.get("/find?id=doi:10.5555/down").text)
+
+    def test_off(self) -> None:
+        self.expect(
+            "the look-up is off",
+            [it in self.plain for it in ("\njs_var $openlink_lookup", "\nproxy_cache_path")],
+            [False] * 2,
+        )
+        self.site.write_site(self.plain)
+        self.site.get("/find?id=doi:10.5555/off")
+        self.expect("off: nothing is asked", self.services.asked["10.5555/off"], 0)

@@ -1,0 +1,83 @@
+"""The check of targets.json and of the files of texts: the sample has no slip, and each slip is found."""
+from __future__ import annotations
+
+import json
+import os
+
+from fixtures.cases import Case
+from openlink_update.site import targets_file as targets
+
+SLIPS = [
+    (b'{"groups": [{"name": "A"}],\n "targets": {"a": {"label": "x",}}}', "line 2, column"),
+    (b'{"groups": [{"name": "A"}]\n', "line 2, column 1"),
+    (b'\xef\xbb\xbf{"groups": [{"name": "A"}]}', "line 1: begins with a byte order mark"),
+    (b'{"groups": [{"name": "A"}],\n"words": {"library": "B\xfccher"}}', "line 2: not UTF-8"),
+    (b"[]", "not an object"),
+    (b'{"groups": []}', "groups is not a list of groups"),
+    (b'{"groups": [{"name": "A", "onlyWithout": "B"}]}', "group 1: onlyWithout is no group"),
+    (b'{"groups": [{"label": "A"}]}', "group 1 has no name"),
+    (b'{"groups": [{"name": "A"}], "targets": {"a": {"group": "B"}}}', 'target "a": no group "B"'),
+    (b'{"groups": [{"name": "A"}], "targets": {"a b": {}}}', 'target "a b": no target can have this name'),
+    (b'{"groups": [{"name": "A"}], "words": {"libary": "x"}}', 'words: unknown name "libary"'),
+    (b'{"groups": [{"name": "A"}], "words": {"library": 3}}', "words: library is not a text"),
+    (b'{"groups": [{"name": "A"}], "words": {"problemLink": "https://e.org/"}}', "words: problemLink is no address"),
+    (
+        b'{"groups": [{"name": "A"}], "words": {"problemLink": {"en": "a@e.org?body={}"}}}',
+        "words: problemLink is no address",
+    ),
+    (b'{"groups": [{"name": "A"}], "words": {"logo": "../logo.svg"}}', "words: logo is no file name"),
+    (b'{"groups": [{"name": "A"}], "words": {"links": "x"}}', "words: links is not a list"),
+    (b'{"groups": [{"name": "A"}], "words": {"links": [{"label": "x"}]}}', "link 1 has no url"),
+    (b'{"groups": [{"name": "A"}], "words": {"links": [{"label": "x", "url": "e.org"}]}}', "link 1: url is no address"),
+    (b'{"groups": [{"name": "A"}], "folder": "openlink"}', "folder is not an absolute path"),
+    (b'{"groups": [{"name": "A"}], "folder": 3}', "folder is not an absolute path"),
+    (b'{"groups": [{"name": "A"}], "targets": {"a": {"rules": {"en": "x"}}}}', 'target "a": rules is not a text'),
+    (b'{"groups": [{"name": "A"}], "words": {"library": {"en": 3}}}', "words: library: en is not a text"),
+    (
+        b'{"groups": [{"name": "A"}], "words": {"library": {"de": "x"}}}',
+        'words: library: "de" is none of the languages',
+    ),
+    (b'{"groups": [{"name": {"en": "A"}}]}', "group 1: name is not a text"),
+    (b'{"languages": "en", "groups": [{"name": "A"}]}', "languages is not a list of languages"),
+    (b'{"languages": ["en_GB"], "groups": [{"name": "A"}]}', 'languages: "en_GB" is no tag of a language'),
+    (b'{"languages": ["fr"], "groups": [{"name": "A"}]}', "languages: no words/fr.json"),
+    (
+        b'{"groups": [{"name": "A"}], "targets": {"a": {"label": {"e": "x"}}}}',
+        'target "a": label: "e" is none of the languages',
+    ),
+]
+SLIPS_OF_WORDS = [
+    (b'{"heading": "x"', "line 1, column"),
+    (b"[]", "not an object"),
+    (b'{"heading": "x"}', "words: no unavailable"),
+    (b'{"heading": {"en": "x"}}', "words: heading is not a text"),
+    (b'{"titel": "x"}', 'words: unknown name "titel"'),
+    (b'{"volume": "vol."}', "words: volume has not 1 of {}"),
+]
+
+
+class TargetsFile(Case):
+    """What is said of them."""
+
+    def test_sample(self) -> None:
+        self.expect("targets.json", targets.faults_in("front_door/targets.json"), [])
+        with open("front_door/targets.json") as file:
+            site = json.load(file)
+        self.expect(
+            "targets.json has the library's words", set(site["words"]), {"links", *targets.OF_THE_LIBRARY} - {"logo"}
+        )
+        self.expect(
+            "it offers all languages",
+            {f"{language}.json" for language in site["languages"]},
+            set(os.listdir("front_door/words")),
+        )
+
+    def test_slips(self) -> None:
+        for data, fault in SLIPS:
+            self.expect(
+                f"targets.json: {fault}", any(fault in found for found in targets.faults_of(data, {"en", "de"}))
+            )
+
+    def test_slips_of_words(self) -> None:
+        for data, fault in SLIPS_OF_WORDS:
+            self.expect(f"words: {fault}", any(fault in found for found in targets.faults_of_words(data)))
