@@ -20,8 +20,9 @@ def places(text: str) -> list[int]:
     return sorted(found[at].start for at in {*javascript_tokens.statements(found), *inner})
 
 
-def line_of(text: str, offset: int) -> int:
-    return text.count("\n", 0, offset) + 1
+def units(text: str) -> list[str]:
+    """The statements, as LINE#NUMBER."""
+    return [f"{text.count(chr(10), 0, offset) + 1}#{number}" for number, offset in enumerate(places(text))]
 
 
 def noting(name: str, text: str, notes: Path) -> str:

@@ -5,7 +5,7 @@ import dataclasses
 from pathlib import Path
 
 from measuring import copies
-from measuring import python_lines
+from measuring import line_map
 
 PLACE = copies.TOP / "tools/measuring/left.tsv"
 
@@ -36,25 +36,12 @@ def read(place: Path = PLACE) -> set[tuple[str, str]]:
     return {(row[0], row[1].strip()) for row in rows}
 
 
-def counted(path: str, number: int, missing: list[int], known: set[tuple[str, str]]) -> Counted:
-    """Counts these of a file: a line that is listed is neither run nor not run."""
-    text = (copies.TOP / path).read_text(encoding="utf-8").splitlines()
-    others = [it for it in missing if (path, text[it - 1].strip()) not in known]
+def counted(path: str, text: list[str], every: set[str], ran: set[str], known: set[tuple[str, str]]) -> Counted:
+    """Counts what has run of a file. A line that is listed is neither run nor not run."""
+    missing = [line_map.line_of(it) for it in every - ran]
+    others = sorted(it for it in missing if (path, text[it - 1].strip()) not in known)
     listed = len(missing) - len(others)
-    return Counted(number - listed, tuple(others), listed)
-
-
-def of_python(path: str, found: python_lines.Reported, known: set[tuple[str, str]]) -> Counted:
-    """Counts what coverage reports of a module. A branch that did not run counts for the line where it begins."""
-    missing = [*found["missing_lines"], *(begin for begin, _ in found["missing_branches"])]
-    return counted(path, found["summary"]["num_statements"] + found["summary"]["num_branches"], missing, known)
-
-
-def of_no_run(path: str, known: set[tuple[str, str]]) -> Counted:
-    """Counts the lines of a module that no test imports."""
-    text = (copies.TOP / path).read_text(encoding="utf-8").splitlines()
-    lines = [number for number, line in enumerate(text, 1) if line.strip() and not line.strip().startswith("#")]
-    return counted(path, len(lines), lines, known)
+    return Counted(len(every) - listed, tuple(others), listed)
 
 
 def total(those: list[Counted]) -> Counted:

@@ -46,8 +46,8 @@ def _end(process: subprocess.Popen[bytes]) -> None:
 
 def run(
     top: Path, name: str, log: Path, limit: float, more: Mapping[str, str] | None = None, python: str = sys.executable
-) -> tuple[bool, float]:
-    """Runs a test, with its output in a file. Returns whether it passed within the limit, and its seconds."""
+) -> tuple[str, float]:
+    """Runs a test, with its output in a file. Returns "passed", "failed" or "late", and its seconds."""
     started = time.monotonic()
     environment = {**os.environ, **(more or {})}
     with log.open("wb") as out:
@@ -61,9 +61,9 @@ def run(
             start_new_session=True,
         )
         try:
-            status = process.wait(limit)
+            end = "failed" if process.wait(limit) else "passed"
         except subprocess.TimeoutExpired:
-            status = -1
+            end = "late"
         finally:
             _end(process)
-    return status == 0, time.monotonic() - started
+    return end, time.monotonic() - started

@@ -44,18 +44,13 @@ def python() -> str | None:
     return words[0] if has_it else None
 
 
-class _Numbers(TypedDict):
-    num_statements: int
-    num_branches: int
-
-
 class Reported(TypedDict):
     """What coverage says of a module."""
 
     executed_lines: list[int]
     missing_lines: list[int]
+    executed_branches: list[tuple[int, int]]
     missing_branches: list[tuple[int, int]]
-    summary: _Numbers
 
 
 class Measure:
@@ -90,25 +85,19 @@ class Measure:
         command = [self.python, "-m", "coverage", words[0], f"--rcfile={self._settings}", *words[1:]]
         subprocess.run(command, cwd=self._top, stdout=subprocess.DEVNULL, stderr=subprocess.DEVNULL, check=False)
 
-    def keep(self, place: Path) -> None:
-        """Joins the notes of a test in a file. A test that runs no Python of the package has none."""
-        self._coverage("combine", f"--data-file={place}", *(str(it) for it in self._data.iterdir()))
+    def reported(self) -> dict[str, Reported]:
+        """What coverage reports of each module since the last time. A test that runs none of them has nothing."""
+        whole, told = self._folder / "whole", self._folder / "whole.json"
+        self._coverage("combine", f"--data-file={whole}", *map(str, self._data.iterdir()))
         self.clear()
-
-    def lines(self, place: Path, told: Path) -> dict[str, list[int]]:
-        """The lines of each module that such a file has. What coverage reports is kept in another file."""
-        found = self._report(place, told)
-        return {path: [*it["executed_lines"]] for path, it in found.items()}
-
-    def _report(self, place: Path, told: Path) -> dict[str, Reported]:
-        told.unlink(missing_ok=True)
-        self._coverage("json", f"--data-file={place}", "-i", "-q", "-o", str(told))
-        if not told.exists():
-            return {}
-        files: dict[str, Reported] = json.loads(told.read_text(encoding="utf-8"))["files"]
+        self._coverage("json", f"--data-file={whole}", "-i", "-q", "-o", str(told))
+        files: dict[str, Reported] = json.loads(told.read_text(encoding="utf-8"))["files"] if told.exists() else {}
+        for place in (whole, told):
+            place.unlink(missing_ok=True)
         return {f"update/{PACKAGE}" + path.rpartition(PACKAGE)[2]: it for path, it in files.items()}
 
-    def summary(self, places: list[Path], whole: Path) -> dict[str, Reported]:
-        """What coverage reports of each module after all of these tests."""
-        self._coverage("combine", "--keep", f"--data-file={whole}", *map(str, places))
-        return self._report(whole, whole.with_suffix(".json"))
+
+def units(text: str) -> list[str]:
+    """The lines of a module that no test imports."""
+    lines = enumerate(text.splitlines(), 1)
+    return [str(number) for number, line in lines if line.strip() and not line.strip().startswith("#")]

@@ -16,10 +16,11 @@ _TIMES, _MORE = 4, 60
 
 @dataclasses.dataclass(frozen=True)
 class Seen:
-    """Which test failed for a bug, if one did, and how many ran."""
+    """Which test failed for a bug, if one did, how many ran, and whether that one did not end."""
 
     by: str
     ran: int
+    is_late: bool
 
 
 class FailsAnyway(Exception):
@@ -43,7 +44,7 @@ class Tests:
 
     def of(self, bug: Bug, text: str) -> list[str]:
         """By the map of lines, or by the table where the map has not the file."""
-        if bug.path in self._known.texts:
+        if self._known.has(bug.path):
             return self._known.tests(bug.path, bug.number(text), text.splitlines())
         return self._of_table(bug.path)
 
@@ -51,7 +52,7 @@ class Tests:
         seconds = self._known.seconds.get(name)
         return self._limit if seconds is None else min(self._limit, _TIMES * seconds + _MORE)
 
-    def _passes(self, name: str, log: Path) -> bool:
+    def _end(self, name: str, log: Path) -> str:
         return processes.run(self._top, name, log, self._limit_of(name))[0]
 
     def failing(self, bug: Bug, text: str, log: Path) -> Seen:
@@ -61,16 +62,16 @@ class Tests:
         for ran, name in enumerate(names, 1):
             path.write_text(bug.applied(text), encoding="utf-8")
             try:
-                passes = self._passes(name, log)
+                end = self._end(name, log)
             finally:
                 path.write_text(text, encoding="utf-8")
-            if not passes:
+            if end != "passed":
                 self._demand(name, log)
-                return Seen(name, ran)
-        return Seen("", len(names))
+                return Seen(name, ran, end == "late")
+        return Seen("", len(names), False)
 
     def _demand(self, name: str, log: Path) -> None:
         """Runs a test once without a bug. If it fails then, it would say of each bug that it sees it."""
-        if name not in self._good and not self._passes(name, log):
+        if name not in self._good and self._end(name, log) != "passed":
             raise FailsAnyway(f"{name} fails without a bug too")
         self._good.add(name)
