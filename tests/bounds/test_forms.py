@@ -71,7 +71,7 @@ class Lists(Case):
                 Path(folder, "probes.tsv").write_text(f"issn=1234-5679\t{'a' * count}\n")
                 told = ""
                 try:
-                    probes.read(InputFolder(folder), "probes.tsv")
+                    probes.read(Path(folder, "probes.tsv").read_bytes())
                 except ValueError as fault:
                     told = str(fault)
                 self.expect(f"{count} characters", told, wanted)

@@ -36,8 +36,7 @@ from openlink_update.fetch.sources import SECRETS
 from openlink_update.input_files import InputFolder
 from openlink_update.machines.libraries import SHARED, SITE, Libraries
 from openlink_update.outcome import ALL_NEW, KEPT, Failure, reset_signals
-from openlink_update.report import report
-from openlink_update.shown_text import line_of
+from openlink_update.shown_text import line_of, report
 from openlink_update.site.front_door import FrontDoor, Site
 from openlink_update.site.names_file import NamesFile
 from openlink_update.site.probing import Probes
@@ -50,7 +49,7 @@ MOST_BYTES = 4 * 2**20  # that another machine may print
 PROBES, _OF = "probes.tsv", "# hold in "
 _FORCED = 'restrict,command="openlink-update --take"'
 # Of an input. Secrets stay here: another machine that has some loses them, since it fetches nothing.
-_NOT_SENT = (f"--filter=hide {SECRETS}", "--exclude=.fetch")
+_NOT_SENT = (f"--filter=hide {SECRETS}",)
 
 
 def run(words: Sequence[str | Path], seconds: float) -> str:
