@@ -49,7 +49,7 @@ MOST_BYTES = 4 * 2**20  # that another machine may print
 PROBES, _OF = "probes.tsv", "# hold in "
 _FORCED = 'restrict,command="openlink-update --take"'
 # Of an input. Secrets stay here: another machine that has some loses them, since it fetches nothing.
-_NOT_SENT = (f"--filter=hide {SECRETS}", "--exclude=.fetch")
+_NOT_SENT = (f"--filter=hide {SECRETS}",)
 
 
 def run(words: Sequence[str | Path], seconds: float) -> str:

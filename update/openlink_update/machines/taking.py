@@ -18,7 +18,7 @@ import shlex
 from openlink_update.machines.libraries import SHARED, is_name
 from openlink_update.machines.machines import ALONE, text_in, write
 from openlink_update.outcome import USAGE, Failure
-from openlink_update.report import report
+from openlink_update.shown_text import report
 from openlink_update.update_options import Options
 from openlink_update.versions.library import STAMP, Library, is_stamp
 
