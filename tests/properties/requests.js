@@ -1,6 +1,6 @@
-// Reads requests of a file, FOLDER/values.json, and writes a line of JSON for each to FOLDER/results: the query that the
-// program gets, that of this query, and the one for targets that answer every request. Runs in njs, in a folder with the
-// modules.
+// Reads requests of a file, FOLDER/values.json, and writes a line of JSON for each to FOLDER/results: the query that
+// the program gets, that of this query, and the one for targets that answer every request. Runs in njs, in a folder
+// with the modules.
 import fs from 'fs';
 import openurl from './openurl.js';
 

@@ -2,6 +2,7 @@
 from __future__ import annotations
 
 import datetime
+import functools
 from typing import Any
 
 from fixtures import needs
@@ -35,21 +36,23 @@ def before(today: datetime.date, number: int, unit: str) -> datetime.date:
     return last.replace(day=min(today.day, last.day))
 
 
-def days_around(today: datetime.date) -> list[datetime.date]:
-    first = datetime.date(today.year - _YEARS, 1, 1)
-    return [first + _DAY * number for number in range(2 * _YEARS * 366)]
+@functools.cache
+def days_around(year: int) -> list[tuple[datetime.date, str]]:
+    """The days of some years, each as a date and as a text, such as 2026-11-28."""
+    first = datetime.date(year - _YEARS, 1, 1)
+    days = (first + _DAY * number for number in range(2 * _YEARS * 366))
+    return [(day, day.isoformat()) for day in days]
 
 
 def open_days(row: _Row) -> set[str]:
-    """The days that a row has open, each asked by itself: as texts, such as 20261128."""
+    """The days that a row has open, each asked by itself."""
     today, first, last, parts = row
     walls = [(letter, before(today, number, unit)) for letter, number, unit in parts]
     found = set()
-    for day in days_around(today):
-        text = day.isoformat()
+    for day, text in days_around(today.year):
         is_open = (not first or text[: len(first)] >= first) and (not last or text[: len(last)] <= last)
         if is_open and all(day <= wall if letter == "P" else day > wall for letter, wall in walls):
-            found.add(text.replace("-", ""))
+            found.add(text)
     return found
 
 
@@ -61,7 +64,9 @@ def check_days(row: _Row) -> None:
     today, first, last, parts = row
     table, lines = coverage.served(Table(_COLUMNS, [[first, last, text_of(parts)]]), today)
     start, end = table.rows[0][3:5]
-    got = {text for text in (day.strftime("%Y%m%d") for day in days_around(today)) if int(start) <= int(text) <= int(end)}
+    texts = [f"{cell:0>8}" for cell in (start, end)]
+    begin, close = (f"{text[:4]}-{text[4:6]}-{text[6:]}" for text in texts)
+    got = {text for _, text in days_around(today.year) if begin <= text <= close}
     wanted = open_days(row)
     assert got == wanted, f"from {start} to {end}, but {sorted(got ^ wanted)[:3]} differ"
     assert not lines, f"{lines}"

@@ -142,7 +142,21 @@ class Deliveries(Properties):
     def test_texts(self) -> None:
         from hypothesis import strategies as st
 
-        parts = ("delivery ", "versions/", ". ", "tides ", "\n", "\n", "\r\n", "\x0b", "\u2028", " ", "\t", "none", "..")
+        parts = (
+            "delivery ",
+            "versions/",
+            ". ",
+            "tides ",
+            "\n",
+            "\n",
+            "\r\n",
+            "\x0b",
+            "\u2028",
+            " ",
+            "\t",
+            "none",
+            "..",
+        )
         texts = joined(st.one_of(st.sampled_from(parts), name()), 9)
         examples = ("delivery 20260101T000000Z\n. versions/20260101T000000Z\n", "delivery versions/20260101T000000Z\n")
         self.holds("the text of another machine", check_text, texts, examples)
@@ -151,7 +165,9 @@ class Deliveries(Properties):
         from hypothesis import strategies as st
 
         names = name().filter(lambda it: "\n" not in it and "/" not in it and len(it) < 40)
-        link = st.one_of(names.map(lambda it: f"versions/{it}"), names.map(lambda it: f"versions/{it}"), names, st.just(""))
+        link = st.one_of(
+            names.map(lambda it: f"versions/{it}"), names.map(lambda it: f"versions/{it}"), names, st.just("")
+        )
         libraries = st.dictionaries(st.sampled_from((".", "tides", "a-b", "delivery2")), st.tuples(link, st.booleans()))
         states = st.tuples(st.one_of(st.just(""), names), libraries)
         self.holds("the folder of another machine", check_state, states, count=150)

@@ -1,5 +1,5 @@
-"""The reading of targets.json: what the check of the update accepts, njs reads as the same, and what njs reads the check
-accepts, but for what it says that it refuses."""
+"""The reading of targets.json: what the check of the update accepts, njs reads as the same, and what njs reads the
+check accepts, but for what it says that it refuses."""
 from __future__ import annotations
 
 import functools
@@ -16,7 +16,9 @@ from openlink_update.site import targets_file
 from properties.scripts import Script
 
 # What the check refuses though njs reads it.
-_STRICTER = re.compile(r"not an object|.*occurs more than once|.*objects and lists in each other|a number with thousands.*")
+_STRICTER = re.compile(
+    r"not an object|.*occurs more than once|.*objects and lists in each other|a number with thousands.*"
+)
 read = Script("texts.js")
 
 
@@ -31,9 +33,44 @@ def text() -> Any:
     whole = st.tuples(st.dictionaries(key, value, max_size=4), st.booleans(), st.sampled_from((None, 1))).map(
         lambda it: json.dumps(it[0], ensure_ascii=it[1], indent=it[2])
     )
-    pieces = ("{", "}", "[", "]", ",", ":", '"', "\\", "\\u12", "\\ud83c\\udf0a", "\\x", "/", "'", "NaN", "Infinity", "-", "+",
-              "01", "1.", ".5", "1e5", "1e999", "-0", "0x1", "true", "True", "null", "\t", "\x0b", "\xa0", "\0", "\x01",
-              "//x\n", "/*x*/", '"a":1,', "\ufeff")
+    pieces = (
+        "{",
+        "}",
+        "[",
+        "]",
+        ",",
+        ":",
+        '"',
+        "\\",
+        "\\u12",
+        "\\ud83c\\udf0a",
+        "\\x",
+        "/",
+        "'",
+        "NaN",
+        "Infinity",
+        "-",
+        "+",
+        "01",
+        "1.",
+        ".5",
+        "1e5",
+        "1e999",
+        "-0",
+        "0x1",
+        "true",
+        "True",
+        "null",
+        "\t",
+        "\x0b",
+        "\xa0",
+        "\0",
+        "\x01",
+        "//x\n",
+        "/*x*/",
+        '"a":1,',
+        "\ufeff",
+    )
     spoilt = st.tuples(whole, st.integers(0, 80), st.sampled_from(pieces), st.integers(0, 2)).map(
         lambda it: it[0][: it[1]] + it[2] + it[0][it[1] + it[3] :]
     )
