@@ -259,7 +259,11 @@ class Delivery:
             for sendable in libraries:
                 sendable.keep_probes(options)
             machines = [Machine(host, options.shell, options.there, folder, options.drained) for host in options.to]
-            complete = [machine for machine in machines if does(machine, lambda each: self.complete(each, libraries, not options.send))]
+            complete = [
+                machine
+                for machine in machines
+                if does(machine, lambda each: self.complete(each, libraries, not options.send))
+            ]
             versions = "".join(f"{sendable.name} {sendable.stamp}\n" for sendable in libraries)
             named = self._name(complete, versions)
         missed = [machine.host for machine in machines if machine not in named]

@@ -66,7 +66,8 @@ def _is_library(name: str) -> bool:
 
 
 def _is_rsync(words: list[str]) -> bool:
-    """Whether this is rsync, as a delivery needs it there: with these options, from nothing, to a place of a library."""
+    """Whether this is rsync, as a delivery needs it there: with these options, from nothing, to a place of a
+    library."""
     if tuple(words[:2]) != _RSYNC or words[-2:-1] != ["."]:
         return False
     options = shlex.join(words[2:-2]).replace("--link-dest ", "--link-dest=").split(" ")
