@@ -24,7 +24,7 @@ LEAST_FILES, LEAST_NAMES, LEAST_USERS = 30, 2000, 5
 # What njs, node and nginx declare. The last two are objects that nginx has loaded.
 GLOBALS = set(
     """Array Boolean Buffer Date Error JSON Math Number Object Promise RegExp String clearTimeout console
-    decodeURIComponent encodeURIComponent globalThis isNaN NaN ngx njs parseInt setTimeout undefined fold targets
+    decodeURIComponent encodeURIComponent globalThis isNaN NaN ngx njs parseInt process setTimeout undefined fold targets
     """.split()
 )
 BUILT_IN = {"fs", "crypto"}
@@ -46,7 +46,7 @@ SPOILT = (
     ("lists.js", "titles.map((it) =>", "titles.map((site) =>", "site hides the one of line"),
     ("log.js", "is(YEAR, date)", "is(YEARS, date)", "nothing declares YEARS"),
     ("log.js", "const is = texts.is;", "const is = texts.isNot;", "text.js exports no isNot"),
-    ("log.js", "from './text.js'", "from './texts.js'", "there is no texts.js"),
+    ("log.js", "from './text.js'", "from './nowhere.js'", "there is no nowhere.js"),
     ("log.js", "export default { sourceOf", "export default { isProbe, sourceOf", "nothing imports isProbe"),
     ("log.js", "const MOST = 60;", "const MOST = [60, (q) => q][0];", "a function in an array literal"),
     (
