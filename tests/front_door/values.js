@@ -57,7 +57,8 @@ const CHECKED = [
 // What is under `rft.volume`, and the volume and the issue of the request.
 const VOLUMES = [
     ['Vol. abc12', 'abc12|'], ['Vol. abcd12', 'Vol. abcd12|'], ['Vol. 12abc', '12abc|'],
-    ['Vol. 12abcd', 'Vol. 12abcd|'], ['Vol. 12-13abc', '12-13abc|'], ['Vol. 12-13abcd', 'Vol. 12-13abcd|'], ['nr. 5', '5|'], ['nr 5', '5|'],
+    ['Vol. 12abcd', 'Vol. 12abcd|'], ['Vol. 12-13abc', '12-13abc|'], ['Vol. 12-13abcd', 'Vol. 12-13abcd|'],
+    ['nr. 5', '5|'], ['nr 5', '5|'],
     ['Band 5', '5|'], ['Tome 5', '5|'], ['tomo 5', '5|'], ['tom 5', '5|'], ['Jg. 5', '5|'], ['Jahrgang 5', '5|'],
     ['part 5', '5|'], ['num 5', '5|'], ['number 5', '5|'], ['vols 5', '5|'], ['12 no 3', '12|3'], ['12, no. 3', '12|3'],
     ['12 supp 1', '12|Suppl 1'], ['12 supl 1', '12|Suppl 1'], ['12 supplementum 1', '12|Suppl 1'],
