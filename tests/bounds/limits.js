@@ -1,6 +1,7 @@
 // The limits of the front door's scripts: for each the last value that counts and the first one beyond it. Runs in njs,
 // which finds the modules and fold.js in a folder that test_javascript.py writes. Prints a line of JSON for each case:
-// the file whose limit it is and what it is, alone or with what it gives and what was expected; last how many there are.
+// the file whose limit it is and what it is, alone or with what it gives and what was expected; last how many there
+// are.
 import completion from './completion.js';
 import contact from './contact.js';
 import door from './find.js';
@@ -41,7 +42,7 @@ function counted(most, write) {
     return found;
 }
 function issn(number) { return '1000-' + String(1000 + number).slice(-3) + '0'; }
-function found(value) { return value === null ? 'none' : 'found'; }
+function foundOrNone(value) { return value === null ? 'none' : 'found'; }
 
 // ---------------------------------------------------------------- A request of nginx
 // The file of the index at a path: the lines of the keys that belong there, of titles by their keys.
@@ -144,17 +145,17 @@ async function testLookup() {
 // ---------------------------------------------------------------- Texts of a request
 function testIdentifiers() {
     const doi = (length) => '10.5555/' + repeated('a', length - 8);
-    expect('identifiers', '500 characters', found(identifying.identifierIn(doi(500), 'id')), 'found');
-    expect('identifiers', '501 characters', found(identifying.identifierIn(doi(501), 'id')), 'none');
+    expect('identifiers', '500 characters', foundOrNone(identifying.identifierIn(doi(500), 'id')), 'found');
+    expect('identifiers', '501 characters', foundOrNone(identifying.identifierIn(doi(501), 'id')), 'none');
     const divided = function (lines) {
         return identifying.identifierIn('10.5555/' + counted(lines - 1, (i) => '\n' + i).join(''), 'id')[1];
     };
     expect('identifiers', '10 lines', divided(10), '10.5555/123456789');
     expect('identifiers', '11 lines', divided(11), '10.5555/123456789');
     const pasted = (length) => repeated('a ', (length - 13) / 2) + '10.5555/abcde';
-    expect('identifiers', '999 pasted characters', found(identifying.pastedIn(pasted(999))), 'found');
-    expect('identifiers', '1000 pasted characters', found(identifying.pastedIn(pasted(999) + 'f')), 'found');
-    expect('identifiers', '1001 pasted characters', found(identifying.pastedIn(pasted(1001))), 'none');
+    expect('identifiers', '999 pasted characters', foundOrNone(identifying.pastedIn(pasted(999))), 'found');
+    expect('identifiers', '1000 pasted characters', foundOrNone(identifying.pastedIn(pasted(999) + 'f')), 'found');
+    expect('identifiers', '1001 pasted characters', foundOrNone(identifying.pastedIn(pasted(1001))), 'none');
 }
 function testNumbers() {
     const within = (text) => numbers.numbersIn([text], numbers.ISSN, 1).length;

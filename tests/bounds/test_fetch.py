@@ -232,7 +232,7 @@ class Numbers(Case):
                 run = fetching._Fetch(inputs, lines.append, 600, 10)
                 source = Source("table.txt", "https://press.example.com/", every=every)
                 run._state = fetch_state.State(inputs, FetchFolder(inputs), None, today)
-                run._state._entries["table.txt"] = {"changed": str(today - datetime.timedelta(days))}
+                run._state._entries["table.txt"] = fetch_state._Entry(changed=str(today - datetime.timedelta(days)))
                 run._say([source], 0)
             self.expect(
                 f"{days} days, fetched every {every}", f"table.txt: not changed for {days} days" in lines, wanted

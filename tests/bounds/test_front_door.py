@@ -1,5 +1,5 @@
-"""The limits of the front door's nginx: the sizes of heads, forms and replies, and how long it waits for processes and for
-the services of a look-up."""
+"""The limits of the front door's nginx: the sizes of heads, forms and replies, and how long it waits for processes and
+for the services of a look-up."""
 from __future__ import annotations
 
 import concurrent.futures

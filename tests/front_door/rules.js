@@ -69,9 +69,9 @@ function testGoodForm() {
 }
 
 function repeated(text, times) {
-    const parts = [];
-    while (parts.length < times) parts.push(text);
-    return parts.join('');
+    const copies = [];
+    while (copies.length < times) copies.push(text);
+    return copies.join('');
 }
 
 function testLimits() {

@@ -15,7 +15,8 @@ PROBE = {"exec!": {"command!": [str]}, "initialDelaySeconds": int, "periodSecond
          "failureThreshold": int, "successThreshold": int}
 RESOURCES = {"requests!": {"cpu": QUANTITY, "memory!": QUANTITY}, "limits!": {"cpu": QUANTITY, "memory!": QUANTITY}}
 CONTAINER = {
-    "name!": LABEL, "image!": re.compile(r"[a-z0-9.-]+(/[a-z0-9._-]+)+(:[\w.-]+)?(@sha256:[0-9a-f]{64})?", re.A), "command": [str],
+    "name!": LABEL, "image!": re.compile(r"[a-z0-9.-]+(/[a-z0-9._-]+)+(:[\w.-]+)?(@sha256:[0-9a-f]{64})?", re.A),
+    "command": [str],
     "args": [str], "ports": [{"name!": LABEL, "containerPort!": int, "protocol": ["TCP"]}],
     "env": [{"name!": re.compile(r"[A-Z_]+"), "value!": str}], "resources!": RESOURCES,
     "startupProbe": PROBE, "readinessProbe": PROBE, "livenessProbe": PROBE,

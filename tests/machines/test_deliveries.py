@@ -120,15 +120,16 @@ class Deliveries(Case):
         """A key that may run any command delivers too, and each week the mail names it. Secrets stay here, and what
         another machine has of them goes."""
         one, two = self.both_serve("A")
-        for machine in (one, two):
-            machine.input.write("secrets.tsv", b"token\tmine\n")
+        one.input.write("secrets.tsv", b"token\tmine\n")
+        two.write("input/secrets.tsv", "token\tmine\n")
         two.free_key()
         one.input.deliver("B")
         status, printed = one.run_to(two)
         self.expect(f"a week: {printed}", (status, weeks(two)), (0, {"B"}))
         told = 'other: the key may run any command there: write restrict,command="openlink-update --take" before it'
         self.expect("it is named", [line for line in printed.splitlines() if line.startswith(told)] != [])
-        self.expect("secrets", [os.path.exists(it.path("input", "secrets.tsv")) for it in (one, two)], [True, False])
+        self.expect("secrets here", os.path.exists(os.path.join(one.input.folder, "secrets.tsv")))
+        self.expect("secrets there", os.path.exists(two.path("input", "secrets.tsv")), False)
         self.expect("nothing new", one.run_to(two, "--send"), (0, ""))
 
     def test_back(self) -> None:

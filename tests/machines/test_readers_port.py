@@ -1,4 +1,5 @@
-"""The line of SEVERAL.md that closes a machine's site to whoever comes past the balancer, with front_door/balancer.conf."""
+"""The line of SEVERAL.md that closes a machine's site to whoever comes past the balancer, with
+front_door/balancer.conf."""
 from __future__ import annotations
 
 import http.client

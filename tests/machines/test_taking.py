@@ -1,5 +1,5 @@
-"""What the maker's key may do on another machine: what sshd hands to the command of the key is carried out only if it is
-of a delivery, and otherwise changes nothing."""
+"""What the maker's key may do on another machine: what sshd hands to the command of the key is carried out only if it
+is of a delivery, and otherwise changes nothing."""
 from __future__ import annotations
 
 import os

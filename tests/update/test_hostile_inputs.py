@@ -1,5 +1,5 @@
-"""An input whose lists and files are hostile, as those that staff of one library of several may write: it reaches nothing
-beyond itself, and the other library of the machine is updated. What it names is a line in its own report."""
+"""An input whose lists and files are hostile, as those that staff of one library of several may write: it reaches
+nothing beyond itself, and the other library of the machine is updated. What it names is a line in its own report."""
 from __future__ import annotations
 
 import http.server

@@ -1,5 +1,6 @@
 """The other folders of which an input may name files, for example /etc/openlink/input.folders: an absolute path a line.
-Only root can allow them, so only a file that nobody else could have written counts. Empty lines and those that begin with
+Only root can allow them, so only a file that nobody else could have written counts. Empty lines and those that begin
+with
 # are skipped."""
 import os
 import stat

@@ -1,7 +1,7 @@
 """The one door for the files of an input folder: by it the update and the fetch open whatever they read or write there.
-A name is that of a file below the folder, or an absolute path below it or one of some other folders, such as the one that
-several libraries share. Neither `..` nor a link leads out of them: others than root write in these folders, and the
-update may read what they may not.
+A name is that of a file below the folder, or an absolute path below it or one of some other folders, such as the one
+that several libraries share. Neither `..` nor a link leads out of them: others than root write in these folders, and
+the update may read what they may not.
 
 Lists have a line for each entry, with tabs between its cells. Empty lines and those that begin with # are skipped. The
 lists of a version are read by the same function."""

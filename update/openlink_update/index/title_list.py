@@ -3,13 +3,13 @@ Arabic (such as Greek and Cyrillic), and `other`, in this order; a title is unde
 a letter titles are in the order of their keys, so words come before longer words.
 
 The first line of `letters`, after the empty one, has two cells: the number of titles, and the number of digits of the
-names in words/KIND/. Each other line has four: the letter, its first page, its numbers of pages and of titles. A line of
-`starts` has the letter and the STARTS of its pages, with a semicolon between them. A start is the beginning of the key of
-the page's first title, long enough that no key of the page before has it, but at least two and at most MOST_START
-characters. A page has at most PAGE titles, and each letter begins a new one. The first line of a page has the length of each other line in bytes, with
-its end, separated by spaces, so that a search reads the line of a place alone. A line has the cells TITLE, NUMBERS and
-COVERAGE, and at most MOST_LINE bytes: at most MOST_TITLE of the title, MOST_NUMBERS numbers, and as many rows that differ
-for readers as have room, at most MOST_ROWS.
+names in words/KIND/. Each other line has four: the letter, its first page, its numbers of pages and of titles. A line
+of `starts` has the letter and the STARTS of its pages, with a semicolon between them. A start is the beginning of the
+key of the page's first title, long enough that no key of the page before has it, but at least two and at most
+MOST_START characters. A page has at most PAGE titles, and each letter begins a new one. The first line of a page has
+the length of each other line in bytes, with its end, separated by spaces, so that a search reads the line of a place
+alone. A line has the cells TITLE, NUMBERS and COVERAGE, and at most MOST_LINE bytes: at most MOST_TITLE of the title,
+MOST_NUMBERS numbers, and as many rows that differ for readers as have room, at most MOST_ROWS.
 """
 import os
 from collections.abc import Iterable

@@ -49,7 +49,7 @@ MOST_BYTES = 4 * 2**20  # that another machine may print
 PROBES, _OF = "probes.tsv", "# hold in "
 _FORCED = 'restrict,command="openlink-update --take"'
 # Of an input. Secrets stay here: another machine that has some loses them, since it fetches nothing.
-_NOT_SENT = (f"--filter=hide {SECRETS}", "--exclude=.fetch")
+_NOT_SENT = (f"--filter=hide {SECRETS}",)
 
 
 def run(words: Sequence[str | Path], seconds: float) -> str:
@@ -259,7 +259,11 @@ class Delivery:
             for sendable in libraries:
                 sendable.keep_probes(options)
             machines = [Machine(host, options.shell, options.there, folder, options.drained) for host in options.to]
-            complete = [machine for machine in machines if does(machine, lambda each: self.complete(each, libraries, not options.send))]
+            complete = [
+                machine
+                for machine in machines
+                if does(machine, lambda each: self.complete(each, libraries, not options.send))
+            ]
             versions = "".join(f"{sendable.name} {sendable.stamp}\n" for sendable in libraries)
             named = self._name(complete, versions)
         missed = [machine.host for machine in machines if machine not in named]

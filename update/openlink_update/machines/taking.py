@@ -18,7 +18,7 @@ import shlex
 from openlink_update.machines.libraries import SHARED, is_name
 from openlink_update.machines.machines import ALONE, text_in, write
 from openlink_update.outcome import USAGE, Failure
-from openlink_update.report import report
+from openlink_update.shown_text import report
 from openlink_update.update_options import Options
 from openlink_update.versions.library import STAMP, Library, is_stamp
 
@@ -66,7 +66,8 @@ def _is_library(name: str) -> bool:
 
 
 def _is_rsync(words: list[str]) -> bool:
-    """Whether this is rsync, as a delivery needs it there: with these options, from nothing, to a place of a library."""
+    """Whether this is rsync, as a delivery needs it there: with these options, from nothing, to a place of a
+    library."""
     if tuple(words[:2]) != _RSYNC or words[-2:-1] != ["."]:
         return False
     options = shlex.join(words[2:-2]).replace("--link-dest ", "--link-dest=").split(" ")

@@ -10,6 +10,7 @@
     changes/NAME.txt       the titles that came and went, if there are some
     earlier.tsv            see earlier_files.py
     allowed.tsv            a target, words of its line that allow warnings, and the number up to which they do
+    hosts.tsv              see host_judge.py
     index/                 the index of titles, for the front door
     prepared/              only until the index and the exports are made: see prepared_tables.py
 
@@ -34,7 +35,7 @@ from openlink_update.shown_text import amount
 from openlink_update.tables import date_order, dropped_rows, row_changes
 from openlink_update.tables.preparation import Prepared
 from openlink_update.tables.table import Table
-from openlink_update.versions import earlier_files, shared_tables
+from openlink_update.versions import earlier_files, host_judge, shared_tables
 from openlink_update.versions.earlier_files import EarlierFiles
 from openlink_update.versions.judging import Judge
 from openlink_update.versions.prepared_tables import PreparedTables
@@ -153,7 +154,7 @@ class Maker:
                 raise Failure(f"{name}: {self._older} has no files of it")
             self.names.append(name)
             self._put_again(Target(name, f"{name}.rules", (f"{name}.txt",), frozenset()), files)
-        self._judge.allowed = self._judge.before
+        self._judge.keep_all()
         if self._older is not None and (self._older / "changes").is_dir():
             shutil.copytree(self._older / "changes", self._folder / "changes")
         self._finish(has_list)
@@ -161,6 +162,7 @@ class Maker:
     def _finish(self, has_list: bool) -> None:
         self._write("registry.tsv", self._tables.registry(self.names))
         self._write("allowed.tsv", self._judge.text(self.names).encode())
+        self._write(host_judge.NAME, self._judge.hosts.text(self.names).encode())
         self._write(earlier_files.NAME, self._earlier.text(self.names, self._today).encode())
         title_index.begin(self._folder / "index", has_list)
 
@@ -206,6 +208,9 @@ class Maker:
             self._judge.keep(target, parts, not old.has_code, is_used=not reasons)
         else:
             self._discard(target.name)
+            return
+        for line in self._judge.hosts.lines(target.name):
+            self._report(f"{target.name}: {line}")
 
     def _put_again(self, target: Target, old: _Files) -> None:
         """Puts the files of the version before, which were good then."""
@@ -311,7 +316,7 @@ def is_same(one: str | Path, other: str | Path) -> bool:
         [f"{folder}/{name}" for folder in folders for name in sorted(os.listdir(version / folder))]
         for version in versions
     ]
-    files = ["registry.tsv", "allowed.tsv", "index/format", *names[0]]
+    files = ["registry.tsv", "allowed.tsv", host_judge.NAME, "index/format", *names[0]]
     return names[0] == names[1] and all(
         (versions[1] / file).is_file() and filecmp.cmp(versions[0] / file, versions[1] / file, shallow=False)
         for file in files
