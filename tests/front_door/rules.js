@@ -266,6 +266,16 @@ function testValues() {
     values.ISSNS.forEach((it) => { expect('the ISSNs in ' + it[0], numbersIn(it[0], numbers.ISSN), it[1]); });
     values.ISBNS.forEach((it) => { expect('the ISBNs in ' + it[0], numbersIn(it[0], numbers.ISBN), it[1]); });
     values.CHECKED.forEach((it) => { expect('the last digit of ' + it[0], numbers.isRight(it[0]), it[1]); });
+    const both = function (key, text, first, second) {
+        const q = openurl.queryOf('rft_val_fmt=x&rft.' + key + '=' + encodeURIComponent(text));
+        return q.first(first) + '|' + q.first(second);
+    };
+    values.VOLUMES.forEach((it) => {
+        expect('the volume ' + it[0], both('volume', it[0], 'rft.volume', 'rft.issue'), it[1]);
+    });
+    values.PAGES.forEach((it) => {
+        expect('the page of ' + it[0] + ' ' + it[1], both(it[0], it[1], 'rft.spage', 'rft.epage'), it[2]);
+    });
 }
 function testRis() {
     RIS_TYPES.forEach(function (it) {

@@ -54,4 +54,31 @@ const CHECKED = [
     ['978019853453', false], ['00000000000', false], ['0000000000', true], ['', false]
 ];
 
-export default { DATES, DAYS, ISSNS, ISBNS, CHECKED };
+// What is under `rft.volume`, and the volume and the issue of the request.
+const VOLUMES = [
+    ['Vol. abc12', 'abc12|'], ['Vol. abcd12', 'Vol. abcd12|'], ['Vol. 12abc', '12abc|'],
+    ['Vol. 12abcd', 'Vol. 12abcd|'], ['Vol. 12-13abc', '12-13abc|'], ['Vol. 12-13abcd', 'Vol. 12-13abcd|'],
+    ['nr. 5', '5|'], ['nr 5', '5|'],
+    ['Band 5', '5|'], ['Tome 5', '5|'], ['tomo 5', '5|'], ['tom 5', '5|'], ['Jg. 5', '5|'], ['Jahrgang 5', '5|'],
+    ['part 5', '5|'], ['num 5', '5|'], ['number 5', '5|'], ['vols 5', '5|'], ['12 no 3', '12|3'], ['12, no. 3', '12|3'],
+    ['12 supp 1', '12|Suppl 1'], ['12 supl 1', '12|Suppl 1'], ['12 supplementum 1', '12|Suppl 1'],
+    ['12 suplemento 1', '12|Suppl 1'], ['12 supplt 1', '12|Suppl 1'], ['12 supplementary 1', '12|Suppl 1'],
+    ['12 suppl i', '12|Suppl i'], ['12 suppl ii', '12|Suppl ii'], ['12 suppl xviii', '12|Suppl xviii'],
+    ['12 suppl xxviii', '12 suppl xxviii|'], ['12 pt abcd', '12|pt abcd'], ['12 pt abcde', '12 pt abcde|'],
+    ['12 part 2', '12|2'], ['12 pt2', '12|2']
+];
+const FORTY = '1234567890123456789012345678901234567890';
+// What is under a key, and the first and the last page of the request.
+const PAGES = [
+    ['pages', 'pp. abc12-15', 'abc12|'], ['pages', 'pp. abcd12', '|'], ['pages', '12ab-15', '12ab|'],
+    ['pages', '12abc-15', '12|'], ['pages', '12f', '12|'], ['pages', '12ff', '12|'], ['pages', 'abcd12', 'abcd12|'],
+    ['pages', 'abcde12', '|'], ['pages', 'pp12', '12|'], ['pages', 'p12', '12|'], ['pages', 'p-12', '12|'],
+    ['spage', '101---118', '101|118'], ['spage', '101----118', '101|'], ['spage', '101 118', '101|'],
+    ['spage', '101 to 118', '101|118'], ['spage', '101 bis 118', '101|118'], ['spage', '.........xii', 'xii|'],
+    ['spage', '..........xii', '..........xii|'], ['spage', 'Seiten xii-xx', 'xii|xx'], ['spage', 'Seite xii', 'xii|'],
+    ['spage', 'S. xii', 'xii|'], ['spage', 'pg xii', 'xii|'], ['spage', 'pgs xii-xx', 'xii|xx'],
+    ['spage', 'pp xii-xx', 'xii|xx'], ['spage', 'p: xii', 'xii|'], ['spage', 'pages xii-xx', 'xii|xx'],
+    ['artnum', '7', '7|'], ['artnum', FORTY, FORTY + '|'], ['artnum', FORTY + '1', '|']
+];
+
+export default { DATES, DAYS, ISSNS, ISBNS, CHECKED, VOLUMES, PAGES };
