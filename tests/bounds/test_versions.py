@@ -71,6 +71,15 @@ class Memory(Case):
                 after = {it for it in before if int(it) >= gone}
                 self.expect(f"{gone} of 100, {name}", len(judging._reasons_of_gone(before, after, limits)), wanted)
 
+    def test_titles_that_came(self) -> None:
+        """Half of those before, or as many as the list of targets says; twenty always."""
+        cases: list[tuple[int, dict[str, int | None], int]]
+        cases = [(100, {}, 50), (100, {"came": 70}, 70), (40, {}, 20), (1, {}, 20), (0, {}, 20), (100, {"came": 0}, 20)]
+        for before, limits, most in cases:
+            for came, wanted in ((most, 0), (most + 1, 1)):
+                found = judging._reasons_of_came(before, came, limits)
+                self.expect(f"{came} and {before} before, {limits}", len(found), wanted)
+
     def test_names_of_versions(self) -> None:
         """A stamp of at most a day ahead."""
         now = library._now()

@@ -1,4 +1,5 @@
-"""Judges a target's new files by numbers: by their warnings, and by the numbers of titles that are gone."""
+"""Judges a target's new files by numbers: by their warnings, and by the titles that came and are gone. Where the links of
+a table lead judges host_judge.py."""
 import dataclasses
 import datetime
 import re
@@ -11,6 +12,8 @@ from openlink_update.tables.identifiers import form_of, standard
 from openlink_update.outcome import Refused
 from openlink_update.tables.cells import IDENTIFIERS
 from openlink_update.tables.parts import base_of
+from openlink_update.versions import host_judge
+from openlink_update.versions.host_judge import HostJudge
 from openlink_update.versions.program import PLACE, words_of
 from openlink_update.tables.embargo import Embargo
 from openlink_update.tables.row_dates import NONE, date_in
@@ -20,6 +23,7 @@ from openlink_update.versions.served import names_in, path_of, tables_in
 from openlink_update.versions.target_list import Target
 
 _ANY_OF_LINT, _GONE, _MOST_GONE = "rule", "gone", 10  # in 100
+_CAME, _MOST_CAME, _FEW_CAME = "came", 50, 20  # in 100; as many titles are always allowed
 _UP_TO = re.compile(r"(.*\S) up to (\d{1,9})%?", re.A)
 _COUNTED = re.compile(r'[^0-9"]* (\d+)(?:, first .*|, ".*)?', re.A)
 _TITLE = ("publication_title", "date_first_issue_online", "date_last_issue_online", "embargo_info")
@@ -45,8 +49,9 @@ class _Change:
 
 def _limits_of(allowed: Collection[str]) -> _Limits:
     """The words of a target's line, each with the number up to which it allows a warning, or None if it has none."""
-    limits: _Limits = {text: None for text in sorted(allowed) if not _UP_TO.fullmatch(text)}
-    return {**limits, **{it[1]: int(it[2]) for it in map(_UP_TO.fullmatch, sorted(allowed)) if it}}
+    numbers = [text for text in sorted(allowed) if not host_judge.is_word(text)]
+    limits: _Limits = {text: None for text in numbers if not _UP_TO.fullmatch(text)}
+    return {**limits, **{it[1]: int(it[2]) for it in map(_UP_TO.fullmatch, numbers) if it}}
 
 
 def _number_in(line: str) -> int:
@@ -129,6 +134,26 @@ def _reasons_of_gone(before: set[str], after: set[str], limits: _Limits) -> list
     return [f"numbers gone {gone} of {len(before)}: {most}% are allowed; to allow it: {_GONE} up to {part}%"]
 
 
+def _titles_of(changes: list[_Change]) -> set[tuple[str, str]]:
+    return {(change.title, change.numbers) for change in changes}
+
+
+def _titles_in(table: Table) -> set[tuple[str, ...]]:
+    """The titles of a table with their numbers as they are in it."""
+    places = table.places(("publication_title", *IDENTIFIERS))
+    return {tuple(cell(row, place) for place in places) for row in table.rows}
+
+
+def _reasons_of_came(before: int, came: int, limits: _Limits) -> list[str]:
+    """Why the titles that came are too many for those before, as a list of at most one reason."""
+    most = limits.get(_CAME)
+    most = _MOST_CAME if most is None else most
+    if came <= _FEW_CAME or came * 100 <= before * most:
+        return []
+    part = -(-came * 100 // max(before, 1))
+    return [f"titles came {came}, and {before} before: {most}% are allowed; to allow it: {_CAME} up to {part}%"]
+
+
 def _shown_date(text: str) -> str:
     date = date_in(text)
     return "" if date == NONE else date
@@ -165,6 +190,7 @@ class Judge:
         # By target: the number for each of its words without one, in the version before and in this one.
         self.before = _allowed_in(older) if older else {}
         self.allowed: dict[str, dict[str, int]] = {}
+        self.hosts = HostJudge(folder, older, today)
         self._changes: dict[str, tuple[list[_Change], list[_Change]]] = {}  # by target: the rows that came and went
 
     def reasons(self, target: Target, parts: dict[str, Table], has_rules: bool, was_served: bool) -> list[str]:
@@ -175,12 +201,20 @@ class Judge:
         self.allowed[target.name] = {words: before.get(words, totals[words]) for words in _without_number(limits)}
         known = {words: most for words, most in limits.items() if most is not None}
         reasons += _reasons_in(warnings, totals, {**known, **self.allowed[target.name]})
-        if was_served and self._older is not None:
-            tables = list(tables_in(self._older, _parts_in(self._older, target.name)))
-            before_and_now = _numbers_in(tables), _numbers_in(parts.values())
-            reasons += [f"{target.table}: {reason}" for reason in _reasons_of_gone(*before_and_now, limits)]
-            self._changes[target.name] = self._changes_between(tables, parts, *before_and_now)
-        return reasons
+        old = self._tables_before(target.name) if was_served else None
+        found: list[str] = []
+        if old is not None:
+            before_and_now = _numbers_in(old), _numbers_in(parts.values())
+            found += _reasons_of_gone(*before_and_now, limits)
+            self._changes[target.name] = self._changes_between(old, parts, *before_and_now)
+            came = _titles_of(self._changes[target.name][0])
+            found += _reasons_of_came(len(set().union(*map(_titles_in, old))), len(came), limits)
+        found += self.hosts.reasons(target.name, target.allowed, limits.get(host_judge.SAME), old, list(parts.values()))
+        return reasons + [f"{target.table}: {reason}" for reason in found]
+
+    def _tables_before(self, name: str) -> list[Table]:
+        """The parts of a target's table in the version before."""
+        return list(tables_in(self._older, _parts_in(self._older, name))) if self._older is not None else []
 
     def _changes_between(
         self, old: list[Table], new: dict[str, Table], before: set[str], now: set[str]
@@ -222,6 +256,12 @@ class Judge:
             warnings, _ = self._warnings(target, parts, has_rules)
             kept = {**_totals_of([line for _, line in warnings], words), **kept}
         self.allowed[target.name] = kept
+        self.hosts.keep(target.name, lambda: self._tables_before(target.name))
+
+    def keep_all(self) -> None:
+        """Keeps all that is allowed in the version before."""
+        self.allowed = self.before
+        self.hosts.keep_all()
 
     def text(self, targets: Iterable[str]) -> str:
         """What the next version has to know, as the file `allowed.tsv`."""
@@ -241,5 +281,5 @@ class Judge:
         with open(path, "w", encoding="utf-8", errors="replace") as file:
             lines = (_HEADING, *(change.cells() for change in (*came, *went)))
             file.writelines(f"{shown_text.row(cells)}\n" for cells in lines)
-        count = [len({(change.title, change.numbers) for change in changes}) for changes in (came, went)]
-        return [f"titles: {count[0]} came, {count[1]} gone: changes/{name}.txt"]
+        counts = [len(_titles_of(changes)) for changes in (came, went)]
+        return [f"titles: {counts[0]} came, {counts[1]} gone: changes/{name}.txt"]

@@ -10,6 +10,7 @@
     changes/NAME.txt       the titles that came and went, if there are some
     earlier.tsv            see earlier_files.py
     allowed.tsv            a target, words of its line that allow warnings, and the number up to which they do
+    hosts.tsv              see host_judge.py
     index/                 the index of titles, for the front door
     prepared/              only until the index and the exports are made: see prepared_tables.py
 
@@ -34,7 +35,7 @@ from openlink_update.shown_text import amount
 from openlink_update.tables import date_order, dropped_rows, row_changes
 from openlink_update.tables.preparation import Prepared
 from openlink_update.tables.table import Table
-from openlink_update.versions import earlier_files, shared_tables
+from openlink_update.versions import earlier_files, host_judge, shared_tables
 from openlink_update.versions.earlier_files import EarlierFiles
 from openlink_update.versions.judging import Judge
 from openlink_update.versions.prepared_tables import PreparedTables
@@ -43,6 +44,7 @@ from openlink_update.versions.served import Tables, targets_in
 from openlink_update.versions.target_list import Target
 
 _FEWER = "less than half of the rows"
+_OF_THE_OWNER = 0o600  # nginx needs no table as it came: what a library has received is its own
 
 
 @dataclasses.dataclass(frozen=True)
@@ -78,17 +80,18 @@ class _Files:
 def _files_of(target: Target) -> _Files:
     """The files that the list names for a target. Refused if one of them cannot be read."""
     reasons, sources = [], []
-    tables = [patterns.path_of(path, target.input.matches) for path in target.tables]
-    for path in (target.rules, *tables):
+    for number, path in enumerate((target.rules, *target.tables)):
         try:
-            sources.append(target.input.file(path))
+            found = patterns.path_of(path, target.input.matches) if number else path
+            sources.append(target.input.file(found))
         except OSError as fault:
             is_pattern = "*" in path and isinstance(fault, FileNotFoundError)
-            reasons.append(f"{path}: {'no file has such a name' if is_pattern else fault.strerror}")
+            reasons.append(f"{fault.filename or path}: {'no file has such a name' if is_pattern else fault.strerror}")
     if reasons:
         raise Refused(reasons)
     rules, *data = [it.data for it in sources]
-    return _Files(rules, tuple(data), target.has_code(), tuple(tables), tuple(sources))
+    paths = tuple(str(it.path) for it in sources[1:])
+    return _Files(rules, tuple(data), target.has_code(), paths, tuple(sources))
 
 
 def _received_names(version: Path, name: str) -> list[str]:
@@ -151,7 +154,7 @@ class Maker:
                 raise Failure(f"{name}: {self._older} has no files of it")
             self.names.append(name)
             self._put_again(Target(name, f"{name}.rules", (f"{name}.txt",), frozenset()), files)
-        self._judge.allowed = self._judge.before
+        self._judge.keep_all()
         if self._older is not None and (self._older / "changes").is_dir():
             shutil.copytree(self._older / "changes", self._folder / "changes")
         self._finish(has_list)
@@ -159,6 +162,7 @@ class Maker:
     def _finish(self, has_list: bool) -> None:
         self._write("registry.tsv", self._tables.registry(self.names))
         self._write("allowed.tsv", self._judge.text(self.names).encode())
+        self._write(host_judge.NAME, self._judge.hosts.text(self.names).encode())
         self._write(earlier_files.NAME, self._earlier.text(self.names, self._today).encode())
         title_index.begin(self._folder / "index", has_list)
 
@@ -204,6 +208,9 @@ class Maker:
             self._judge.keep(target, parts, not old.has_code, is_used=not reasons)
         else:
             self._discard(target.name)
+            return
+        for line in self._judge.hosts.lines(target.name):
+            self._report(f"{target.name}: {line}")
 
     def _put_again(self, target: Target, old: _Files) -> None:
         """Puts the files of the version before, which were good then."""
@@ -223,7 +230,9 @@ class Maker:
         self._discard(name)
         self._write(rules, files.rules)
         for number, data in enumerate(files.tables, 1):
-            self._write(f"received/{name}.txt" + (f".{number}" if number > 1 else ""), data)
+            path = self._folder / f"received/{name}.txt{f'.{number}' if number > 1 else ''}"
+            path.touch(_OF_THE_OWNER)
+            path.write_bytes(data)
         try:
             prepared = files.prepared
         except Refused as refusal:
@@ -307,7 +316,7 @@ def is_same(one: str | Path, other: str | Path) -> bool:
         [f"{folder}/{name}" for folder in folders for name in sorted(os.listdir(version / folder))]
         for version in versions
     ]
-    files = ["registry.tsv", "allowed.tsv", "index/format", *names[0]]
+    files = ["registry.tsv", "allowed.tsv", host_judge.NAME, "index/format", *names[0]]
     return names[0] == names[1] and all(
         (versions[1] / file).is_file() and filecmp.cmp(versions[0] / file, versions[1] / file, shallow=False)
         for file in files

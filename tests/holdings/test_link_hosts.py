@@ -1,0 +1,174 @@
+"""A table that somebody else controls: links on other hosts, one address for all titles, many titles more."""
+from __future__ import annotations
+
+import os
+from unittest import mock
+
+from fixtures import needs
+from fixtures.cases import Case
+from fixtures.made_titles import issn
+from fixtures.made_versions import DAY
+from fixtures.made_versions import Weeks
+from fixtures.made_versions import table
+from openlink_update.tables import link_hosts
+from openlink_update.tables.link_hosts import Templates
+from openlink_update.tables.table import Table
+
+RULES = "rule\nwhen given title_url\nlink {+title_url}\n"
+EVIL = "login-press.evil.example"
+SAID = "hosts of its links, which are allowed from now on"
+
+
+def rows(first: int, last: int, host: str = "press.example.com") -> list[tuple[str, ...]]:
+    """Titles, each with an address of its own."""
+    return [(f"Title {at}", issn(at), "", "1990", "", f"https://{host}/{at}", f"t{at}") for at in range(first, last)]
+
+
+def at(address: str, row: tuple[str, ...]) -> tuple[str, ...]:
+    return (*row[:5], address, *row[6:])
+
+
+def new_host(host: str, count: int, of: int, title: str = "Title 0") -> str:
+    return f'new host {host} in {count} of {of} rows, first "{title}"; to allow it: hosts +{host}'
+
+
+@needs.program()
+class Hijacked(Case):
+    """Which tables are used, and what is said of those that are not."""
+
+    def test_other_host(self) -> None:
+        """Every link on another host, and 60 titles more: kept, with a line for each reason, until words allow it."""
+        hijacked = table(*rows(0, 100, EVIL))
+        reasons = [
+            "titles came 60, and 40 before: 50% are allowed; to allow it: came up to 150%",
+            new_host(EVIL, 100, 100),
+        ]
+        words = f"hosts +{EVIL}"
+        with Weeks() as weeks:
+            self.expect("the first week", weeks.week("press", table(*rows(0, 40)), rules=RULES), [])
+            before = weeks.read("tables/press.txt")
+            self.expect("hijacked", weeks.week("press", hijacked, rules=RULES), reasons)
+            self.expect("the old table stays", weeks.read("tables/press.txt"), before)
+            self.expect("and again", weeks.week("press", hijacked, rules=RULES), reasons)
+            self.expect("one word of two", weeks.week("press", hijacked, words, rules=RULES), reasons[:1])
+            self.expect("both", weeks.week("press", hijacked, f"{words}; came up to 150%", rules=RULES), [])
+            known = f"press\t\t{DAY}\npress\t{EVIL}\t{DAY}\npress\tpress.example.com\t{DAY}\n"
+            self.expect("remembered", weeks.read("hosts.tsv").decode(), known)
+            self.expect("the words taken back", weeks.week("press", table(*rows(0, 99, EVIL)), rules=RULES), [])
+            self.expect("the first host again", weeks.week("press", table(*rows(0, 98)), rules=RULES), [])
+
+    def test_odd_host(self) -> None:
+        """One row on another host, in any spelling that a browser reads as this host."""
+        for address in (
+            f"https://{EVIL}/1",
+            f"HTTP://{EVIL.upper()}",
+            f"https:///{EVIL}/1",
+            f"https://press.example.com@{EVIL}/1",
+            f"https://{EVIL}\\press.example.com/",
+            f"https://{EVIL}?press.example.com/",
+        ):
+            with Weeks() as weeks:
+                weeks.week("press", table(*rows(0, 40)), rules=RULES)
+                odd = table(*rows(0, 39), at(address, rows(39, 40)[0]))
+                wanted = [new_host(EVIL, 1, 40, "Title 39")]
+                # `lint` warns of some of these too, which `rule` allows.
+                self.expect(address, weeks.week("press", odd, "rule", rules=RULES), wanted)
+                self.expect("below", weeks.week("press", odd, "rule; hosts +x.org +*.evil.example", rules=RULES), [])
+        with Weeks() as weeks:
+            weeks.week("press", table(*rows(0, 40)), rules=RULES)
+            odd = table(*rows(0, 39), *rows(39, 40, "press.example.com:8443"))
+            wanted = [new_host("press.example.com:8443", 1, 40, "Title 39")]
+            self.expect("a port", weeks.week("press", odd, "hosts +press.example.com", rules=RULES), wanted)
+
+    def test_same_address(self) -> None:
+        """One address in all rows."""
+        address = "https://press.example.com/login"
+        same = table(*(at(address, row) for row in rows(0, 40)))
+        reason = f"same address in 40 of 40 rows, {address}: 90% are allowed; to allow it: same address up to 100%"
+        with Weeks() as weeks:
+            weeks.week("press", table(*rows(0, 40)), rules=RULES)
+            self.expect("kept", weeks.week("press", same, rules=RULES), [reason])
+            self.expect("allowed", weeks.week("press", same, "same address up to 100%", rules=RULES), [])
+            other = table(*(at(f"{address}2", row) for row in rows(0, 41)))
+            self.expect("the table in use has one", weeks.week("press", other, rules=RULES), [])
+
+    def test_first_run(self) -> None:
+        """What the table in use has is allowed at the first run of an update that judges hosts, which says so once."""
+        line = f"press: {SAID}: press.example.com (39 rows), {EVIL} (1 row)"
+        used = [*rows(0, 39), *rows(39, 40, EVIL)]
+        for name, data in (("the same table", used), ("a new one", [*used, *rows(40, 42, EVIL)])):
+            with Weeks() as weeks:
+                weeks.deliver("press", table(*used), rules=RULES)
+                self.expect("the first table is said", weeks.make(), ["press: new, 40 rows", line])
+                os.unlink(f"{weeks.version}/hosts.tsv")
+                weeks.deliver("press", table(*data), rules=RULES)
+                self.expect(f"{name}: said", weeks.make()[-1:], [line])
+                self.expect("in use", weeks.maker.kept, [])
+                self.expect("not again", SAID in "".join(weeks.make()), False)
+                self.expect("remembered", EVIL in weeks.read("hosts.tsv").decode(), True)
+                weeks.make(walls=True)
+                self.expect("by a run for walls too", EVIL in weeks.read("hosts.tsv").decode(), True)
+        with Weeks() as weeks:
+            weeks.week("press", table(*rows(0, 40)), rules=RULES)
+            os.unlink(f"{weeks.version}/hosts.tsv")
+            weeks.deliver("press", table(*rows(0, 40, EVIL)), rules=RULES)
+            self.expect("a hijacked table", weeks.make()[-1:], [f"press: {SAID}: press.example.com (40 rows)"])
+            self.expect("is not in use", weeks.maker.kept, ["press"])
+            self.expect("nor allowed later", EVIL in weeks.read("hosts.tsv").decode(), False)
+
+    def test_rules(self) -> None:
+        """Only cells that links have count, and hosts that the rules have as text are allowed."""
+        fixed = "rule\nlink https://press.example.com/{title_id}\n"
+        with Weeks() as weeks:
+            weeks.week("press", table(*rows(0, 40)), rules=fixed)
+            self.expect("a column of no link", weeks.week("press", table(*rows(0, 40, EVIL)), rules=fixed), [])
+        with Weeks() as weeks:
+            weeks.week("press", table(*rows(0, 40, "old.example.com")), rules=RULES + fixed)
+            self.expect("a fixed host", weeks.week("press", table(*rows(0, 40)), rules=RULES + fixed), [])
+
+
+class Cells(Case):
+    """What rules and cells say of hosts."""
+
+    def test_templates(self) -> None:
+        for template, names, hosts, fixed in (
+            ("https://A.example.org:8080/{title_id}", {"title_id"}, set(), {"a.example.org:8080"}),
+            ("https://proxy.example.org?u={title_url}{&b*,c:4}", {"title_url", "b", "c"}, set(), {"proxy.example.org"}),
+            ("{+title_url}", {"title_url"}, set(), set()),
+            ("https://{+host}/x", {"host"}, {"host"}, set()),
+            ("https://www.{host}/{title_id}", {"host", "title_id"}, {"host"}, set()),
+            ("https://{sub}.example.org/", {"sub"}, set(), set()),
+        ):
+            found = Templates.parse(f"# link https://no.example/{{no}}\nrule\nlink {template}\n".encode())
+            self.expect(template, found, Templates(frozenset(names), frozenset(hosts), frozenset(fixed)))
+
+    def test_rows(self) -> None:
+        """Rows by host, in one column or two, and in columns whose cells are hosts; of a code file in each column."""
+        parts = [
+            Table(
+                ("publication_title", "a", "b"), [["T", "http://one/x", "http://one/y"], ["U", "none", "http://two"]]
+            ),
+            Table(("publication_title", "b"), [["V", "http://one?x"], ["W"]]),
+        ]
+        both, host = Templates(frozenset({"a", "b"}), frozenset(), frozenset()), frozenset({"a"})
+        for name, templates, wanted in (
+            ("two columns", both, {"one": 2, "two": 1}),
+            ("one", Templates(frozenset({"b"}), frozenset(), frozenset()), {"one": 2, "two": 1}),
+            ("a code file", link_hosts.OF_CODE, {"one": 2, "two": 1}),
+            ("none", Templates(frozenset(), frozenset(), frozenset()), {}),
+        ):
+            found = link_hosts.links_of(parts, templates)
+            self.expect(name, (dict(found.hosts), found.rows), (wanted, 4))
+        found = link_hosts.links_of([Table(("a",), [["one.org"], ["Two.org/x"]])], Templates(host, host, frozenset()))
+        self.expect("hosts", dict(found.hosts), {"one.org": 1, "two.org": 1})
+        same = [Table(("a", "b"), [[f"http://one/{at}", "http://two"] for at in range(3)])] * 2
+        self.expect("in most rows of all parts", link_hosts.links_of(same, both).most_common, ("http://two", 6))
+        titles = link_hosts.first_titles(parts, both, {"one", "two"})
+        self.expect("titles", titles, {"one": "T", "two": "U"})
+
+    def test_work(self) -> None:
+        """A host is cut out of an address once for each authority, not for each row."""
+        rows = [[f"https://press.example.com/{number}"] for number in range(1000)]
+        with mock.patch.object(link_hosts, "_host", side_effect=link_hosts._host) as calls:
+            link_hosts.links_of([Table(("a",), rows)], link_hosts.OF_CODE)
+        self.expect("calls", calls.call_count, 1)

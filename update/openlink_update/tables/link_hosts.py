@@ -1,0 +1,113 @@
+"""The hosts to which the links of a target lead: those that its rules have as text, and those that cells of its table
+give. A cell gives one if it is a web address, or if a rule makes the host of it."""
+import dataclasses
+import re
+from collections import Counter
+from collections.abc import Collection, Iterable, Iterator
+from itertools import chain
+
+from openlink_update.tables.table import Table, cell
+
+_LINK = re.compile(r"^link (\S+)", re.M)
+_AUTHORITY = re.compile(r"https?://((?:\{[^}]*\}|[^/?#{}])*)", re.I)
+_EXPRESSION = re.compile(r"\{[+#./;?&]?([^}]*)\}")
+# A browser skips more slashes than two, and reads \ as a slash.
+_ADDRESS = re.compile(r"https?://[/\\]*([^/\\?#]*)", re.I)
+_HOST = re.compile(r"[/\\]*([^/\\?#]*)")
+_TITLE = "publication_title"
+
+
+def _names_in(template: str) -> set[str]:
+    """The variables of a template."""
+    lists = (it[1].split(",") for it in _EXPRESSION.finditer(template))
+    return {name.split(":")[0].rstrip("*") for name in chain.from_iterable(lists)}
+
+
+def _host(authority: str) -> str:
+    """The host and the port of an authority, without a user."""
+    return authority.rpartition("@")[2].lower()
+
+
+@dataclasses.dataclass(frozen=True)
+class Templates:
+    """What the templates of rules say of hosts."""
+
+    names: frozenset[str] | None  # their variables; None: not known, since the rules are a code file
+    hosts: frozenset[str]  # variables that can be the end of a host
+    fixed: frozenset[str]  # hosts that are text
+
+    @classmethod
+    def parse(cls, rules: bytes) -> "Templates":
+        templates = _LINK.findall(rules.decode("utf-8", "replace"))
+        authorities = [it[1] for it in map(_AUTHORITY.match, templates) if it]
+        free = [it for it in authorities if "{+" in it or "{" in it and "." not in it.rpartition("}")[2]]
+        names = chain.from_iterable(map(_names_in, templates))
+        hosts = chain.from_iterable(map(_names_in, free))
+        return cls(frozenset(names), frozenset(hosts), frozenset(_host(it) for it in authorities if "{" not in it))
+
+
+OF_CODE = Templates(None, frozenset(), frozenset())
+
+
+@dataclasses.dataclass(frozen=True)
+class Links:
+    """What the cells of a table give."""
+
+    rows: int
+    hosts: Counter[str]  # by host, how many rows have it
+    most_common: tuple[str, int]  # the address that most rows have in one column, and how many; '' in none
+
+
+def _columns_of(table: Table, templates: Templates) -> Iterator[tuple[str, int]]:
+    """The columns whose cells are in links, each with its place; of two with one name the first."""
+    for name in dict.fromkeys(table.columns):
+        if templates.names is None or name in templates.names:
+            yield name, table.columns.index(name)
+
+
+def _hosts_in(cells: Iterable[str], is_host: bool) -> list[str]:
+    """The host that each cell gives, or ''."""
+    if is_host:
+        return [_host(match[1]) if match else "" for match in map(_HOST.match, cells)]
+    known = {"": ""}
+    found = []
+    for text in cells:
+        match = _ADDRESS.match(text) if "://" in text else None
+        authority = match[1] if match else ""
+        if authority not in known:
+            known[authority] = _host(authority)
+        found.append(known[authority])
+    return found
+
+
+def links_of(tables: Iterable[Table], templates: Templates) -> Links:
+    """What the parts of a table give."""
+    rows, hosts = 0, Counter[str]()
+    addresses: dict[str, Counter[str]] = {}  # by column
+    for table in tables:
+        rows += len(table.rows)
+        columns = []
+        for name, place in _columns_of(table, templates):
+            cells = [cell(row, place) for row in table.rows]
+            found = _hosts_in(cells, name in templates.hosts)
+            if any(found):
+                columns.append(found)
+                counts = Counter(text for text, host in zip(cells, found) if host)
+                addresses.setdefault(name, Counter()).update(counts)
+        hosts.update(columns[0] if len(columns) == 1 else chain.from_iterable(map(set, zip(*columns))))
+    del hosts[""]
+    most = [pair for counts in addresses.values() for pair in counts.most_common(1)]
+    return Links(rows, hosts, max(most, key=lambda pair: pair[1], default=("", 0)))
+
+
+def first_titles(tables: Iterable[Table], templates: Templates, hosts: Collection[str]) -> dict[str, str]:
+    """The title of the first row of each of these hosts."""
+    titles: dict[str, str] = {}
+    for table in tables:
+        title = table.place(_TITLE)
+        for name, place in _columns_of(table, templates):
+            found = _hosts_in((cell(row, place) for row in table.rows), name in templates.hosts)
+            for row, host in zip(table.rows, found):
+                if host in hosts and host not in titles:
+                    titles[host] = cell(row, title)
+    return titles
