@@ -110,8 +110,8 @@ def _cell(texts: Any) -> Any:
     """A cell with spaces around it, or in quotes as a spreadsheet writes them."""
     from hypothesis import strategies as st
 
-    quoted = st.tuples(st.sampled_from(("", "=")), texts).map(lambda it: f'{it[0]}"{it[1]}"')
     spaces = st.sampled_from(_SPACES)
+    quoted = st.tuples(st.sampled_from(('"', '="')), spaces, texts, spaces, st.just('"')).map("".join)
     plain = st.tuples(spaces, texts, spaces).map("".join)
     return st.one_of(plain, plain, plain, quoted)
 
