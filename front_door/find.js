@@ -105,6 +105,7 @@ async function letter(r, kind, name, page, site) {
     const letters = found || NO_LETTERS;
     const it = letters.letters.find((one) => one.letter === name);
     if (it === undefined || page < 1 || page > it.pages) return exchange.sendFault(r, 404, site);
+    it.starts = it.pages > 1 ? await index.startsOf(r, kind, it) : '';
     const titles = await index.pageOf(r, kind, it.page + page - 1);
     exchange.sendPage(r, 200, lists.letterOf(kind, letters, it, page, titles, site), site);
 }

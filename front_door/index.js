@@ -13,6 +13,7 @@ const MOST_LINES = 50;      // of one key
 const READ_BYTES = 512;
 const PROBED_BYTES = 256;
 const PAGE = 50;            // titles of a page of the list
+const MOST_LENGTHS = 300;   // bytes of the first line of a page: fifty numbers of at most four digits
 
 function hashed(text, digits) { return crypto.createHash('md5').update(text).digest('hex').slice(0, digits); }
 
@@ -39,7 +40,7 @@ function linesWith(bytes, beginning, most) {
         else high = middle;
     }
     let found = null;
-    for (let size = high - low + READ_BYTES; found === null; size *= 8) {
+    for (let size = high - low + READ_BYTES; found === null; size *= 2) {
         const text = bytes.slice(low, low + size).toString();
         found = linesIn(text, beginning, most, high - low, low + size >= bytes.length);
     }
@@ -126,8 +127,7 @@ async function isThere(r) {
 }
 
 // ---------------------------------------------------------------- The list
-// The letters of the list of a kind, with the number of titles and that of the digits of the names of words. An index
-// of an earlier version has no `starts`, the beginnings of the pages of a letter.
+// The letters of the list of a kind, with the number of titles and that of the digits of the names of words.
 async function lettersOf(r, kind) {
     const text = await linesOf(r, `list/${kind}/letters`);
     const lines = text.map((line) => line.split('\t'));
@@ -139,6 +139,29 @@ async function lettersOf(r, kind) {
         })
     };
 }
+// The beginnings of the pages of a letter, which an index before format 4 has among the letters, if at all.
+async function startsOf(r, kind, it) {
+    if (it.starts !== '') return it.starts;
+    const lines = await linesOf(r, `list/${kind}/starts`);
+    const line = lines.find((one) => one.startsWith(it.letter + '\t'));
+    return line === undefined ? '' : line.slice(it.letter.length + 1);
+}
+// A page of the list whose lines are read one by one. Its first line has the lengths of the others; it is empty in an
+// index before format 4, which is divided as a whole.
+async function partsOfPage(r, kind, number) {
+    const bytes = await bytesOf(r, `list/${kind}/${number}`);
+    const head = bytes.slice(0, MOST_LENGTHS).toString();
+    const lengths = head.slice(0, Math.max(0, head.indexOf('\n')));
+    if (lengths === '') return { lines: bytes.toString().split('\n').slice(1, -1) };
+    const starts = [lengths.length + 1];
+    lengths.split(' ').forEach((length, i) => { starts.push(starts[i] + Number(length)); });
+    return { bytes, starts };
+}
+function lineOfPage(page, number) {
+    if (page.lines) return page.lines[number];
+    if (number + 1 >= page.starts.length) return undefined;
+    return page.bytes.slice(page.starts[number], page.starts[number + 1] - 1).toString();
+}
 function linesOfPage(r, kind, number) { return linesOf(r, `list/${kind}/${number}`); }
 async function pageOf(r, kind, number) {
     const lines = await linesOfPage(r, kind, number);
@@ -147,5 +170,5 @@ async function pageOf(r, kind, number) {
 
 export default {
     PAGE, hashed, bytesOf, linesWith, targetOf, rowOf, titleOf, titlesOf, titlesOfAll, distinct, isThere, lettersOf,
-    linesOfPage, pageOf
+    startsOf, partsOfPage, lineOfPage, pageOf
 };

@@ -71,12 +71,13 @@ function ofPubmed(data) {
 
 // The reply as the fields of a request, or null. A late `ngx.fetch` can't be ended, so it may keep the next request on
 // this connection waiting until the proxy's own time-outs end it; a timer would too, so it is cleared.
-async function fetched(address, read) {
+async function fetched(address, reader, read) {
     let end;
     const late = new Promise(function (done) { end = done; });
     const timer = setTimeout(() => { end(null); }, SECONDS * 1000);  // assigned out here, or njs 0.7.9 can't clear it
     try {
-        const options = { max_response_body_size: MOST_BYTES, buffer_size: 65536 };
+        const headers = { 'Openlink-Reader': reader };  // its limit counts by it; no service gets it
+        const options = { headers, max_response_body_size: MOST_BYTES, buffer_size: 65536 };
         const asked = ngx.fetch(address, options).then((reply) => reply.status === 200 ? reply.text() : null);
         const text = await Promise.race([asked, late]);
         clearTimeout(timer);
@@ -100,7 +101,8 @@ async function complete(r, q) {
     if (!base || openurl.hasNumber(q) || TITLE_KEYS.some((key) => q.has(key))) return;
     const address = addressOf(String(base), q);
     if (address === '') return;
-    const found = await fetched(address, q.has('x.doi') ? ofCrossref : ofPubmed);
+    const reader = r.rawVariables.openlink_reader;
+    const found = await fetched(address, reader ? reader.toString('hex') : '', q.has('x.doi') ? ofCrossref : ofPubmed);
     if (found === null) return;
     Object.keys(found).forEach((key) => {
         const values = found[key].filter(Boolean);

@@ -66,12 +66,12 @@ function firstPlaces(set, most) {
 // A page of the list, which a search reads once.
 function pageOf(list, number) {
     const known = list.known[number];
-    return known || (list.known[number] = index.linesOfPage(list.r, list.kind, number));
+    return known || (list.known[number] = index.partsOfPage(list.r, list.kind, number));
 }
 // The titles at these places of the list.
 async function titlesAt(list, places) {
-    const lines = await Promise.all(places.map((place) => pageOf(list, Math.floor(place / PAGE))));
-    return places.map((place, i) => lines[i][place % PAGE]).filter(Boolean)
+    const pages = await Promise.all(places.map((place) => pageOf(list, Math.floor(place / PAGE))));
+    return places.map((place, i) => index.lineOfPage(pages[i], place % PAGE)).filter(Boolean)
         .map((line) => index.titleOf(list.kind, line.split('\t')));
 }
 // The first of the places from `low` to `high` whose title has no key that is before; `high` if there is none.
@@ -80,8 +80,8 @@ async function firstPlace(list, low, high, isBefore) {
     let end = high;
     while (first < end) {
         const middle = (first + end) >> 1;
-        const lines = await pageOf(list, Math.floor(middle / PAGE));
-        const line = lines[middle % PAGE];
+        const page = await pageOf(list, Math.floor(middle / PAGE));
+        const line = index.lineOfPage(page, middle % PAGE);
         if (line !== undefined && isBefore(titles.keyOf(line.slice(0, line.indexOf('\t'))))) first = middle + 1;
         else end = middle;
     }

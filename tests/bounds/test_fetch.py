@@ -24,6 +24,7 @@ from openlink_update.fetch import hosts
 from openlink_update.fetch import sources
 from openlink_update.fetch import transfers
 from openlink_update.fetch.downloads import Download
+from openlink_update.fetch.fetch_folder import FetchFolder
 from openlink_update.fetch.sources import Source
 from openlink_update.fetch.transfers import Transfer
 from openlink_update.input_files import InputFolder
@@ -227,10 +228,11 @@ class Numbers(Case):
         for every, days, wanted in ((0, 90, False), (0, 91, True), (100, 100, False), (100, 101, True)):
             lines: list[str] = []
             with tempfile.TemporaryDirectory() as folder:
-                run = fetching._Fetch(InputFolder(folder), lines.append, 600, 10)
+                inputs = InputFolder(f"{folder}/input")
+                run = fetching._Fetch(inputs, lines.append, 600, 10)
                 source = Source("table.txt", "https://press.example.com/", every=every)
-                run._state = fetch_state.State(InputFolder(folder), "state", None, today)
-                run._state._entries["table.txt"] = {"changed": str(today - datetime.timedelta(days))}
+                run._state = fetch_state.State(inputs, FetchFolder(inputs), None, today)
+                run._state._entries["table.txt"] = fetch_state._Entry(changed=str(today - datetime.timedelta(days)))
                 run._say([source], 0)
             self.expect(
                 f"{days} days, fetched every {every}", f"table.txt: not changed for {days} days" in lines, wanted

@@ -16,7 +16,6 @@ from openlink_update.index import title_index
 from openlink_update.index import title_list
 from openlink_update.index import titles
 from openlink_update.index import word_sets
-from openlink_update.input_files import InputFolder
 from openlink_update.site import probes
 from openlink_update.tables import cells
 from openlink_update.tables import date_order
@@ -71,7 +70,7 @@ class Lists(Case):
                 Path(folder, "probes.tsv").write_text(f"issn=1234-5679\t{'a' * count}\n")
                 told = ""
                 try:
-                    probes.read(InputFolder(folder), "probes.tsv")
+                    probes.read(Path(folder, "probes.tsv").read_bytes())
                 except ValueError as fault:
                     told = str(fault)
                 self.expect(f"{count} characters", told, wanted)

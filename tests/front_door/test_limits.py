@@ -44,16 +44,19 @@ class Limits(SiteCase):
         self.expect("after them", wait_until(lambda: self.site.get("/find").status == 200))
 
     def test_rates(self) -> None:
-        """Fifty long requests and twenty searches a second, of all addresses together, after as many that come at once.
-        A search counts in every form of its key, and the pages of letters do not."""
-        for name, its, rate, count in (("long", [LONG, *FORMS], 50, 180), ("searches", SEARCHES, 20, 80)):
+        """Fifty long requests and twenty searches a second, of all readers together, after fifty and forty at once. A
+        search counts in every form of its key, and the pages of letters do not."""
+        for name, its, rate, burst, count in (
+            ("long", [LONG, *FORMS], 50, 50, 180),
+            ("searches", SEARCHES, 20, 40, 120),
+        ):
             start = time.monotonic()
             statuses = [self.status_of(its[i % len(its)]) for i in range(count)]
             seconds = time.monotonic() - start
             self.expect(f"{name}: statuses", set(statuses) <= {200, 429})
             good = statuses.count(200)
             self.expect(
-                f"{name}: {good} of {count} in {seconds:.1f} s", min(count, rate) <= good <= 1 + rate + rate * seconds
+                f"{name}: {good} of {count} in {seconds:.1f} s", min(count, burst) <= good <= 1 + burst + rate * seconds
             )
             others = [
                 self.site.get(target).status for target in ("/find?issn=2901-0012", "/journals/a/1", "/books?lang=de")

@@ -43,7 +43,7 @@ CASES = [
         ("1992 - - -", "2025 7 - -", "366"),
     ),
     ("a wall of a year", row("A", first="1992", embargo="P1Y"), ("1992 - - -", "", "366")),
-    ("a wall of months", row("A", first="1992", embargo="P6M"), ("1992 - - -", "", "183")),
+    ("a wall of months", row("A", first="1992", embargo="P6M"), ("1992 - - -", "", "184")),
     ("a wall of days", row("A", embargo="P7D"), ("", "", "7")),
     (
         "an end before the wall",

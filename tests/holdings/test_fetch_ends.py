@@ -141,14 +141,14 @@ class Ends(ProvidersCase):
                 self.expect(
                     "another run",
                     folder.fetch(),
-                    (4, f"openlink-fetch: {folder.path('.fetch', 'lock')}: another run has not ended\n"),
+                    (4, f"openlink-fetch: {folder.state('lock')}: another run has not ended\n"),
                 )
                 child.send_signal(number)
                 got, printed = ended(child)
                 self.expect(f"after {number.name}: {printed}", (got, folder.read("drip.txt")), (status, OLD))
                 self.expect("no curl is left", wait_until(lambda: not any(map(is_curl, ours))))
             folder.write_sources(f"drip.txt\t{self.address('/table.txt')}")
-            folder.write(".fetch/7", OLD)
+            folder.write(folder.state("7"), OLD)
             self.expect(
                 "the next run",
                 (folder.fetch()[0], folder.read("drip.txt"), folder.names()),

@@ -9,7 +9,14 @@ from fixtures.fetch_input import Input
 from fixtures.fetch_input import TABLE
 from fixtures.providers import ProvidersCase
 
-NAMES = ("../targets.tsv", "../../targets.tsv", "/srv/targets.tsv", "targets.tsv", "secrets.tsv", ".fetch/state.json")
+NAMES = (
+    "../targets.tsv",
+    "../../targets.tsv",
+    "/srv/targets.tsv",
+    "targets.tsv",
+    "secrets.tsv",
+    "../input.fetch/state.json",
+)
 
 
 def zipped(name: str) -> bytes:

@@ -302,7 +302,7 @@ class Replies(ProvidersCase):
             folder.write("long.txt", OLD)
             folder.write("table.txt", OLD)
             if subprocess.run(
-                ["mount", "-t", "tmpfs", "-o", "size=1m", "tmpfs", folder.folder], stderr=subprocess.DEVNULL
+                ["mount", "-t", "tmpfs", "-o", "size=1m", "tmpfs", folder.top], stderr=subprocess.DEVNULL
             ).returncode:
                 limit = lambda: resource.setrlimit(resource.RLIMIT_FSIZE, (2**20, 2**20))
                 status, printed = folder.fetch("long.txt", preexec_fn=limit)
@@ -317,4 +317,4 @@ class Replies(ProvidersCase):
                 "a full disk", printed, "long.txt: kept the old file: the disk is full or cannot be written"
             )
             self.expect("a full disk", (status, folder.read("long.txt")), (4, OLD))
-            subprocess.run(["umount", "-l", folder.folder], stderr=subprocess.DEVNULL)
+            subprocess.run(["umount", "-l", folder.top], stderr=subprocess.DEVNULL)

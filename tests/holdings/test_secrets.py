@@ -110,7 +110,7 @@ class Secrets(ProvidersCase):
                 wrong[1],
                 *(
                     text
-                    for name in (*folder.names(), ".fetch/state.json")
+                    for name in (*folder.names(), folder.state("state.json"))
                     if name != "secrets.tsv"
                     for text in [folder.read(name).decode()]
                 ),

@@ -17,7 +17,7 @@ from fixtures.made_versions import HEADER
 from fixtures.made_versions import Weeks
 from fixtures.made_versions import table
 from openlink_update import shown_text
-from openlink_update.report import report
+from openlink_update.shown_text import report
 
 # ESC, CR, BEL, NUL, DEL, C1 (CSI, NEL), and what ends a line or sets its direction.
 UNSAFE = (
@@ -102,7 +102,7 @@ class Shown(Case):
         with contextlib.redirect_stdout(out):
             report("first \x1b]0;owned\x07\x1b[2J\x9b1m\u202e months\r")
         self.expect("a line", out.getvalue(), "first ?]0;owned??[2J?1m? months?\n")
-        code = "from openlink_update.report import report; report('x\\x1b[2J\\x85y', 'stderr')"
+        code = "from openlink_update.shown_text import report; report('x\\x1b[2J\\x85y', 'stderr')"
         done = subprocess.run([*PYTHON, "-c", code], capture_output=True, env={**os.environ, "PYTHONPATH": "update"})
         self.expect("standard error", done.stderr, b"x?[2J?y\n")
 

@@ -88,11 +88,11 @@ class Sources(ProvidersCase):
 
         def shift(file: str, **days: int) -> None:
             """Makes the dates of a file that many days older."""
-            state = json.loads(folder.read(".fetch/state.json"))
+            state = json.loads(folder.read(folder.state("state.json")))
             state[file].update(
                 {event: (today - datetime.timedelta(number)).isoformat() for event, number in days.items()}
             )
-            folder.write(".fetch/state.json", json.dumps(state))
+            folder.write(folder.state("state.json"), json.dumps(state))
 
         with Input(self.authority) as folder:
             folder.write_sources(
@@ -141,7 +141,7 @@ class Sources(ProvidersCase):
             os.unlink(folder.path("rare.txt"))
             status, printed = folder.fetch()
             self.expect("a file that was removed", (status, folder.read("rare.txt")), (0, TABLE))
-            folder.write(".fetch/state.json", "{")
+            folder.write(folder.state("state.json"), "{")
             os.utime(folder.path("often.txt"), (time.time() - 100 * 86400,) * 2)
             self.expect(
                 "after the state was lost",
@@ -155,10 +155,10 @@ class Sources(ProvidersCase):
         with Input(self.authority) as folder:
             folder.write_sources(f"changing.txt\t{self.address('/changing.txt')}")
             self.expect("the first run", folder.fetch()[0], 0)
-            state = json.loads(folder.read(".fetch/state.json") or b"")
+            state = json.loads(folder.read(folder.state("state.json")) or b"")
             changed = datetime.date.today() - datetime.timedelta(120)
             state["changing.txt"]["changed"] = changed.isoformat()
-            folder.write(".fetch/state.json", json.dumps(state))
+            folder.write(folder.state("state.json"), json.dumps(state))
             last = "1 file asked for, {} new or changed, 0 not fetched\n"
             self.expect("no change", folder.fetch(), (0, "changing.txt: not changed for 120 days\n" + last.format(0)))
             data = TABLE + b"More\t2957-1057\t\t\n"

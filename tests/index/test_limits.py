@@ -80,12 +80,12 @@ class Limits(Case):
         self.expect("it ends at its limit", (4 << 20) - 1001 < len(text) <= 4 << 20)
         words = [f"zzz{'abcdefghij'[number % 10]}{number:053}" for number in range(64000)]
         rows = [journal(" ".join(words[start : start + 8]), f"{3000000 + start}0") for start in range(0, len(words), 8)]
+        rows += [journal(f"Zzzymurgy {number}", f"{4000000 + number}0") for number in range(70)]
         with Index({"t": table(*rows)}) as found:
             self.expect("a form for the halving", list(check_form(found)), [])
-            longest = max(int(found.read("words", "j", name).partition(b"\n")[0]) for name in found.names("words", "j"))
-            self.expect(
-                f"the text of a file of words ends at its limit: {longest}", (4 << 20) - 80 < longest <= (4 << 20) + 8
-            )
+            longest = max(len(found.read("words", "j", name)) for name in found.names("words", "j"))
+            self.expect(f"a file of words ends at its limit: {longest}", 1 << 19 < longest <= 1 << 20)
+            self.expect("a word of more titles than these stays", len(found.places("j", "zzzymurgy")), 70)
 
     def test_random_words(self) -> None:
         """Titles of random words have few more words in the index than honest ones, and all words of honest ones."""

@@ -145,7 +145,7 @@ class Lines(Case):
             self.expect(
                 "tables without a title",
                 (found.names("keys"), found.names("list", "j"), found.letters("j")),
-                ([], ["letters"], ([0, 1], {})),
+                ([], ["letters", "starts"], ([0, 1], {})),
             )
 
     def test_cells(self) -> None:
@@ -351,5 +351,5 @@ class Lines(Case):
             self.expect(
                 "without the list",
                 (found.names(), found.read("format"), len(found.of_key("=zoo"))),
-                (["format", "keys"], b"3 no list\n", 1),
+                (["format", "keys"], b"4 no list\n", 1),
             )

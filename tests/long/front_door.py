@@ -12,6 +12,7 @@ from fixtures.library_index import write_index
 from fixtures.patience import wait_until
 INSIDE = "FRONT_DOOR_NAMESPACES"
 SHARED = "/usr/local/share"  # where the files are that the site includes
+READER_LIMIT = re.compile(r"(zone=openlink_reader_\w+:\w+ rate=)\d+(?=r/s;)")
 HOSTILE_NUMBERS = ["10.5555/slow", "10.5555/drip", "10.5555/huge", "10.5555/deep"]
 
 
@@ -121,7 +122,8 @@ def hostile_lookups():
 
 class Door:
     """nginx and a supervised process of the program on each port of the site's upstream. `edit` makes the site's text
-    from that of its file."""
+    from that of its file. A measurement may send from one address what many readers do."""
+    has_reader_limits = True
 
     def __init__(self, program, site, worker_connections=4096, edit=lambda text: text):
         self.folder = tempfile.mkdtemp()
@@ -151,6 +153,8 @@ class Door:
         for path in (f"{etc}/openlink/openlink.conf", *glob.glob(f"{SHARED}/openlink/nginx/*.conf")):
             with open(path) as file:
                 text = file.read().replace("/etc/openlink/current", f"{self.folder}/version")
+            if not self.has_reader_limits:
+                text = READER_LIMIT.sub(r"\g<1>100000", text)
             if path == f"{etc}/openlink/openlink.conf":
                 text = edit(text)
             with open(path, "w") as file:

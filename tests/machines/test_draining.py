@@ -101,7 +101,7 @@ class Draining(Case):
         self.next_week()
         self.expect("a delivery", one.run_to(two)[0], 0)
         self.expect("the files came", [os.path.exists(two.path(path)) for path in paths], [True] * 3)
-        states = [f"{folder}/.fetch/state.json" for folder in ("input", "shared")]
+        states = [f"{folder}.fetch/state.json" for folder in ("input", "shared")]
         for path in states:
             os.makedirs(os.path.dirname(two.path(path)))
             two.write(path, "{}")

@@ -3,12 +3,14 @@ checksums and their links, and are enough to build and to resolve the sample lib
 start". Each check of the files fails for a spoilt copy of them."""
 from __future__ import annotations
 
+import json
 import os
 import re
 import shutil
 import subprocess
 import tempfile
 from pathlib import Path
+from unittest import mock
 
 from fixtures import TOP
 from fixtures import needs
@@ -59,19 +61,59 @@ class ReleaseCase(Case):
 
 
 @needs.program()
+@needs.command("ssh-keygen")
 class Release(ReleaseCase):
     names = ("one", "two")
+    keys: Path
+
+    @classmethod
+    def setUpClass(cls) -> None:
+        cls.keys = Path(tempfile.mkdtemp(prefix="keys."))
+        cls.addClassCleanup(shutil.rmtree, cls.keys)
+        words = ["ssh-keygen", "-q", "-t", "ed25519", "-N", "", "-f", f"{cls.keys}/key"]
+        subprocess.run(words, check=True)
+        with mock.patch.dict(os.environ, {"OPENLINK_KEY": f"{cls.keys}/key"}):
+            super().setUpClass()
 
     def test_two_runs_make_the_same_bytes(self) -> None:
         one, two = ({it.name: it for it in (self.folder / name).iterdir() if it.is_file()} for name in ("one", "two"))
         version = releases.version_of(PROGRAM)
-        wanted = [f"openlink-{version}-x86_64.tar.gz", "SHA256SUMS"]
-        wanted += [f"openlink_{version}_amd64.deb"] if shutil.which("dpkg-deb") else []
-        self.expect("the files", (sorted(one), sorted(two)), (sorted(wanted), sorted(wanted)))
+        name = f"openlink-{version}-x86_64"
+        summed = [f"{name}.tar.gz", f"{name}.spdx.json"]
+        summed += [f"openlink_{version}_amd64.deb"] if shutil.which("dpkg-deb") else []
+        wanted = sorted([*summed, "SHA256SUMS", "SHA256SUMS.sig"])
+        self.expect("the files", (sorted(one), sorted(two)), (wanted, wanted))
         for name, path in one.items():
             self.expect(f"{name}: the same bytes", path.read_bytes() == two[name].read_bytes())
-        sums = "".join(f"{releases.sum_of(one[name])}  {name}\n" for name in [*wanted[:1], *wanted[2:]])
+        sums = "".join(f"{releases.sum_of(one[name])}  {name}\n" for name in summed)
         self.expect("SHA256SUMS", one["SHA256SUMS"].read_text(encoding="utf-8"), sums)
+
+    def verified(self, text: bytes) -> int:
+        """The status of the command in the head of packaging/release for a text in place of SHA256SUMS."""
+        key = (self.keys / "key.pub").read_text(encoding="utf-8")
+        (self.keys / "signers").write_text(f"jane@library.example.org {key}", encoding="utf-8")
+        head = (TOP / Path("packaging/release")).read_text(encoding="utf-8")
+        command = next(it[2:] for it in head.splitlines() if "ssh-keygen -Y verify" in it).split()[:-1]
+        paths = {"signers": str(self.keys / "signers"), "SHA256SUMS.sig": str(self.folder / "one/SHA256SUMS.sig")}
+        words = [paths.get(word, word) for word in command]
+        return subprocess.run(words, input=text, capture_output=True).returncode
+
+    def test_signature(self) -> None:
+        text = (self.folder / "one/SHA256SUMS").read_bytes()
+        self.expect("as it is", self.verified(text), 0)
+        self.expect("another text", self.verified(text.replace(b"0", b"1", 1)) != 0)
+
+    def test_parts(self) -> None:
+        path = self.folder / f"one/openlink-{releases.version_of(PROGRAM)}-x86_64.spdx.json"
+        found = json.loads(path.read_text(encoding="utf-8"))
+        parts = {it["SPDXID"]: it for it in found["packages"]}
+        self.expect("the form", (found["spdxVersion"], found["dataLicense"]), ("SPDX-2.3", "CC0-1.0"))
+        names = {"openlink", "Rattle", "libc6", "python3", "nginx", "libnginx-mod-http-js", "curl"}
+        self.expect("parts", {it["name"] for it in parts.values()}, names)
+        sums = [{"algorithm": "SHA256", "checksumValue": releases.sum_of(PROGRAM)}]
+        self.expect("the program", parts["SPDXRef-openlink"]["checksums"], sums)
+        ends = {it[side] for it in found["relationships"] for side in ("spdxElementId", "relatedSpdxElement")}
+        self.expect("each is related", ends, {*parts, "SPDXRef-DOCUMENT"})
 
     def test_files(self) -> None:
         self.expect("what is wrong", releases.faults_of_folder(self.tree, PROGRAM, TOP), [])

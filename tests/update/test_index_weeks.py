@@ -56,7 +56,7 @@ class IndexWeeks(Case):
             first = library.current()
             with open(library.path("current", "index", "format")) as file:
                 text = file.read()
-            self.expect("the format", text, "3 list\n")
+            self.expect("the format", text, "4 list\n")
             with open(library.path("current", "index", "format"), "w") as file:
                 file.write("0 list\n")
             status, printed = library.run()

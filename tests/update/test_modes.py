@@ -19,6 +19,8 @@ from fixtures.provider import Provider
 from fixtures.provider import reply
 
 PUBLIC = ({0o755}, {0o644})
+# Of versions: tables as they came are for the user of the update alone.
+SERVED = ({0o755}, {0o644, 0o600})
 
 
 class _Library(Library):
@@ -37,7 +39,7 @@ class Modes(Case):
     def test_weeks(self) -> None:
         """The first version, one that takes its place, and one with files that the input keeps for its owner alone."""
         with _Library(probes=2) as library:
-            self.expect("the first version", modes_below(library.path("versions")), PUBLIC)
+            self.expect("the first version", modes_below(library.path("versions")), SERVED)
             self.expect("beside it", mode_of(library.path("updated")), 0o644)
             for umask, week in zip(UMASKS, "BA"):
                 library.umask = umask
@@ -46,7 +48,12 @@ class Modes(Case):
                     os.chmod(library.input.path(name), 0o600)
                 status, printed = library.run()
                 self.expect(f"umask {umask}: {printed}", (status, library.weeks_served()), (0, {week}))
-                self.expect(f"umask {umask}: the versions", modes_below(library.path("versions")), PUBLIC)
+                self.expect(f"umask {umask}: the versions", modes_below(library.path("versions")), SERVED)
+                received = library.path("current", "received")
+                private = [name for name in os.listdir(received) if mode_of(os.path.join(received, name)) == 0o600]
+                tables = [f"{name}.txt" for name in library.input.names]
+                self.expect(f"umask {umask}: for the update alone", sorted(private), sorted(tables))
+                self.expect(f"umask {umask}: the tables", modes_below(library.path("current/tables")), PUBLIC)
                 self.expect(f"umask {umask}: beside them", mode_of(library.path("updated")), 0o644)
                 self.expect(f"umask {umask}: for readers", library.site.get("/journals").status, 200)
 
@@ -71,7 +78,7 @@ class FetchedModes(Case):
             self.expect(f"umask {umask}: {printed}", status, 0)
             self.expect(f"umask {umask}: tables", [mode_of(folder.path(name)) for name in names], [0o644] * 3)
             self.expect(f"umask {umask}: folders", modes_below(folder.path("below")), PUBLIC)
-            self.expect(f"umask {umask}: the state", mode_of(folder.path(".fetch")), 0o700)
+            self.expect(f"umask {umask}: the state", mode_of(f"{folder.folder}.fetch"), 0o700)
 
     def test_secrets(self) -> None:
         """Secrets that others may read are not used."""

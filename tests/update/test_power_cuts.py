@@ -17,9 +17,9 @@ from fixtures.provider import Folder
 from fixtures.provider import Provider
 from fixtures.provider import reply
 
-_MAY_BE_LOST = re.compile(r"lock|\.fetch/lock")
+_MAY_BE_LOST = re.compile(r"lock|input\.fetch/lock")
 # The next run removes these if they are there again, or has the same versions.
-_MAY_COME_BACK = re.compile(r"versions/STAMP(\.new)?(/.*)?|trial(/.*)?|current\.new|\.fetch/\d+")
+_MAY_COME_BACK = re.compile(r"versions/STAMP(\.new)?(/.*)?|trial(/.*)?|current\.new|input\.fetch/\d+")
 _LOG = """1 openat(AT_FDCWD</>, "/f/a.new", O_WRONLY|O_CREAT|O_TRUNC|O_CLOEXEC, 0666) = 3</f/a.new>
 1 write(3</f/a.new>, ""..., 9) = 9
 1 fsync(3</f/a.new> <unfinished ...>
@@ -147,13 +147,13 @@ class Fetched(Case):
         self.expect("the folder of the fetch", folder.fetch("new.txt")[0], 0)
         provider.steps["/new"] = [reply(200, TABLE + TABLE.splitlines(True)[1])]
         with tempfile.TemporaryDirectory() as aside:
-            trace = Trace(f"{aside}/calls", folder.folder)
+            trace = Trace(f"{aside}/calls", folder.top)
             status, printed = folder.fetch(before=trace.before)
             calls = trace.calls()
         self.expect(
-            f"two files: {printed}", (status, left(trace.losses(folder.folder, calls))), (0, Losses([], [], []))
+            f"two files: {printed}", (status, left(trace.losses(folder.top, calls))), (0, Losses([], [], []))
         )
-        spoilt = without_each_sync(trace, folder.folder, calls)
+        spoilt = without_each_sync(trace, folder.top, calls)
         self.expect("calls that wait for the disk", len(spoilt), 8)  # file and folder, of two files and two states
         for place, losses in spoilt:
             self.expect(f"without {calls[place]}: {losses}", losses != Losses([], [], []))

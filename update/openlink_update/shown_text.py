@@ -1,9 +1,12 @@
-"""Texts as a person reads them, in a mail, on a terminal or in a spreadsheet. Tables, servers and other machines send
-any characters: some are commands of a terminal, reverse the order of what follows, or begin a formula."""
+"""Texts as a person reads them, in a mail, on a terminal or in a spreadsheet, and how the commands print them. Tables,
+servers and other machines send any characters: some are commands of a terminal, reverse the order of what follows, or
+begin a formula."""
 import csv
 import dataclasses
 import io
+import os
 import re
+import sys
 from collections.abc import Iterable
 
 # Controls of ASCII but the end of a line, those of Latin-1, and those that end a line or set its direction.
@@ -54,3 +57,27 @@ def row(texts: Iterable[str]) -> str:
     buffer = io.StringIO()
     csv.writer(buffer, dialect="excel-tab", lineterminator="").writerow(map(cell, texts))
     return buffer.getvalue()
+
+
+def prepare_streams() -> None:
+    """Has characters that the encoding of the standard output lacks printed as escapes."""
+    if isinstance(sys.stdout, io.TextIOWrapper):
+        sys.stdout.reconfigure(errors="backslashreplace")
+
+
+def report(line: str, stream: str = "stdout") -> None:
+    """Prints a line, without the controls that a table or a server may have put in it. That nobody reads it, or that it
+    cannot be written, does not end a run."""
+    _print(printable(line), stream)
+
+
+def report_cells(*cells: str) -> None:
+    """Prints a line of cells with tabs between them, for a script."""
+    _print("\t".join(map(printable, cells)), "stdout")
+
+
+def _print(text: str, stream: str) -> None:
+    try:
+        print(text, file=getattr(sys, stream), flush=True)
+    except OSError:
+        setattr(sys, stream, open(os.devnull, "w"))

@@ -11,12 +11,12 @@ from openlink_update.exports import export_files
 from openlink_update.fetch import sources
 from openlink_update.input_files import InputFolder
 from openlink_update.outcome import ALL_NEW, KEPT, Failure, ignore_signals
-from openlink_update.report import report
+from openlink_update.received import archives
+from openlink_update.shown_text import report
 from openlink_update.site.front_door import FrontDoor, Site
 from openlink_update.site.names_file import NAME, NamesFile
 from openlink_update.site.probing import Difference, Probes, Trial
 from openlink_update.site.processes import Processes
-from openlink_update.received import archives
 from openlink_update.tables import coverage
 from openlink_update.update_options import Options
 from openlink_update.versions import making, same_files, target_list
@@ -47,7 +47,7 @@ class Run:
         """Makes a version from a folder and, unless it is only a trial, puts it in use. Returns the exit status."""
         targets = target_list.read(folder)
         names = [target.name for target in targets]
-        for line in (*self._site.differences(names, self.names_file.path_of_next(folder)), *_unused(folder, targets)):
+        for line in (*self.names_file.differences(names, folder), *_unused(folder, targets)):
             report(line)
         return self._next_version(
             folder,
@@ -266,7 +266,10 @@ class Run:
 
 def _unused(folder: InputFolder, targets: list[Target]) -> list[str]:
     """A line for files that a folder's list fetches and no target has, as after a slip in a name."""
-    fetched = sources.read(folder)[0] if folder.exists(sources.LIST) else []
+    try:
+        fetched = sources.read(folder)[0] if folder.exists(sources.LIST) else []
+    except OSError as fault:
+        return [f"{fault.filename or folder.place(sources.LIST)}: {fault.strerror}"]
     patterns = [path for target in targets for path in (*target.tables, target.rules)]
     files = [source.file for source in fetched]
     unused = [file for file in files if not any(archives.fits(str(folder.place(file)), each) for each in patterns)]

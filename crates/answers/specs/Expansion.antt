@@ -14,7 +14,7 @@ use Rattle.answers.specs.declared.refusal.Refusal.TheVariants.{Memory}
 
 -- the line of the expansion, in which these names are lists, or the first reason why there is none
 pub data IsExpansionOf (lists : List Text) (template query : Text) : Result Text Refusal → Type 0 where
-  no_memory : (parts : List Part) → IsTemplate template parts → refusal query ≡ None → IsExpansionOf lists template query (Err Memory)
+  no_memory : IsExpansionOf lists template query (Err Memory)
   no_template : (e : Refusal) → IsNoTemplate template e → IsExpansionOf lists template query (Err e)
   no_request : (parts : List Part) (e : Refusal) → IsTemplate template parts → IsNoRequest query e → IsExpansionOf lists template query (Err e)
   expanded : (parts : List Part) (line : Text) → IsTemplate template parts → refusal query ≡ None

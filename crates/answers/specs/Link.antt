@@ -20,7 +20,7 @@ pub record Means (rules : RuleSet) (query : Text) (link : Option Text) : Type 0 
 
 -- the line of the link that the rules give, or the first reason why there is none
 pub data IsLinkFor (rules : RuleSet) (query : Text) : Result Text Refusal → Type 0 where
-  no_memory : refusal query ≡ None → IsLinkFor rules query (Err Memory)
+  no_memory : IsLinkFor rules query (Err Memory)
   no_request : (e : Refusal) → IsNoRequest query e → IsLinkFor rules query (Err e)
   no_link : Means rules query None → IsLinkFor rules query (Err NoLink)
   linked : (link line : Text) → Means rules query (Some link) → line ≡ link ++ 10 ∷ [] → IsLinkFor rules query (Ok line)

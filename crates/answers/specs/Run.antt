@@ -40,7 +40,7 @@ pub record IsRequestOverBudget (code : model.Code) (query : Text) (n : ℕ) : Ty
 
 -- the line of the link that the code gives, or the first reason why there is none
 pub data IsLinkFor (code : model.Code) (query : Text) : Result Text Refusal → Type 0 where
-  no_memory : refusal query ≡ None → IsLinkFor code query (Err Memory)
+  no_memory : IsLinkFor code query (Err Memory)
   no_request : (e : Refusal) → IsNoRequest query e → IsLinkFor code query (Err e)
   over_budget : (n : ℕ) → IsRequestOverBudget code query n → IsLinkFor code query (Err (OverBudget n))
   no_link : IsRequestRun code query runs.NoLink → IsLinkFor code query (Err NoLink)

@@ -9,7 +9,7 @@ ghost use Rattle.answers.specs.Results.{text_result};
 
 use crate::line::ended;
 use crate::refusal::Refusal;
-use crate::request::{environment, request_of};
+use crate::request::environment;
 use std::alloc::Global;
 use uri_grammar::TemplateErrorKind;
 use uri_template::{Template, expand};
@@ -25,8 +25,7 @@ pub fn expansion_of(
     ensures { IsExpansionOf (texts_of lists.now) template.now query.now (text_result result) }
 {
     let template = template_of(alloc, template)?;
-    let request = request_of(alloc, query)?;
-    let text = expand(alloc, &template, &environment(alloc, lists, &request)?);
+    let text = expand(alloc, &template, &environment(alloc, lists, query)?);
     Ok(ended(text?)?)
 }
 

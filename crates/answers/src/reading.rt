@@ -11,9 +11,9 @@ use crate::refusal::Refusal;
 use code_file::{Code, CodeErrorKind};
 use kbart_rows::{Keys, Table, TableError};
 use rule_parser::{RuleErrorKind, Rules};
-use safe_runs::load_file;
+use safe_runs::laws::accepted_file_has_no_fault;
 use std::alloc::Global;
-use verifier::{LoadError, Verified};
+use verifier::{LoadError, Verified, load};
 
 /// The rules of a rule text.
 pub fn rules_of(alloc: Global, bytes: &[u8]) -> Result<Rules, Refusal>
@@ -44,8 +44,12 @@ pub(crate) fn accepted_code(alloc: Global, bytes: &[u8]) -> Result<Verified, Ref
     ensures ok { IfOk result (IsAcceptedFile bytes.now) }
     ensures err { IfErr result (IsNotAccepted bytes.now) }
 {
-    match load_file(alloc, bytes) {
-        Ok(code) => Ok(code),
+    accepted_file_has_no_fault();
+    match load(alloc, bytes) {
+        Ok(code) => {
+            let _known = code.code();
+            Ok(code)
+        }
         Err(e) if e == LoadError::NoMemory => Err(Refusal::Memory),
         Err(e) => Err(Refusal::Load(e)),
     }

@@ -8,14 +8,13 @@ use answers::{FAILED, NO_LINK, REFUSED, Refusal};
 use files::PrintedPath;
 use registry_file::{RegistryError, TargetError, TargetFault};
 use std::alloc::AllocError;
-use std::fmt;
 use thiserror::Error;
 
 /// The exit status for an unknown command or wrong arguments.
 const USAGE: u8 = 2;
 
 /// Why a command ends without its result; printed after `openlink: `.
-#[derive(Drop, Error)]
+#[derive(Debug, Drop, Error)]
 pub enum Fault<'a> {
     /// Unknown command or wrong arguments.
     #[error("usage")]
@@ -39,13 +38,6 @@ pub enum Fault<'a> {
     /// The file at the path failed; `-` is standard output.
     #[error("device: {}", PrintedPath(.0))]
     Device(&'a str),
-}
-
-/// The same text as by `Display`.
-impl<'a> fmt::Debug for Fault<'a> {
-    fn fmt<W: fmt::Write>(&self, f: &mut fmt::Formatter<W>) -> fmt::Result {
-        write!(f, "{self}")
-    }
 }
 
 /// The text that a command prints, or why there is none.

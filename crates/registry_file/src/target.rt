@@ -5,7 +5,7 @@ ghost use Rattle.files.specs.Changes.{Unchanged};
 ghost use Rattle.files.specs.Found.{Absent, OfFile};
 ghost use Rattle.kbart_rows.specs.Reading.{IsTable};
 ghost use Rattle.registry.specs.Targets.{TargetValue};
-ghost use Rattle.safe_runs.specs.Ending.{IsAcceptedFile};
+ghost use Rattle.registry_file.specs.Loading.{IsSafeFile};
 ghost use Rattle.registry_file.specs.Private.Stops.{IsNoCode, IsNoTable, IsNotAdded, IsStop, IsTargetOf};
 ghost use Rattle.registry_file.specs.declared.stop.Stop.TheVariants.{Device};
 
@@ -15,9 +15,8 @@ use code_file::{CodeErrorKind, MAX_BYTES};
 use files::{Files, ReadError, read_whole};
 use kbart_rows::{Keys, MAX_TABLE_BYTES, Table, TableError};
 use registry::Registry;
-use safe_runs::load_file;
 use std::alloc::Global;
-use verifier::{LoadError, Verified};
+use verifier::{LoadError, Verified, load};
 
 /// Loads the code of a target, reads its table, and adds it after the others.
 pub(crate) fn add_target<'a, F: Files>(
@@ -65,13 +64,13 @@ fn load_code<'a, F: Files>(
     files: &mut F,
     path: &'a str,
 ) -> Result<Verified, Stop<'a>>
-    ensures ok { IfOk result (λ code. OfFile (F.at files.old path.now) (λ bytes. IsAcceptedFile bytes code)) }
+    ensures ok { IfOk result (λ code. OfFile (F.at files.old path.now) (λ bytes. IsSafeFile bytes code)) }
     ensures err { IfErr result (IsNoCode F.fails (F.at files.old path.now) path.now) }
     ensures absent { F.at files.old path.now ≡ Absent → result ≡ Err (Device path.entry) }
     ensures same { Unchanged (F.at files.old) (F.at files.new) }
 {
     match read_whole(alloc, files, path, MAX_BYTES) {
-        Ok(bytes) => Ok(load_file(alloc, &bytes)?),
+        Ok(bytes) => Ok(load(alloc, &bytes)?),
         Err(ReadError::TooLong) => Err(Stop::Load(LoadError::Code(
             CodeErrorKind::TooLong,
             MAX_BYTES,

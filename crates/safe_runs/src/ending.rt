@@ -4,8 +4,7 @@ ghost use Rattle.std.specs.Prelude.{◌≡◌, ℕ, ◌<◌, ◌≤◌, ◌↔�
 ghost use Rattle.verifier.specs.Accepted.{IsAccepted};
 ghost use Rattle.verified_runs.specs.RunValue.{most_bytes, outcome_value};
 ghost use Rattle.verified_runs.specs.declared.error.PrepareError.TheVariants.{OverBudget, NoMemory};
-ghost use Rattle.verifier.specs.Faults.{IsLoadFault};
-ghost use Rattle.safe_runs.specs.Ending.{EndsSafely, FileEndsSafely, IsAcceptedFile};
+ghost use Rattle.safe_runs.specs.Ending.{EndsSafely, FileEndsSafely};
 ghost use Rattle.safe_runs.specs.Causes.{IsCause};
 
 use crate::error::RunError;
@@ -14,7 +13,7 @@ use machine_laws::run_ends_once;
 use std::alloc::Global;
 use target_vars::Env;
 use verified_runs::{MAX_LINK_BYTES, Outcome, PrepareError, prepare};
-use verifier::{LoadError, Verified, load};
+use verifier::{Verified, load};
 
 /// Runs accepted code on an environment. Neither the writer of the code nor the content of the environment has to be
 /// trusted: the run ends as the machine does, within the steps and bytes of its budget, with a link that is URI text or
@@ -39,17 +38,6 @@ pub fn run_verified(alloc: Global, code: &Verified, env: &Env) -> Result<Outcome
     }
 }
 
-/// The code of a file, if the verifier accepts it. [`load`] says which error is returned for which bytes.
-pub fn load_file(alloc: Global, bytes: &[u8]) -> Result<Verified, LoadError>
-    ensures accepted { IfOk result (IsAcceptedFile bytes.now) }
-    ensures refused { IfErr result (IsLoadFault bytes.now) }
-{
-    accepted_file_has_no_fault();
-    let code = load(alloc, bytes)?;
-    let _known = code.code();
-    Ok(code)
-}
-
 /// Runs the code of a file on an environment, as [`run_verified`] does, if the verifier accepts it. Code that the
 /// verifier rejects is never run: an outcome is returned only for bytes in which it finds no error.
 ///
@@ -60,7 +48,8 @@ pub fn run_file(alloc: Global, bytes: &[u8], env: &Env) -> Result<Outcome, RunEr
     ensures ends { IfOk result (λ outcome. FileEndsSafely bytes.now env.now (outcome_value outcome)) }
     ensures refused { IfErr result (IsCause bytes.now env.now) }
 {
-    let code = load_file(alloc, bytes)?;
+    accepted_file_has_no_fault();
+    let code = load(alloc, bytes)?;
     match run_verified(alloc, &code, env) {
         Ok(outcome) => Ok(outcome),
         Err(error) => Err(RunError::Prepare(error)),

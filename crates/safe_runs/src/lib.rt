@@ -5,5 +5,5 @@ mod ending;
 mod error;
 pub mod laws;
 
-pub use ending::{load_file, run_file, run_verified};
+pub use ending::{run_file, run_verified};
 pub use error::RunError;

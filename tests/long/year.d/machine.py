@@ -219,9 +219,9 @@ class Machine(Library):
         names = [name for name in os.listdir(self.folder) if name not in ("current", "versions", "lock", "updated")]
         names += [name for name in self.versions() if name.endswith(".new")]
         names += [f"temporary/{name}" for name in os.listdir(self.aside("temporary"))]
-        fetch = self.input.path(".fetch")
+        fetch = f"{self.input.folder}.fetch"
         if os.path.isdir(fetch):
-            names += [f".fetch/{name}" for name in os.listdir(fetch) if name not in ("lock", "state.json")]
+            names += [f"input.fetch/{name}" for name in os.listdir(fetch) if name not in ("lock", "state.json")]
         wait_until(lambda: not self.strangers(vendors), 5)
         return names + self.strangers(vendors)
 

@@ -6,7 +6,7 @@ from pathlib import Path
 from openlink_update.exports import export_files
 from openlink_update.exports.site_names import SiteNames
 from openlink_update.outcome import ALL_NEW, DEVICE, Failure
-from openlink_update.report import report
+from openlink_update.shown_text import report
 from openlink_update.site.front_door import Site
 from openlink_update.update_options import LIBRARY, SITE
 from openlink_update.versions.tables_again import tables_of

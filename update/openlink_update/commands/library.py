@@ -11,7 +11,7 @@ from openlink_update.disk import sync
 from openlink_update.machines import library_files as files
 from openlink_update.machines.libraries import LOCAL, MAIL, REPORT, SITE, Libraries, is_name
 from openlink_update.outcome import ALL_NEW, DEVICE, Failure
-from openlink_update.report import report, report_cells
+from openlink_update.shown_text import report, report_cells
 from openlink_update.site.front_door import Site
 from openlink_update.site.processes import run
 from openlink_update.versions.library import Library

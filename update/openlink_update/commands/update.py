@@ -1,13 +1,15 @@
 """The work of openlink-update: one library, several, or other machines."""
 import os
+from pathlib import Path
 
-from openlink_update import update_options
+from openlink_update import allowed_folders, update_options
 from openlink_update.fetch import fetching, sources
-from openlink_update.input_files import InputFolder
-from openlink_update.machines.libraries import Libraries
+from openlink_update.input_files import ALLOWED, InputFolder
+from openlink_update.machines.libraries import SHARED, Libraries
 from openlink_update.machines.library_updates import ALONE, Updates
 from openlink_update.machines.machines import deliver
 from openlink_update.machines.receiving import Receiver
+from openlink_update.machines.taking import take
 from openlink_update.outcome import (
     ALL_NEW,
     DEVICE,
@@ -19,9 +21,9 @@ from openlink_update.outcome import (
     ignore_signals,
     raise_signals,
 )
-from openlink_update.report import prepare_streams, report
+from openlink_update.shown_text import prepare_streams, report
 from openlink_update.site.front_door import Site
-from openlink_update.update_options import Options
+from openlink_update.update_options import LIBRARY, Options
 from openlink_update.versions import shared_tables
 from openlink_update.versions.library import Library
 from openlink_update.weekly_run import Run
@@ -42,6 +44,9 @@ def main(words: list[str] | None = None) -> int:
 
 
 def _run(options: Options) -> int:
+    if options.take is not None:
+        run = take(options)
+        return _run(run) if run else ALL_NEW
     if options.among is not None:
         return _update_one(options)
     status = None if options.send else _update_several(options, Libraries(options.library, options.site))
@@ -135,7 +140,7 @@ def _work(run: Run, options: Options) -> int:
         return WENT_BACK if library.is_unsettled() else ALL_NEW
     if not options.dry_run:
         library.remove_newer()
-    folder = InputFolder(options.input or library.path("input"))
+    folder = _input_of(options, library)
     if options.walls:
         return run.move_walls(folder)
     are_fetched = not options.fetch or _fetch(folder)
@@ -143,6 +148,16 @@ def _work(run: Run, options: Options) -> int:
     if not options.dry_run:
         library.note_update()
     return status or (ALL_NEW if are_fetched else KEPT)
+
+
+def _input_of(options: Options, library: Library) -> InputFolder:
+    """The input of a library. Beside it, its lists may name what libraries share, and folders that root allows it."""
+    path = options.input or library.path("input")
+    allowed, faults = allowed_folders.read(InputFolder(path).beside(ALLOWED))
+    for fault in faults:
+        report(fault)
+    shared = [Path(os.path.abspath(machine), SHARED) for machine in (options.among or library.folder, LIBRARY)]
+    return InputFolder(path, [*shared, *allowed])
 
 
 def _version_before(library: Library) -> str:

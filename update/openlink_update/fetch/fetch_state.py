@@ -6,6 +6,7 @@ import hashlib
 import json
 from collections.abc import Mapping
 
+from openlink_update.fetch.fetch_folder import FetchFolder
 from openlink_update.fetch.sources import Source
 from openlink_update.input_files import InputFolder
 
@@ -52,37 +53,35 @@ def _name_in(reply: Mapping[str, str], header: str) -> str | None:
 
 
 class State:
-    """What is remembered of the files of a folder, in a file below it. `version` is a number that changes with the
-    secrets."""
+    """What is remembered of the files of a folder. `version` is a number that changes with the secrets."""
 
-    def __init__(self, folder: InputFolder, name: str, version: int | None, today: datetime.date) -> None:
-        self._folder, self._name, self._version, self._today = folder, name, version, today
+    def __init__(self, folder: InputFolder, own: FetchFolder, version: int | None, today: datetime.date) -> None:
+        self._folder, self._own, self._version, self._today = folder, own, version, today
         self._entries = self._read()
 
     def _read(self) -> dict[str, _Entry]:
         """What earlier runs knew; nothing if the file is missing or damaged."""
         try:
-            entries = json.loads(self._folder.read(self._name))
-        except (OSError, ValueError):
+            entries = json.loads(self._own.state())
+        except (ValueError, RecursionError):
             return {}
         return {name: _Entry.parse(entry) for name, entry in entries.items()} if isinstance(entries, dict) else {}
 
     def write(self) -> None:
         entries = {name: dataclasses.asdict(entry) for name, entry in self._entries.items()}
-        text = json.dumps(entries, indent=1, sort_keys=True)
-        self._folder.replace(self._name, text.encode(), self._folder.place(f"{self._name}.new"))
+        self._own.write_state(json.dumps(entries, indent=1, sort_keys=True).encode())
 
     def _entry(self, source: Source) -> _Entry:
         return self._entries.setdefault(source.file, _Entry())
 
     def sum_of(self, source: Source) -> str | None:
-        """The SHA-256 sum of the file of a source, or None if there is none."""
+        """The SHA-256 sum of the file of a source, or None if there is none, or none that can be read."""
         total = hashlib.sha256()
         try:
             with self._folder.open(source.file) as file:
                 while part := file.read(1 << 20):
                     total.update(part)
-        except (FileNotFoundError, IsADirectoryError):
+        except OSError:
             return None
         return total.hexdigest()
 

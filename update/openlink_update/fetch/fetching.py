@@ -1,32 +1,25 @@
 """Fetches the files of sources.tsv. A file is replaced by a rename, and only by a whole reply that can be a table. The
-work of openlink-fetch.
-
-    .fetch/state.json   what is remembered of each file
-    .fetch/N            the body of a reply; the next run removes it
-    .fetch/lock         locked by a run as long as it lives
-"""
+work of openlink-fetch."""
 import argparse
 import contextlib
 import datetime
-import fcntl
 import hashlib
 import os
 import shutil
 from collections.abc import Callable, Sequence
 from pathlib import Path
-from typing import IO
 
 from openlink_update.fetch import downloads, sources
 from openlink_update.fetch.downloads import Download
+from openlink_update.fetch.fetch_folder import FetchFolder
 from openlink_update.fetch.fetch_state import State
 from openlink_update.fetch.sources import Source
 from openlink_update.input_files import InputFolder
 from openlink_update.outcome import ALL_NEW, DEVICE, KEPT, USAGE, Failure, Interrupted, Unreadable, raise_signals
-from openlink_update.report import prepare_streams, report
-from openlink_update.shown_text import amount
+from openlink_update.root_folder import Unusable
+from openlink_update.shown_text import amount, prepare_streams, report
 
 _INPUT = "/etc/openlink/input"
-_FOLDER, _LOCK, _STATE = ".fetch", "lock", "state.json"
 _MOST_DAYS = 90  # that a file may go without a change
 SECONDS, PAUSE = 600, 10  # for a file, all tries together, and before the second try
 
@@ -113,37 +106,23 @@ class _Fetch:
         unknown = [file for file in files if file not in [source.file for source in listed]]
         if unknown:
             raise Failure(f"{self._folder.place(sources.LIST)} has no {', '.join(unknown)}", USAGE)
-        self._folder.make(_FOLDER)
-        with self._folder.open_lock(f"{_FOLDER}/{_LOCK}") as lock:
-            self._lock(lock)
-            self._clear()
-            state = f"{_FOLDER}/{_STATE}"
-            self._state = State(self._folder, state, self._time_of_secrets(), datetime.date.today())
+        self._own = FetchFolder(self._folder)
+        with self._own.locked():
+            self._state = State(self._folder, self._own, self._time_of_secrets(), datetime.date.today())
             chosen = [source for source in listed if source.file in files or not files and self._state.is_due(source)]
             self._run(chosen)
         self._say(listed, len(chosen))
         return DEVICE if self._has_failed else KEPT if self._faults else ALL_NEW
-
-    @staticmethod
-    def _lock(file: IO[str]) -> None:
-        try:
-            fcntl.flock(file, fcntl.LOCK_EX | fcntl.LOCK_NB)
-        except BlockingIOError as fault:
-            raise Failure(f"{file.name}: another run has not ended", DEVICE) from fault
-
-    def _clear(self) -> None:
-        """Removes what a run that was ended or killed has left."""
-        for name in self._folder.names(_FOLDER):
-            if name not in (_LOCK, _STATE):
-                self._folder.remove(f"{_FOLDER}/{name}")
 
     def _run(self, chosen: list[Source]) -> None:
         """Downloads files side by side. A file whose secrets are missing is not fetched."""
         secrets, fault = dict[str, str](), None
         try:
             secrets = sources.read_secrets(self._folder)
-        except (sources.Wrong, OSError) as wrong:
+        except sources.Wrong as wrong:
             fault = str(wrong)
+        except OSError as error:
+            fault = downloads.fault_of(error)
         of_download = {}
         for number, source in enumerate(chosen):
             missing = sorted(source.names() - secrets.keys())
@@ -158,7 +137,7 @@ class _Fetch:
                 except Interrupted:
                     raise
                 except Exception as error:
-                    self._has_failed |= isinstance(error, OSError)
+                    self._has_failed |= isinstance(error, OSError) and not isinstance(error, Unusable)
                     self._keep(of_download[download], downloads.fault_of(error))
                 self._write_state()
 
@@ -174,7 +153,7 @@ class _Fetch:
             source.address_with(secrets),
             source.headers_with(secrets),
             self._state.conditions(source),
-            self._folder.place(_FOLDER, str(number)),
+            self._own.body(number),
             self._seconds,
             self._pause,
         )
@@ -191,23 +170,24 @@ class _Fetch:
             self._state.note_check(source)
         elif download.is_whole and download.transfer:
             try:
-                data = table_in(self._folder.read(download.body), source)
+                data = table_in(download.body.read_bytes(), source)
             except Unreadable as fault:
                 self._keep(source, str(fault))
             else:
-                self._replace(source, data, download)
+                download.body.unlink()  # the disk may have no room for both
+                self._replace(source, data)
                 self._state.remember(source, download.transfer.reply.headers)
         else:
             self._has_failed |= download.has_failed
             self._keep(source, download.fault or "")
-        self._folder.remove(download.body)
+        download.body.unlink(missing_ok=True)
 
-    def _replace(self, source: Source, data: bytes, download: Download) -> None:
+    def _replace(self, source: Source, data: bytes) -> None:
         """Gives the file of a source these bytes, unless it has them."""
         is_new = not self._folder.exists(source.file)
         if self._state.sum_of(source) == hashlib.sha256(data).hexdigest():
             return
-        self._folder.replace(source.file, data, download.body)
+        self._folder.replace(source.file, data)
         self._state.note_change(source)
         self._changes.append((source.file, f"{'new' if is_new else 'changed'}, {len(data):,} bytes"))
 

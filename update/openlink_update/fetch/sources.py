@@ -14,7 +14,7 @@ import re
 import stat
 from urllib.parse import quote, urlsplit
 
-from openlink_update.input_files import InputFolder, Line
+from openlink_update.input_files import InputFolder, Line, lines_in
 
 LIST, SECRETS = "sources.tsv", "secrets.tsv"
 _LISTS = ("targets.tsv", "probes.tsv", LIST, SECRETS)
@@ -65,10 +65,10 @@ class Source:
         ]
 
 
-def _lines(folder: InputFolder, name: str) -> list[Line]:
-    """The lines of a list. OSError or Wrong if it cannot be read."""
+def _lines(folder: InputFolder, name: str, data: bytes) -> list[Line]:
+    """The lines of a list with these bytes. Wrong if it has another encoding."""
     try:
-        return list(folder.lines(name))
+        return list(lines_in(data))
     except UnicodeDecodeError as fault:
         raise Wrong(f"{folder.place(name)}: not UTF-8") from fault
 
@@ -78,7 +78,7 @@ def read(folder: InputFolder) -> tuple[list[Source], list[str]]:
     sources: dict[str, Source] = {}
     faults = []
     try:
-        lines = _lines(folder, LIST)
+        lines = _lines(folder, LIST, folder.read(LIST))
     except Wrong as fault:
         return [], [str(fault)]
     for line in lines:
@@ -140,13 +140,13 @@ def read_secrets(folder: InputFolder) -> dict[str, str]:
     """The secrets of a folder, none if there is no file of them. Wrong if others than its owner may read it."""
     path = folder.place(SECRETS)
     try:
-        mode = stat.S_IMODE(folder.status(SECRETS).st_mode)
+        file = folder.file(SECRETS)
     except FileNotFoundError:
         return {}
-    if mode & 0o077:
+    if stat.S_IMODE(file.mark.st_mode) & 0o077:
         raise Wrong(f"{path}: others than its owner may read it: chmod 600")
     secrets = {}
-    for line in _lines(folder, SECRETS):
+    for line in _lines(folder, SECRETS, file.data):
         name, value = line.cells if len(line.cells) == 2 else ("", "")
         if not _SECRET.fullmatch(f"{{{name}}}") or not value.strip() or not value.isprintable():
             raise Wrong(f"{path}: line {line.number}: not a name, a tab and a value")

@@ -9,7 +9,8 @@ KEY is a number: an ISSN with hyphen and capital X, or an ISBN of thirteen digit
 name the file. Or it denotes the key of a title (`=`), or one that is like it (`~`): the key of the title without its
 subtitle, and of this with its umlauts as two letters. Then the MD5 sum is that of the sign and the key: its first three
 digits name the file, and KEY is the sign and the next thirteen. RELATED is `<` or `>`, a number, a space and a title:
-an earlier (`<`) or later title by preceding_publication_title_id, at most five of each. A key has at most _MOST_LINES.
+an earlier (`<`) or later title by preceding_publication_title_id, at most five of each. A key has at most _MOST_LINES,
+and after the first one at most _MOST_BYTES of them.
 """
 import collections
 import os
@@ -24,9 +25,10 @@ from openlink_update.index.titles import short_key, written_key, written_out
 from openlink_update.tables.registry import entries_of
 from openlink_update.tables.table import Table
 
-_FORMAT = 3  # another number makes a new version, although its tables are the same
+_FORMAT = 4  # another number makes a new version, although its tables are the same
 _DIGITS, _KEY_DIGITS = 3, 16  # of an MD5 sum: in the names of keys/, and before the end of the key of a title
 _MOST_LINES = 50  # of a key
+_MOST_BYTES = 1 << 14  # of its lines after the first
 
 
 def begin(folder: str | os.PathLike[str], has_list: bool) -> None:
@@ -96,12 +98,12 @@ def _text_of(related: Related) -> str:
 
 
 def _few_of_each_key(lines: list[bytes]) -> Iterator[bytes]:
-    """At most _MOST_LINES of each key, of sorted lines."""
-    last, count = b"", 0
+    """At most _MOST_LINES of each key, of sorted lines, and after the first one at most _MOST_BYTES."""
+    last, count, size = b"", 0, 0
     for line in lines:
         key = line[: line.index(b"\t")]
-        last, count = (key, count + 1) if key == last else (key, 1)
-        if count <= _MOST_LINES:
+        last, count, size = (key, count + 1, size + len(line)) if key == last else (key, 1, 0)
+        if count <= _MOST_LINES and size <= _MOST_BYTES:
             yield line
 
 

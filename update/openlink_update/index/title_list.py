@@ -3,10 +3,13 @@ Arabic (such as Greek and Cyrillic), and `other`, in this order; a title is unde
 a letter titles are in the order of their keys, so words come before longer words.
 
 The first line of `letters`, after the empty one, has two cells: the number of titles, and the number of digits of the
-names in words/KIND/. Each other line has five: the letter, its first page, its numbers of pages and of titles, and the
-STARTS of its pages, with a semicolon between them. A start is the beginning of the key of the page's first title, long
-enough that no key of the page before has it, but at least two and at most MOST_START characters. A page has at most
-PAGE titles, and each letter begins a new one. A line of a page has the cells TITLE, NUMBERS and COVERAGE.
+names in words/KIND/. Each other line has four: the letter, its first page, its numbers of pages and of titles. A line
+of `starts` has the letter and the STARTS of its pages, with a semicolon between them. A start is the beginning of the
+key of the page's first title, long enough that no key of the page before has it, but at least two and at most
+MOST_START characters. A page has at most PAGE titles, and each letter begins a new one. The first line of a page has
+the length of each other line in bytes, with its end, separated by spaces, so that a search reads the line of a place
+alone. A line has the cells TITLE, NUMBERS and COVERAGE, and at most MOST_LINE bytes: at most MOST_TITLE of the title,
+MOST_NUMBERS numbers, and as many rows that differ for readers as have room, at most MOST_ROWS.
 """
 import os
 from collections.abc import Iterable
@@ -14,9 +17,12 @@ from pathlib import Path
 
 from openlink_update.index.index_files import write_lines
 from openlink_update.index.title_groups import Title
+from openlink_update.tables.parts import base_of
 
 PAGE = 50  # titles
 _MOST_START = 32  # characters of the beginning of a page
+_MOST_LINE, _MOST_TITLE = 1300, 1000  # bytes
+_MOST_NUMBERS, _MOST_ROWS = 8, 12  # of a title in the list: the front door shows no more
 _DIGITS, _OTHER = "0-9", "other"
 _LAST_ALPHABET = "\u06ff"  # those after Arabic have no letters of their own here
 
@@ -61,13 +67,15 @@ def write_pages(folder: Path, pages: list[Page], count: int, digits: int) -> Non
     folder.mkdir(parents=True)
     letters: dict[str, list[_Numbered]] = {}
     for number, (letter, titles) in enumerate(pages):
-        write_lines(folder / str(number), [_line_of(title).encode() for title in titles])
+        page = [_line_of(title) + b"\n" for title in titles]
+        lengths = " ".join(str(len(line)) for line in page)
+        (folder / str(number)).write_bytes(b"%b\n%b" % (lengths.encode(), b"".join(page)))
         letters.setdefault(letter, []).append((number, titles))
     lines = [
-        f"{letter}\t{its[0][0]}\t{len(its)}\t{sum(len(titles) for _, titles in its)}\t{_starts_of(its)}"
-        for letter, its in letters.items()
+        f"{letter}\t{its[0][0]}\t{len(its)}\t{sum(len(titles) for _, titles in its)}" for letter, its in letters.items()
     ]
     write_lines(folder / "letters", [line.encode() for line in (f"{count}\t{digits}", *lines)])
+    write_lines(folder / "starts", [f"{letter}\t{_starts_of(its)}".encode() for letter, its in letters.items()])
 
 
 def _starts_of(pages: list[_Numbered]) -> str:
@@ -82,5 +90,15 @@ def _starts_of(pages: list[_Numbered]) -> str:
     return ";".join(starts)
 
 
-def _line_of(title: Title) -> str:
-    return f"{title.name}\t{title.forms}\t{title.coverage_text()}"
+def _line_of(title: Title) -> bytes:
+    name = title.name.encode()[:_MOST_TITLE].decode(errors="ignore")
+    line = f"{name}\t{' '.join(title.forms.split(' ')[:_MOST_NUMBERS])}\t".encode()
+    rows: dict[str, bytes] = {}
+    for entry in title.coverage_text().split(";"):
+        target, _, rest = entry.partition(" ")
+        row = entry.encode()
+        size = len(line) + sum(len(it) + 1 for it in rows.values()) + len(row)
+        if len(rows) == _MOST_ROWS or size > _MOST_LINE:
+            break
+        rows.setdefault(f"{base_of(target)} {rest.partition(' ')[2]}", row)
+    return line + b";".join(rows.values())

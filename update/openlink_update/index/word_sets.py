@@ -6,7 +6,9 @@ kind have _ANY_NEW different words, each further title brings at most _MOST_NEW 
 words take no more memory than the titles themselves.
 
 A file is named after the MD5 sum of the first three characters of the word. It begins with a line that has the length
-of its text in bytes, this line included. The lines of the text have the cells WORD, COUNT and PLACES. PLACES is
+of its text in bytes, this line included. The lines of the text have the cells WORD, COUNT and PLACES. If a file would
+have more than _MOST_BYTES, the words and beginnings of the fewest titles are left out: a table of many rare words takes
+no frequent one away. PLACES is
 
     @N or #N   if COUNT titles have a word that *begins* with WORD. Their places are N bytes after the text: after @,
                COUNT ascending numbers of four bytes, the first byte the highest; after #, a bit for each place, the
@@ -26,7 +28,7 @@ import sys
 from collections.abc import Iterable, Iterator
 from pathlib import Path
 
-from openlink_update.index.index_files import MOST_BYTES, digest, text_of
+from openlink_update.index.index_files import digest, text_of
 from openlink_update.index.title_groups import Title
 from openlink_update.index.title_list import PAGE, Page
 from openlink_update.index.titles import written_key
@@ -34,7 +36,9 @@ from openlink_update.index.titles import written_key
 _MOST_LETTERS = 60  # of a word
 _MOST_WORDS = 40  # of a title
 _ANY_NEW, _MOST_NEW = 100_000, 4  # different words of all titles, and those that a further title may bring
+_MOST_BYTES = 1 << 20  # of a file; 250,000 titles have files of at most half of them
 _FEW = 64  # places that words which begin alike have in all without a line for their beginning
+_OTHER_CELLS = 24  # bytes of a line beside its word and places, at most
 _HEAD = 3  # letters that words in one file have in common
 
 _Sets = dict[str, "array.array[int]"]  # by word: its places in ascending order
@@ -110,7 +114,25 @@ def write_words(folder: Path, pages: list[Page], digits: int) -> None:
     for head, line in _all_lines(pages):
         files[digest(head)[:digits]].append(line)
     for name, lines in files.items():
-        (folder / name).write_bytes(_data_of(sorted(lines, key=lambda line: line.word), last // 8 + 1))
+        (folder / name).write_bytes(_data_of(lines, last // 8 + 1))
+
+
+def _bytes_of(line: _Line, most: int) -> int:
+    """The bytes of a line with its places, or some more."""
+    digits = len(str(line.places[-1])) + 1
+    places = min(4 * len(line.places), most) if line.has_all else digits * len(line.places)
+    return len(line.word) + _OTHER_CELLS + places
+
+
+def _with_most_titles(lines: list[_Line], most: int) -> list[_Line]:
+    """The lines of a file that have room in it, in their order."""
+    left, kept = _MOST_BYTES, []
+    for line in sorted(lines, key=lambda line: -len(line.places)):
+        left -= _bytes_of(line, most)
+        if left < 0:
+            break
+        kept.append(line)
+    return sorted(kept, key=lambda line: line.word)
 
 
 def _data_of(lines: list[_Line], most: int) -> bytes:
@@ -119,15 +141,13 @@ def _data_of(lines: list[_Line], most: int) -> bytes:
     texts: list[bytes] = []
     sets: list[bytes] = []
     size = 0
-    for line in lines:
+    for line in _with_most_titles(lines, most):
         start = b"%b\t%d\t" % (line.word, len(line.places))
         if not line.has_all:
             texts.append(start + " ".join(map(str, line.places)).encode())
             continue
         is_list = 4 * len(line.places) <= most
         data = _numbers_of(line.places) if is_list else _bits_of(line.places)
-        if size + len(data) > MOST_BYTES:
-            break
         texts.append(b"%b%b%d" % (start, b"@" if is_list else b"#", size))
         sets.append(data)
         size += len(data)

@@ -7,7 +7,7 @@ from openlink_update.disk import sync
 from openlink_update.input_files import InputFolder
 from openlink_update.machines.machines import PROBES, text_in
 from openlink_update.outcome import ALL_NEW, Failure, ignore_signals
-from openlink_update.report import report
+from openlink_update.shown_text import report
 from openlink_update.site.probing import Probes
 from openlink_update.versions import same_files
 from openlink_update.weekly_run import Run

@@ -84,11 +84,12 @@ class Site:
         return str(self.targets[0]).strip("\"'") if self.targets else ""
 
     @staticmethod
-    def differences(names: list[str], path: str | Path) -> list[str]:
-        """Lines about the targets of a version that this targets.json does not name, and the other way round."""
+    def differences(names: list[str], path: Path, data: bytes) -> list[str]:
+        """Lines about the targets of a version that the targets.json with these bytes does not name, and the other way
+        round."""
         try:
-            known = json.loads(Path(path).read_text(encoding="utf-8"))["targets"].keys()
-        except (OSError, ValueError, LookupError, TypeError, AttributeError):
+            known = json.loads(data.decode("utf-8"))["targets"].keys()
+        except (ValueError, LookupError, TypeError, AttributeError, RecursionError):
             return []  # nginx says what is wrong with it
         unnamed, unused = [name for name in names if name not in known], [name for name in known if name not in names]
         lines = {"not named, so they are shown last and not as full text": unnamed, "named, and no target": unused}

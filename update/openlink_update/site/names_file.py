@@ -33,12 +33,16 @@ class NamesFile:
 
     def add(self, version: Path, folder: InputFolder | None, older: Path | None) -> _Addition:
         """Puts that of the input in a version, or keeps the older version's, as it does without a folder."""
-        if not folder or not folder.is_file(NAME):
+        if not folder or not folder.exists(NAME):
             if older and self.is_served():
                 self._copy(older, version)
             return _Addition([])
-        path, data = folder.place(NAME), folder.read(NAME, targets_file.MOST_BYTES + 1)
-        faults = targets_file.faults_of(data, self._site.languages)
+        path, data = folder.place(NAME), b""
+        try:
+            data = folder.read(NAME, targets_file.MOST_BYTES + 1)
+            faults = targets_file.faults_of(data, self._site.languages)
+        except OSError as error:
+            faults = [str(error.strerror)]
         if faults:
             if older:
                 self._copy(older, version)
@@ -60,13 +64,18 @@ class NamesFile:
             return not any(path.is_file() for path in paths)
         return filecmp.cmp(paths[0], paths[1], shallow=False)
 
-    def path_of_next(self, folder: InputFolder) -> str:
-        """The one by which the next version of an input is shown."""
-        return self._path_in(folder.place(NAME))
+    def differences(self, names: list[str], folder: InputFolder) -> list[str]:
+        """Lines about the targets of the next version of an input that its targets.json does not name, and the other
+        way round."""
+        is_own = self.is_served() and folder.exists(NAME)
+        path = folder.place(NAME) if is_own else Path(self._site.targets_path())
+        try:
+            data = folder.read(NAME, targets_file.MOST_BYTES) if is_own else path.read_bytes()
+        except OSError:
+            return []  # who puts it in the version says why
+        return self._site.differences(names, path, data)
 
     def path_in(self, version: Path) -> str:
         """The one by which a version is shown."""
-        return self._path_in(version / NAME)
-
-    def _path_in(self, own: Path) -> str:
+        own = version / NAME
         return str(own) if self.is_served() and own.is_file() else self._site.targets_path()

@@ -5,14 +5,18 @@ import http.client
 import json
 import re
 import sys
+import time
 from collections.abc import Iterator
+from pathlib import Path
 from urllib.parse import unquote, urlsplit
 
-from openlink_update.input_files import InputFolder
-from openlink_update.report import report
+from openlink_update.input_files import lines_in
+from openlink_update.shown_text import report
 
 _SECONDS = 10  # for a reply
 _REFUSED = (400, 413, 414)
+_TOO_MANY = 429  # more than one address may send at a time
+_PAUSE, _TRIES = 0.5, 60  # seconds before it is sent again, and how often
 _MARK = "rfr_id=info:sid/openlink:probe"
 _SOURCES = ("sid", "rfr_id")
 _NAME = re.compile(r"[A-Za-z0-9_.-]{1,64}")
@@ -32,10 +36,10 @@ class Probe:
     targets: tuple[str, ...]  # that the page must show
 
 
-def read(folder: InputFolder, name: str) -> list[Probe]:
-    """The probes of a file. A ValueError says which line is wrong."""
+def read(data: bytes) -> list[Probe]:
+    """The probes in a file with these bytes. A ValueError says which line is wrong."""
     probes = []
-    for line in folder.lines(name, "latin-1"):  # queries have any bytes
+    for line in lines_in(data, "latin-1"):  # queries have any bytes
         query, *cells = line.cells
         names = " ".join(cells).split()
         if not names or not all(_NAME.fullmatch(name) for name in names):
@@ -60,7 +64,16 @@ def marked(query: str) -> str:
 
 
 def _get(address: str, target: str) -> tuple[int, str]:
-    """The status and the text that an address gives for a path with a query."""
+    """The status and the text that an address gives for a path with a query, once it takes so many."""
+    for _ in range(_TRIES):
+        status, text = _get_now(address, target)
+        if status != _TOO_MANY:
+            break
+        time.sleep(_PAUSE)
+    return status, text
+
+
+def _get_now(address: str, target: str) -> tuple[int, str]:
     parts = urlsplit(address)
     kind = http.client.HTTPSConnection if parts.scheme == "https" else http.client.HTTPConnection
     peer = kind(parts.hostname or "", parts.port, timeout=_SECONDS)
@@ -141,7 +154,7 @@ def main(words: list[str] | None = None) -> int:
         return 2
     path, front_door, reports = words + [_FRONT_DOOR, _REPORTS][len(words) - 1 :]
     try:
-        probes = read(InputFolder("."), path)
+        probes = read(Path(path).read_bytes())
     except (OSError, ValueError) as fault:
         report(f"openlink-probe: {path}: {getattr(fault, 'strerror', None) or fault}", "stderr")
         return 3

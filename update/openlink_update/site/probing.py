@@ -29,7 +29,7 @@ class Probes:
         self.list: list[Probe] = []
         try:
             if folder.exists(name):
-                self.list = probes.read(folder, name)
+                self.list = probes.read(folder.read(name))
         except (OSError, ValueError) as fault:
             raise Failure(f"{self.path}: {getattr(fault, 'strerror', None) or fault}") from fault
 

@@ -28,7 +28,7 @@ from collections.abc import Collection, Iterator
 from pathlib import Path
 
 from openlink_update.places import FRONT_DOOR
-from openlink_update.report import report
+from openlink_update.shown_text import report
 
 _WORDS = FRONT_DOOR / "words"
 _SAMPLE = _WORDS / "en.json"

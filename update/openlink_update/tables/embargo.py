@@ -9,6 +9,8 @@ import re
 _FORM = re.compile(r"[RP]\d{1,5}[YMD](?:;[RP]\d{1,5}[YMD])?", re.A)
 _PART = re.compile(r"([RP])(\d+)([YMD])", re.A)
 _MONTH = len("2026-11")
+# The days of each month of four years, of which one is a leap year.
+_LENGTHS = tuple(calendar.monthrange(2001 + number // 12, number % 12 + 1)[1] for number in range(48))
 
 
 def _before(day: datetime.date, number: int, unit: str) -> datetime.date:
@@ -84,6 +86,9 @@ class Embargo:
 
 
 def _most_days(part: _Part) -> int:
-    """The most days that a part can have, with leap years: 1461 in four years, 487 in sixteen months."""
-    days, units = {"Y": (1461, 4), "M": (487, 16), "D": (1, 1)}[part.unit]
-    return -(-part.number * days // units)
+    """The most days that a part can have, in whichever months, with leap years."""
+    if part.unit == "D":
+        return part.number
+    cycles, months = divmod(part.number * (12 if part.unit == "Y" else 1), len(_LENGTHS))
+    sums = (sum((_LENGTHS * 2)[start : start + months]) for start in range(len(_LENGTHS)))
+    return cycles * sum(_LENGTHS) + max(sums)

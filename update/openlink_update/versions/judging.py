@@ -1,5 +1,5 @@
-"""Judges a target's new files by numbers: by their warnings, and by the titles that came and are gone. Where the links of
-a table lead judges host_judge.py."""
+"""Judges a target's new files by numbers: by their warnings, and by the titles that came and are gone. Where the links
+of a table lead judges host_judge.py."""
 import dataclasses
 import datetime
 import re

@@ -44,6 +44,7 @@ from openlink_update.versions.served import Tables, targets_in
 from openlink_update.versions.target_list import Target
 
 _FEWER = "less than half of the rows"
+_OF_THE_OWNER = 0o600  # nginx needs no table as it came: what a library has received is its own
 
 
 @dataclasses.dataclass(frozen=True)
@@ -79,17 +80,18 @@ class _Files:
 def _files_of(target: Target) -> _Files:
     """The files that the list names for a target. Refused if one of them cannot be read."""
     reasons, sources = [], []
-    tables = [patterns.path_of(path, target.input.matches) for path in target.tables]
-    for path in (target.rules, *tables):
+    for number, path in enumerate((target.rules, *target.tables)):
         try:
-            sources.append(target.input.file(path))
+            found = patterns.path_of(path, target.input.matches) if number else path
+            sources.append(target.input.file(found))
         except OSError as fault:
             is_pattern = "*" in path and isinstance(fault, FileNotFoundError)
-            reasons.append(f"{path}: {'no file has such a name' if is_pattern else fault.strerror}")
+            reasons.append(f"{fault.filename or path}: {'no file has such a name' if is_pattern else fault.strerror}")
     if reasons:
         raise Refused(reasons)
     rules, *data = [it.data for it in sources]
-    return _Files(rules, tuple(data), target.has_code(), tuple(tables), tuple(sources))
+    paths = tuple(str(it.path) for it in sources[1:])
+    return _Files(rules, tuple(data), target.has_code(), paths, tuple(sources))
 
 
 def _received_names(version: Path, name: str) -> list[str]:
@@ -228,7 +230,9 @@ class Maker:
         self._discard(name)
         self._write(rules, files.rules)
         for number, data in enumerate(files.tables, 1):
-            self._write(f"received/{name}.txt" + (f".{number}" if number > 1 else ""), data)
+            path = self._folder / f"received/{name}.txt{f'.{number}' if number > 1 else ''}"
+            path.touch(_OF_THE_OWNER)
+            path.write_bytes(data)
         try:
             prepared = files.prepared
         except Refused as refusal:

@@ -2,7 +2,9 @@
 bytes are on the disk once. No file of a version is ever written to again, so none can change through another name."""
 import collections
 import filecmp
+import itertools
 import os
+import stat
 from collections.abc import Iterable, Iterator
 from pathlib import Path
 
@@ -28,18 +30,18 @@ def _size_of(path: Path) -> int | None:
 def link(version: str | Path, older: str | Path | None, others: Iterable[str | Path]) -> None:
     """Links the files of a version that is being made: those of targets to other libraries' versions, and all to the
     same names in the one before (None: there is none). Where no link can be made, the file stays as it is."""
-    by_size: dict[int, list[Path]] = collections.defaultdict(list)
-    for other in map(Path, others):
-        for name in files_below(other, *_SHARED):
+    by_size: dict[tuple[str, int], list[Path]] = collections.defaultdict(list)  # by the folder in the version, too
+    for other, part in itertools.product(map(Path, others), _SHARED):
+        for name in files_below(other, part):
             size = _size_of(other / name)
             if size is not None:
-                by_size[size].append(other / name)
+                by_size[part, size].append(other / name)
     for name in files_below(version):
         path = Path(version, name)
         size = _size_of(path)
         if size is None:
             continue
-        same = list(by_size[size]) if name.split(os.sep)[0] in _SHARED else []
+        same = list(by_size[name.split(os.sep)[0], size])  # one file has one mode, and the folders have others
         if older and _size_of(Path(older, name)) == size:
             same.append(Path(older, name))
         any(_replace(path, other) for other in same)
@@ -52,6 +54,8 @@ def _replace(path: Path, other: Path) -> bool:
             return True
         if not filecmp.cmp(path, other, shallow=False):
             return False
+        # An earlier release let everybody read what was received.
+        os.chmod(other, stat.S_IMODE(path.stat().st_mode & other.stat().st_mode))
         os.link(other, f"{path}.link")
         os.replace(f"{path}.link", path)
         return True

@@ -4,13 +4,15 @@ take what it has made. Only the bytes of a table count, so no update can tell th
 The run for several libraries makes a folder for this, and marks what is shared: the files of the folder `shared`, and
 what more than one library has received as one file. Without such a folder each table is prepared when it is needed."""
 import collections
+import contextlib
 import hashlib
 import json
 import os
-from collections.abc import Iterable, Sequence
+from collections.abc import Iterable, Iterator, Sequence
 from pathlib import Path
 from typing import TypedDict
 
+from openlink_update.input_files import InputFolder
 from openlink_update.tables import preparation
 from openlink_update.tables.preparation import Prepared
 from openlink_update.tables.table import Table
@@ -36,19 +38,22 @@ def _sum_of(data: bytes) -> str:
 
 def mark(place: str | Path, shared: str | Path, versions: Iterable[str | Path]) -> None:
     """Writes the sums of the files that are shared: those below a folder, and those that several versions have."""
-    paths = [Path(below, name) for below, _, names in os.walk(shared) for name in names]
+    sums = set(_sums_below(InputFolder(shared)))
     owners: dict[int, list[Path]] = collections.defaultdict(list)
     for received in (Path(version, "received") for version in versions):
         for path in received.iterdir() if received.is_dir() else ():
             owners[path.lstat().st_ino].append(path)
-    paths += [names[0] for names in owners.values() if len(names) > 1]
-    sums = set()
-    for path in paths:
-        try:
+    for path in (names[0] for names in owners.values() if len(names) > 1):
+        with contextlib.suppress(OSError):
             sums.add(_sum_of(path.read_bytes()))
-        except OSError:
-            pass  # the update that needs the file says so
     Path(place, _MARKS).write_text("".join(f"{total}\n" for total in sorted(sums)), encoding="utf-8")
+
+
+def _sums_below(folder: InputFolder) -> Iterator[str]:
+    for below, _, names in os.walk(folder.path):
+        for name in names:
+            with contextlib.suppress(OSError):  # the update that needs the file says so
+                yield _sum_of(folder.read(os.path.join(below, name)))
 
 
 def prepare(files: Sequence[tuple[str, bytes]]) -> Prepared:

@@ -21,8 +21,7 @@ use Rattle.registry.specs.Targets.{TargetValue}
 use Rattle.registry.specs.Refusals.{IsAddRefusal}
 use Rattle.registry.specs.declared.error.AddErrorKind.{AddErrorKind}
 use Rattle.registry.specs.declared.error.AddErrorKind.TheVariants as add
-use Rattle.safe_runs.specs.Ending.{IsAcceptedFile}
-use Rattle.registry_file.specs.Loading.{IsTargetFault, IsUnread}
+use Rattle.registry_file.specs.Loading.{IsSafeFile, IsTargetFault, IsUnread}
 use Rattle.registry_file.specs.declared.error.RegistryError.{RegistryError}
 use Rattle.registry_file.specs.declared.error.RegistryError.TheVariants as error
 use Rattle.registry_file.specs.declared.error.TargetFault.{TargetFault}
@@ -103,6 +102,6 @@ IsFaultOf stop (fault.Add kind) = stop ≡ Add kind
 -- the target has this name, and the code and the table of the files at the two paths
 pub record IsTargetOf (disk : Disk) (keys : Keys) (name code_path table_path : Text) (target : TargetValue) : Type 0 where
   pub named : target.name ≡ name
-  pub code : OfFile (disk code_path) (λ bytes. IsAcceptedFile bytes target.code)
+  pub code : OfFile (disk code_path) (λ bytes. IsSafeFile bytes target.code)
   pub table : OfFile (disk table_path) (λ bytes. IsTable bytes target.table)
   pub keyed : target.table.keys ≡ keys

@@ -3,32 +3,35 @@ use Rattle.std.proofs.lemmas.Result.{err_from_is_err_and}
 use Rattle.code_file.specs.Fault.{fault, too_long}
 use Rattle.code_file.specs.declared.error.CodeErrorKind.TheVariants.{TooLong}
 use Rattle.code_file.specs.declared.limits.TheConstants.{MAX_BYTES}
+use Rattle.code_file.specs.Grammar.{IsCodeFile}
 use Rattle.verifier.specs.Faults.{IsLoadFault, no_code}
-use Rattle.safe_runs.specs.Ending.{IsAcceptedFile}
 use Rattle.registry_file.proofs.StopLemmas.{code_refused, exists}
 use Rattle.registry_file.proofs.target.load_code.Goals as goal
 
-pub returns-in_err-load_file-in-Ok-clause-err : goal.returns-in_err-load_file-in-Ok-clause-err
-returns-in_err-load_file-in-Ok-clause-err g c =
+pub returns-in_err-load-in-Ok-clause-err : goal.returns-in_err-load-in-Ok-clause-err
+returns-in_err-load-in-Ok-clause-err g c =
     let made = err_from_is_err_and c.from_residual.result c.from_residual.ensures.1 in
-    let refused = subst (λ bytes. IsLoadFault bytes c.in_err-load_file-in-Ok.field-0.0) c.deref.ensures.value c.in_err-load_file-in-Ok.ensures.refused in
+    let refused = subst (λ bytes. IsLoadFault bytes c.in_err-load-in-Ok.field-0.0) c.deref.ensures.value c.in_err-load-in-Ok.ensures.refused in
     rw made.1 (
-    code_refused g.F.Files.fails (g.F.Files.at c.args.files.now c.args.path.now) c.args.path.now c.in_err-load_file-in-Ok.field-0.0 made.0
+    code_refused g.F.Files.fails (g.F.Files.at c.args.files.now c.args.path.now) c.args.path.now c.in_err-load-in-Ok.field-0.0 made.0
     (c.in-Ok.bytes.items, c.in-Ok.ensures.whole, refused) made.2
     )
 
-pub returns-in_err-load_file-in-Ok-clause-absent : goal.returns-in_err-load_file-in-Ok-clause-absent
-returns-in_err-load_file-in-Ok-clause-absent g c = exists (g.F.Files.at c.args.files.now c.args.path.now) c.in-Ok.bytes.items c.in-Ok.ensures.whole
+pub returns-in_err-load-in-Ok-clause-absent : goal.returns-in_err-load-in-Ok-clause-absent
+returns-in_err-load-in-Ok-clause-absent g c = exists (g.F.Files.at c.args.files.now c.args.path.now) c.in-Ok.bytes.items c.in-Ok.ensures.whole
 
-pub returns-in_ok-load_file-in-Ok-clause-ok : goal.returns-in_ok-load_file-in-Ok-clause-ok
-returns-in_ok-load_file-in-Ok-clause-ok g c = (
+pub returns-in_ok-load-in-Ok-clause-ok : goal.returns-in_ok-load-in-Ok-clause-ok
+returns-in_ok-load-in-Ok-clause-ok g c = (
   c.in-Ok.bytes.items,
   c.in-Ok.ensures.whole,
-  subst (λ bytes. IsAcceptedFile bytes c.in_ok-load_file-in-Ok.field-0) c.deref.ensures.value c.in_ok-load_file-in-Ok.ensures.accepted,
+  record {
+    file = subst (λ bytes. IsCodeFile bytes c.in_ok-load-in-Ok.field-0) c.deref.ensures.value c.in_ok-load-in-Ok.ensures.code;
+    safe = c.in_ok-load-in-Ok.ensures.safe;
+  },
 )
 
-pub returns-in_ok-load_file-in-Ok-clause-absent : goal.returns-in_ok-load_file-in-Ok-clause-absent
-returns-in_ok-load_file-in-Ok-clause-absent g c = exists (g.F.Files.at c.args.files.now c.args.path.now) c.in-Ok.bytes.items c.in-Ok.ensures.whole
+pub returns-in_ok-load-in-Ok-clause-absent : goal.returns-in_ok-load-in-Ok-clause-absent
+returns-in_ok-load-in-Ok-clause-absent g c = exists (g.F.Files.at c.args.files.now c.args.path.now) c.in-Ok.bytes.items c.in-Ok.ensures.whole
 
 pub returns-in-Err-TooLong-clause-err : goal.returns-in-Err-TooLong-clause-err
 returns-in-Err-TooLong-clause-err g c =

@@ -1,0 +1,308 @@
+"""tools/plant in a small repository: which bugs it finds, which of them its tests see, and that the checkout stays as
+it is. tools/coverage counts what no test runs."""
+from __future__ import annotations
+
+import json
+import os
+import re
+import shutil
+import signal
+import subprocess
+import sys
+import tempfile
+from pathlib import Path
+
+import fixtures
+from fixtures import needs
+from fixtures.cases import Case
+from fixtures.patience import wait_until
+
+TOP = Path(fixtures.TOP)
+# In the small repository, a test sees the first function, none the second.
+SOURCE = """\
+def is_small(number):
+    return number < 5
+
+
+def is_large(number):
+    return number > 7
+"""
+TEST = """\
+import os, sys, time
+from pathlib import Path
+from fixtures import TOP
+from fixtures.cases import Case
+from openlink_update import numbers
+
+class Numbers(Case):
+    def test_small(self):
+        numbers.is_large(1)
+        waits = os.environ.get("PLANT_WAITS")
+        if waits and "<= 5" in Path(numbers.__file__).read_text():
+            Path(waits).write_text(TOP)
+            time.sleep(600)
+        self.expect("four and five", [numbers.is_small(4), numbers.is_small(5)], [True, False])
+"""
+RULES = "Type=simple\n# a comment\nUMask=0022\n[Install]\n"
+SCRIPT = """\
+const MOST = 3;
+function isShort(text, most) {
+    if (text === '' && most > MOST) return /^a$/i;
+    try { check(text, most); } catch (error) { report(error); }
+    throw new Error('x');
+}
+"""
+# A file, and bugs that it can have: a kind, and the new text of its line.
+KNOWN: tuple[tuple[str, str, tuple[tuple[str, str], ...]], ...] = (
+    (
+        "a.py",
+        "if a < b:\n    f(a, 2)\n",
+        (
+            ("comparison", "if a <= b:"),
+            ("condition", "if not (a < b):"),
+            ("condition", "if True:"),
+            ("arguments", "f(2, a)"),
+            ("off by one", "f(a, 3)"),
+            ("call left out", "pass"),
+        ),
+    ),
+    (
+        "b.py",
+        "def f(a):\n    g()\n    return a and b\n",
+        (("condition", "return a"), ("condition", "return b"), ("return", "return None"), ("call left out", "pass")),
+    ),
+    ("c.py", "try:\n    f('x')\nexcept E:\n    raise\n", (("exception", "pass"), ("constant", "f('xx')"))),
+    ("d.py", "def f():\n    g()\n    é = h(True)\n", (("return", "return é = h(True)"), ("constant", "é = h(False)"))),
+    (
+        "e.js",
+        SCRIPT,
+        (
+            ("off by one", "const MOST = 4;"),
+            ("exception", ";"),
+            ("return", "if (text === '' && most > MOST) return;"),
+            ("comparison", "if (text !== '' && most > MOST) return /^a$/i;"),
+            ("condition", "if (text === '' || most > MOST) return /^a$/i;"),
+            ("condition", "if (!(text === '' && most > MOST)) return /^a$/i;"),
+            ("constant", "if (text === '' && most > MOST) return /a$/i;"),
+            ("call left out", "try { ; } catch (error) { report(error); }"),
+            ("arguments", "try { check(most, text); } catch (error) { report(error); }"),
+            ("exception", "try { check(text, most); } catch (error) {}"),
+        ),
+    ),
+    ("f.service", RULES, (("line", ""),)),
+)
+
+
+class Repository(Case):
+    """A small repository with git, the tools, and one test."""
+
+    def setUp(self) -> None:
+        room = tempfile.TemporaryDirectory()
+        self.addCleanup(room.cleanup)
+        self.folder = Path(room.name)
+        self.top = self.folder / "top"
+        for path in ("tools/planting", "tools/measuring", "tools/run_tests", "tests/fixtures"):
+            shutil.copytree(TOP / path, self.top / path, ignore=shutil.ignore_patterns("__pycache__", "out"))
+        for name in ("plant", "coverage"):
+            shutil.copy(TOP / "tools" / name, self.top / "tools")
+        self.write("update/openlink_update/__init__.py", "")
+        self.write("update/openlink_update/numbers.py", SOURCE)
+        self.write("packaging/systemd/a.service", RULES)
+        self.write("front_door/a.js", "function one(a) {\n    if (a) return 1;\n    return 2;\n}\n")
+        self.write("tests/update/__init__.py", "")
+        self.write("tests/update/test_numbers.py", TEST)
+        self.write("tools/measuring/left.tsv", "file\tline\treason\n")
+        self.write("tools/planting/equal.tsv", "file\told line\tnew line\treason\n")
+        self.write(".gitignore", "out/\n")
+        self.git("init", "-q")
+        self.git("add", ".")
+        self.git("-c", "user.name=a", "-c", "user.email=a@example.org", "commit", "-q", "-m", "One")
+
+    def write(self, path: str, text: str) -> None:
+        place = self.top / path
+        place.parent.mkdir(parents=True, exist_ok=True)
+        place.write_text(text, encoding="utf-8")
+
+    def git(self, *words: str) -> str:
+        return subprocess.run(["git", *words], cwd=self.top, check=True, stdout=subprocess.PIPE, text=True).stdout
+
+    def start(self, *words: str, **more: str) -> subprocess.Popen[str]:
+        """Starts a tool, with its temporary files in a folder of the test."""
+        place = self.folder / "temporary"
+        place.mkdir(exist_ok=True)
+        environment = {**os.environ, "TMPDIR": str(place), **more}
+        return subprocess.Popen(
+            [sys.executable, "-B", *words],
+            cwd=self.top,
+            env=environment,
+            stdout=subprocess.PIPE,
+            stderr=subprocess.STDOUT,
+            text=True,
+            preexec_fn=lambda: signal.signal(signal.SIGINT, signal.default_int_handler),
+        )
+
+    def given(self, *words: str) -> tuple[int, str]:
+        process = self.start(*words)
+        said = process.communicate()[0]
+        return process.returncode, said
+
+    def expect_clean(self) -> None:
+        self.expect("what has changed in the checkout", self.git("status", "--porcelain"), "")
+        self.expect("what is left of temporary files", [*(self.folder / "temporary").iterdir()], [])
+
+
+@needs.command("git")
+class Planting(Repository):
+    def test_seen_and_unseen(self) -> None:
+        status, said = self.given("tools/plant", "update/openlink_update/numbers.py")
+        self.expect(f"the status, with {said}", status, 1)
+        found = re.findall(r"^(\S+:\d+): ([\w ]+): not seen by 1 tests$", said, re.M)
+        self.expect("where the unseen ones are", {place for place, _ in found}, {"update/openlink_update/numbers.py:6"})
+        self.expect("their kinds", {kind for _, kind in found}, {"comparison", "off by one", "constant", "return"})
+        self.expect_lines("the old and the new text", said, "  - return number > 7", "  + return number >= 7")
+        self.expect_lines("the kinds", said, "comparison: 2 planted, 1 seen", "10 planted, 5 seen, 5 not seen")
+        self.expect_clean()
+
+    def test_a_change(self) -> None:
+        self.write("update/openlink_update/numbers.py", SOURCE.replace("> 7", "> 8"))
+        listed = self.given("tools/plant", "--list", "HEAD")[1]
+        places = {*re.findall(r"^(\S+): ", listed, re.M)}
+        self.expect("the lines of a change", places, {"update/openlink_update/numbers.py:6"})
+
+    def test_equal(self) -> None:
+        path = "update/openlink_update/numbers.py"
+        head, row = "file\told line\tnew line\treason\n", f"{path}\treturn number > 7\treturn number >= 7\t"
+        self.write("tools/planting/equal.tsv", f"{head}{row}nobody calls it\n")
+        said = self.given("tools/plant", f"{path}:6")[1]
+        self.expect_lines("without the one that is listed", said, "4 planted, 0 seen, 4 not seen")
+        self.write("tools/planting/equal.tsv", f"{head}{row} \n")
+        status, said = self.given("tools/plant", f"{path}:6")
+        self.expect(f"without a reason: {said}", (status != 0, "a reason, and not" in said), (True, True))
+
+    def test_the_map(self) -> None:
+        """Only the tests that the map names for a line run; none runs the second function."""
+        path = "update/openlink_update/numbers.py"
+        ran = {"text": "before", "ran": ["2", "3"], "missing": ["6", "7"]}
+        found = {
+            "seconds": {"update.test_numbers": 1},
+            "runs": {"update.test_numbers": {path: ran}},
+            "texts": {"before": ["# before it", *SOURCE.splitlines()]},
+        }
+        self.write("tools/out/lines.json", json.dumps(found))
+        said = self.given("tools/plant", f"{path}:2-2")[1]
+        self.expect_lines("a line that has moved", said, "5 planted, 5 seen, 0 not seen")
+        said = self.given("tools/plant", f"{path}:6")[1]
+        self.expect("tests of the other", said.count(": not seen by 0 tests\n"), 5)
+
+    def test_a_failing_test(self) -> None:
+        """One that fails without a bug would see each."""
+        self.write("tests/update/test_numbers.py", TEST.replace("[True, False]", "[True, True]"))
+        status, said = self.given("tools/plant", "update/openlink_update/numbers.py")
+        self.expect("what it says", (status, said), (2, "tools/plant: update.test_numbers fails without a bug too\n"))
+
+    def test_a_seed(self) -> None:
+        words = ("tools/plant", "--list", "--number", "4", "update", "front_door", "packaging")
+        first, again, other = (self.given(*words, "--seed", seed)[1] for seed in ("1", "1", "2"))
+        self.expect("the same seed", first, again)
+        self.expect("another seed", first != other)
+        kinds = re.findall(r"^\S+:\d+: ([\w ]+): it can", first, re.M)
+        self.expect("their number", len(kinds), 4)
+        self.expect("each kind once", len({*kinds}), 4)
+
+    def test_no_place(self) -> None:
+        for name in ("README.md", "nosuch", "tests/fixtures/restart:x"):
+            self.expect(f"the status for {name}", self.given("tools/plant", name)[0], 2)
+
+    def test_time_limit(self) -> None:
+        """A bug that lets a test hang is seen."""
+        process = self.start(
+            "tools/plant", "--limit", "3", "update/openlink_update/numbers.py:2", PLANT_WAITS=str(self.folder / "waits")
+        )
+        said = process.communicate()[0]
+        self.expect("it waited", (self.folder / "waits").exists())
+        self.expect_lines("all of them", said, "5 planted, 5 seen, 0 not seen")
+
+    def test_interrupts(self) -> None:
+        for number in (signal.SIGINT, signal.SIGTERM):
+            waits = self.folder / f"waits.{number}"
+            process = self.start("tools/plant", "update/openlink_update/numbers.py", PLANT_WAITS=str(waits))
+            wait_until(lambda: waits.exists() and waits.read_text() != "")
+            process.send_signal(number)
+            said = process.communicate()[0]
+            self.expect(f"after {number.name}", (process.returncode, said), (1, "tools/plant: interrupted\n"))
+            self.expect("the test runs in a copy", Path(waits.read_text()) != self.top)
+            self.expect("the copy is removed", Path(waits.read_text()).exists(), False)
+            self.expect_clean()
+
+
+class Bugs(Repository):
+    def listed(self, name: str) -> set[tuple[str, str]]:
+        """The kind and the new text of each bug of a file."""
+        said = self.given("tools/plant", "--list", name)[1]
+        return {*re.findall(r"^\S+:\d+: ([\w ]+): it can be planted\n  - .*\n  \+ (.*)$", said, re.M)}
+
+    @needs.command("git")
+    def test_kinds(self) -> None:
+        for name, text, wanted in KNOWN:
+            self.write(f"update/{name}", text)
+            found = self.listed(f"update/{name}")
+            for bug in wanted:
+                self.expect(f"{name}: {bug}, among {sorted(found)}", bug in found)
+
+    def test_lines_of_a_declaration(self) -> None:
+        said = self.given("tools/plant", "--list", "packaging/systemd/a.service")[1]
+        self.expect("the lines", re.findall(r"^  - (.*)$", said, re.M), ["Type=simple", "UMask=0022", "[Install]"])
+
+    def test_python_that_no_run_sees(self) -> None:
+        text = (
+            '"""Text."""\nfrom a import b\n\n__all__ = ["b"]\n\n\n@d(1)\ndef f(a: "int") -> "int":\n    """More."""\n'
+        )
+        self.write("update/g.py", text)
+        self.expect("no bug", self.listed("update/g.py"), set())
+
+
+class Modules(Case):
+    """In all that bugs are planted in, they can be found, and the changed Python can be read."""
+
+    def test_many(self) -> None:
+        words = [sys.executable, "-B", "tools/plant", "--list", "--number", "200"]
+        for folder, suffix, least in (("update", "py", 30), ("front_door", "js", 20), ("packaging", "", 10)):
+            said = subprocess.run([*words, folder], capture_output=True, text=True, check=True).stdout
+            paths = {*re.findall(rf"^(\S+{suffix}):\d+: ", said, re.M)}
+            self.expect(f"files of {folder}: {len(paths)}", len(paths) >= least)
+
+
+@needs.command("git")
+@needs.module_of_debian("coverage", "python3-coverage")
+class Coverage(Repository):
+    def test_lines_and_branches(self) -> None:
+        self.write("update/openlink_update/numbers.py", SOURCE + "\n\ndef third():\n    return 3\n")
+        status, said = self.given("tools/coverage")
+        self.expect(f"the status, with {said}", status, 1)
+        self.expect_lines(
+            "the modules",
+            said,
+            "update/openlink_update/numbers.py: 83.3, not run: 10",
+            "front_door/a.js: 0.0, not run: 2, 3",
+        )
+        found = json.loads((self.top / "tools/out/lines.json").read_text())
+        lines = found["runs"]["update.test_numbers"]["update/openlink_update/numbers.py"]
+        self.expect("the lines of the test", lines["ran"], ["1", "2", "5", "6", "9"])
+        self.expect("the checkout", self.git("status", "--porcelain"), " M update/openlink_update/numbers.py\n")
+        self.write(
+            "tools/measuring/left.tsv",
+            "file\tline\treason\nupdate/openlink_update/numbers.py\treturn 3\tnobody calls it\n",
+        )
+        said = self.given("tools/coverage")[1]
+        self.expect_lines(
+            "what is listed",
+            said,
+            "update/openlink_update/numbers.py: 100.0",
+            "update: 100.0 in 100, at least 97; 1 more are listed as left",
+        )
+
+    def test_a_failing_test(self) -> None:
+        self.write("tests/update/test_numbers.py", TEST.replace("[True, False]", "[True, True]"))
+        status, said = self.given("tools/coverage", "update.test_numbers")
+        self.expect("it says so", (status, "update.test_numbers failed" in said), (1, True))
+        self.expect("its lines", (self.top / "tools/out/lines.json").exists(), False)

@@ -1,0 +1,1 @@
+"""Bugs that tools/plant plants, and the tests that should see them."""
