@@ -105,6 +105,8 @@ class Hijacked(Case):
                 self.expect(f"{name}: said", weeks.make()[-1:], [line])
                 self.expect("in use", weeks.maker.kept, [])
                 self.expect("not again", SAID in "".join(weeks.make()), False)
+                weeks.deliver("press", table(*data, *rows(50, 51)), rules=RULES)
+                self.expect("nor with another table", SAID in "".join(weeks.make()), False)
                 self.expect("remembered", EVIL in weeks.read("hosts.tsv").decode(), True)
                 weeks.make(walls=True)
                 self.expect("by a run for walls too", EVIL in weeks.read("hosts.tsv").decode(), True)

@@ -88,13 +88,16 @@ def links_of(tables: Iterable[Table], templates: Templates) -> Links:
         rows += len(table.rows)
         columns = []
         for name, place in _columns_of(table, templates):
-            cells = [cell(row, place) for row in table.rows]
+            cells = [row[place] if place < len(row) else "" for row in table.rows]  # faster than by `cell`
+            if name not in templates.hosts and "://" not in "\n".join(cells):
+                continue  # as most columns beside a code file
             found = _hosts_in(cells, name in templates.hosts)
             if any(found):
                 columns.append(found)
                 counts = Counter(text for text, host in zip(cells, found) if host)
                 addresses.setdefault(name, Counter()).update(counts)
-        hosts.update(columns[0] if len(columns) == 1 else chain.from_iterable(map(set, zip(*columns))))
+        several = (host for row in zip(*columns) for host in {*row})
+        hosts.update(columns[0] if len(columns) == 1 else several)
     del hosts[""]
     most = [pair for counts in addresses.values() for pair in counts.most_common(1)]
     return Links(rows, hosts, max(most, key=lambda pair: pair[1], default=("", 0)))
