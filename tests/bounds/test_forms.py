@@ -16,7 +16,6 @@ from openlink_update.index import title_index
 from openlink_update.index import title_list
 from openlink_update.index import titles
 from openlink_update.index import word_sets
-from openlink_update.input_files import InputFolder
 from openlink_update.site import probes
 from openlink_update.tables import cells
 from openlink_update.tables import date_order

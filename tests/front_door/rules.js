@@ -2,17 +2,22 @@
 // and in node, in a folder with the module and sample.js, which test_rules.py writes. Prints a line of JSON for each
 // case, its name alone, or with what it gives and what was expected; and a last line with the number of cases.
 import citation from './citation.js';
+import dates from './dates.js';
 import door from './find.js';
 import health from './health.js';
 import index from './index.js';
 import languages from './languages.js';
 import menus from './menu.js';
+import numbers from './numbers.js';
 import openurl from './openurl.js';
 import program from './program.js';
+import references from './references.js';
 import staff from './why.js';
 import cases from './cases.js';
+import parts from './parts.js';
 import folding from './fold.js';
 import sample from './sample.js';
+import values from './values.js';
 
 const FORMATS = {
     J: 'info:ofi/fmt:kev:mtx:journal', B: 'info:ofi/fmt:kev:mtx:book', D: 'info:ofi/fmt:kev:mtx:dissertation'
@@ -242,6 +247,25 @@ function testCitations() {
         const html = citation.citationHtml(citation.citationOf(openurl.queryOf(it[0]), site), site);
         expect('the citation of ' + it[0], html.replace(/<[^>]*>/g, ''), it[1]);
     });
+}
+function testReferences() {
+    [[parts.OF_SOURCES, false], [parts.OF_TITLES, true]].forEach((list) => {
+        list[0].forEach((it) => {
+            const found = references.partsOf('Tides ' + it[0], list[1]);
+            const named = found === null ? [] : [found.volume, found.issue, found.pages, found.year];
+            const text = found === null ? 'none' : named.map((part) => part || '').join('|');
+            expect('the parts of ' + it[0] + (list[1] ? ' in a title' : ''), text, it[1]);
+            expect('the name before ' + it[0], found === null ? 'Tides' : found.name, 'Tides');
+        });
+    });
+}
+function testValues() {
+    const numbersIn = (text, kind) => numbers.numbersIn([text], kind, 2).join(' ');
+    values.DATES.forEach((it) => { expect('the date ' + it[0], dates.dateOf(it[0]), it[1]); });
+    values.DAYS.forEach((it) => { expect('the days of ' + it[0], dates.daysOf(it[0]).join(' '), it[1]); });
+    values.ISSNS.forEach((it) => { expect('the ISSNs in ' + it[0], numbersIn(it[0], numbers.ISSN), it[1]); });
+    values.ISBNS.forEach((it) => { expect('the ISBNs in ' + it[0], numbersIn(it[0], numbers.ISBN), it[1]); });
+    values.CHECKED.forEach((it) => { expect('the last digit of ' + it[0], numbers.isRight(it[0]), it[1]); });
 }
 function testRis() {
     RIS_TYPES.forEach(function (it) {
@@ -540,6 +564,8 @@ testLimits();
 testMenus();
 testNotices();
 testRetractions();
+testReferences();
+testValues();
 testRis();
 testCitations();
 testHeaders();

@@ -46,7 +46,10 @@ class Limits(SiteCase):
     def test_rates(self) -> None:
         """Fifty long requests and twenty searches a second, of all readers together, after fifty and forty at once. A
         search counts in every form of its key, and the pages of letters do not."""
-        for name, its, rate, burst, count in (("long", [LONG, *FORMS], 50, 50, 180), ("searches", SEARCHES, 20, 40, 120)):
+        for name, its, rate, burst, count in (
+            ("long", [LONG, *FORMS], 50, 50, 180),
+            ("searches", SEARCHES, 20, 40, 120),
+        ):
             start = time.monotonic()
             statuses = [self.status_of(its[i % len(its)]) for i in range(count)]
             seconds = time.monotonic() - start

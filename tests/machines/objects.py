@@ -15,7 +15,7 @@ PROBE = {"exec!": {"command!": [str]}, "initialDelaySeconds": int, "periodSecond
          "failureThreshold": int, "successThreshold": int}
 RESOURCES = {"requests!": {"cpu": QUANTITY, "memory!": QUANTITY}, "limits!": {"cpu": QUANTITY, "memory!": QUANTITY}}
 CONTAINER = {
-    "name!": LABEL, "image!": re.compile(r"[a-z0-9.-]+(/[a-z0-9._-]+)+(:[\w.-]+)?", re.A), "command": [str],
+    "name!": LABEL, "image!": re.compile(r"[a-z0-9.-]+(/[a-z0-9._-]+)+(:[\w.-]+)?(@sha256:[0-9a-f]{64})?", re.A), "command": [str],
     "args": [str], "ports": [{"name!": LABEL, "containerPort!": int, "protocol": ["TCP"]}],
     "env": [{"name!": re.compile(r"[A-Z_]+"), "value!": str}], "resources!": RESOURCES,
     "startupProbe": PROBE, "readinessProbe": PROBE, "livenessProbe": PROBE,
@@ -25,6 +25,7 @@ CONTAINER = {
     "volumeMounts": [{"name!": LABEL, "mountPath!": re.compile(r"/.+"), "readOnly": bool, "subPath": str}],
 }
 POD = {
+    "securityContext": {"seccompProfile": {"type!": ["RuntimeDefault"]}},
     "automountServiceAccountToken": bool, "enableServiceLinks": bool, "terminationGracePeriodSeconds": int,
     "topologySpreadConstraints": [{"maxSkew!": int, "topologyKey!": KEY, "labelSelector": SELECTOR,
                                    "whenUnsatisfiable!": re.compile("DoNotSchedule|ScheduleAnyway")}],
@@ -49,6 +50,10 @@ KINDS = {
                       "backend!": {"service!": {"name!": NAME, "port!": {"name": LABEL, "number": int}}}}]}}]}}),
     "PodDisruptionBudget": ("policy/v1", {"spec!": {"minAvailable": int, "maxUnavailable": int,
                                                     "selector!": SELECTOR}}),
+    "NetworkPolicy": ("networking.k8s.io/v1", {
+        "spec!": {"podSelector!": SELECTOR, "policyTypes!": [re.compile("Ingress|Egress")],
+                  "ingress!": [{"from!": [{"namespaceSelector!": SELECTOR}],
+                                "ports!": [{"port!": LABEL, "protocol!": ["TCP"]}]}]}}),
     "ConfigMap": ("v1", {"data!": TEXTS}),
 }
 

@@ -29,7 +29,7 @@ def read(machine, name):
 
 
 def runs_of(machine):
-    """The numbers of the processes that receive for a machine."""
+    """The numbers of the processes that carry out a request on a machine."""
     found = []
     for number in filter(str.isdigit, os.listdir("/proc")):
         try:
@@ -37,7 +37,7 @@ def runs_of(machine):
                 words = file.read().decode("utf-8", "replace").split("\0")
         except OSError:
             continue
-        if "--receive" in words and machine.folder in words and words[0].endswith("python3"):
+        if "--take" in words and machine.folder in words and words[0].endswith("python3"):
             found.append(int(number))
     return found
 
@@ -53,7 +53,7 @@ class Other(machines.Machine):
     def __init__(self, command):
         self.host, self.sent = "other", command
 
-    def in_folder(self, text):
+    def request(self, *words):
         if isinstance(self.sent, Exception):
             raise self.sent
         return machines.run(["sh", "-c", self.sent], machines.SECONDS_TO_ASK)
@@ -115,6 +115,21 @@ class Deliveries(Case):
         named = one.delivery()
         status, printed = one.run_to(two, "--send")
         self.expect(f"nothing new: {printed}", (status, printed, one.delivery()), (0, "", named))
+
+    def test_free_key(self) -> None:
+        """A key that may run any command delivers too, and each week the mail names it. Secrets stay here, and what
+        another machine has of them goes."""
+        one, two = self.both_serve("A")
+        for machine in (one, two):
+            machine.input.write("secrets.tsv", b"token\tmine\n")
+        two.free_key()
+        one.input.deliver("B")
+        status, printed = one.run_to(two)
+        self.expect(f"a week: {printed}", (status, weeks(two)), (0, {"B"}))
+        told = 'other: the key may run any command there: write restrict,command="openlink-update --take" before it'
+        self.expect("it is named", [line for line in printed.splitlines() if line.startswith(told)] != [])
+        self.expect("secrets", [os.path.exists(it.path("input", "secrets.tsv")) for it in (one, two)], [True, False])
+        self.expect("nothing new", one.run_to(two, "--send"), (0, ""))
 
     def test_back(self) -> None:
         """Going back reaches the other machine too."""

@@ -19,6 +19,7 @@ from machines import objects
 FOLDER, SITE = "packaging/kubernetes", "front_door/http.conf"
 CONTAINERFILE, START = "packaging/container/Containerfile", "packaging/container/start"
 UNITS = {"": 1, "k": 10 ** 3, "M": 10 ** 6, "G": 10 ** 9, "Ki": 2 ** 10, "Mi": 2 ** 20, "Gi": 2 ** 30}
+WRITTEN = {"/run", "/var/lib/nginx"}  # by the script `start` and by nginx
 TIMES, WORKER_MB = 5, 60  # of the tables' bytes, for a process; the most that a worker of nginx had
 
 
@@ -49,6 +50,8 @@ def selectors(it):
         return [spec["selector"]]
     if it["kind"] == "PodDisruptionBudget":
         return [spec["selector"]["matchLabels"]]
+    if it["kind"] == "NetworkPolicy":
+        return [spec["podSelector"]["matchLabels"]]
     if it["kind"] != "Deployment":
         return []
     spread = [place["labelSelector"] for place in spec["template"]["spec"].get("topologySpreadConstraints", ())]
@@ -98,6 +101,8 @@ class Set:
             lines += self.faults_of_ingress(it)
         for it in self.of("PodDisruptionBudget"):
             lines += self.faults_of_budget(it)
+        for it in self.of("NetworkPolicy"):
+            lines += self.faults_of_policy(it)
         kinds = [kind for kind in objects.KINDS if kind != "ConfigMap"]
         return lines + [f"there is no {kind}" for kind in kinds if not self.of(kind)]
 
@@ -121,7 +126,7 @@ class Set:
         rolling = spec.get("strategy", {}).get("rollingUpdate", {})
         if (rolling.get("maxUnavailable"), rolling.get("maxSurge", 0) > 0) != (0, True):
             lines.append("an update takes a pod away before the next one is ready")
-        return lines + faults_of_container(pod["containers"][0], site) + faults_of_version(pod)
+        return lines + faults_of_container(pod["containers"][0], site) + faults_of_version(pod) + faults_of_rights(pod)
 
     def files_of(self, pod):
         """The files of all its ConfigMaps."""
@@ -168,6 +173,19 @@ class Set:
             return [f"the disruption budget is for the pods of {len(pods)} Deployments"]
         least, number = it["spec"].get("minAvailable", 0), pods[0]["spec"].get("replicas", 1)
         return [] if 0 < least < number else [f"of {number} pods {least} must be there"]
+
+
+    def faults_of_policy(self, it):
+        """It is for all pods of the library, and opens the port of readers alone."""
+        spec = it["spec"]
+        pods = self.pods_of(spec["podSelector"]["matchLabels"])
+        if len(pods) != 1:
+            return [f"the network policy is for the pods of {len(pods)} Deployments"]
+        lines = [f"the network policy does not bound {it}" for it in ("Ingress", "Egress")
+                 if it not in spec["policyTypes"]]
+        names = [port["name"] for port in pods[0]["spec"]["template"]["spec"]["containers"][0].get("ports", ())]
+        opened = [port["port"] for rule in spec["ingress"] for port in rule["ports"]]
+        return lines + ([] if opened == names else [f"the network policy opens {opened}, and readers come to {names}"])
 
 
 class Site:
@@ -220,8 +238,8 @@ def bytes_of(quantity):
 
 def faults_of_version(pod):
     """The volume with the version: the first container fills it, and the other one only reads it."""
-    names = {volume["name"] for volume in pod.get("volumes", ()) if "emptyDir" in volume}
     filled = [it for container in pod.get("initContainers", ()) for it in container.get("volumeMounts", ())]
+    names = {it["name"] for it in filled}
     read = [it for it in pod["containers"][0].get("volumeMounts", ()) if it["name"] in names]
     if [it["mountPath"] for it in filled] != ["/etc/openlink"] or filled[0].get("readOnly"):
         return ["no first container fills /etc/openlink"]
@@ -229,6 +247,21 @@ def faults_of_version(pod):
     if found != [(filled[0]["name"], "/etc/openlink", True)]:
         return ["the version is not mounted for reading alone"]
     return []
+
+
+def faults_of_rights(pod):
+    """What the pod may do and need not; and what it writes beside its root, which is for reading alone."""
+    lines = [] if pod.get("automountServiceAccountToken") is False else ["the pod has a token of the cluster"]
+    if pod.get("securityContext", {}).get("seccompProfile") != {"type": "RuntimeDefault"}:
+        lines.append("the pod may make all system calls")
+    for it in (*pod["initContainers"], *pod["containers"]):
+        rights = it.get("securityContext", {})
+        if not rights.get("readOnlyRootFilesystem") or rights.get("allowPrivilegeEscalation") is not False:
+            lines.append(f"{it['name']} may write its root, or gain rights")
+        if rights.get("capabilities", {}).get("drop") != ["ALL"]:
+            lines.append(f"{it['name']} keeps rights of root")
+    written = {it["mountPath"] for it in pod["containers"][0]["volumeMounts"] if not it.get("readOnly")}
+    return lines + ([] if written == WRITTEN else [f"the container writes to {sorted(written)}"])
 
 
 def edited(old, new, name="base/deployment.yaml"):
@@ -264,6 +297,15 @@ MISTAKES = [
     (("  - service.yaml\n", "", "base/kustomization.yaml"), "there is no Service"),
     (("      - openlink.conf", "      - targets.json", "base/kustomization.yaml"), "no ConfigMap has openlink.conf"),
     (("listen 80;", "listen 8080;", "base/openlink.conf"), "the site [8080]"),
+    (("automountServiceAccountToken: false", "automountServiceAccountToken: true"), "a token of the cluster"),
+    (("        seccompProfile:\n          type: RuntimeDefault\n", "        seccompProfile: {}\n"), "type is missing"),
+    (("readOnlyRootFilesystem: true", "readOnlyRootFilesystem: false"), "version may write its root"),
+    (("                - ALL\n", "                - KILL\n"), "version keeps rights of root"),
+    (("              mountPath: /run\n", "              mountPath: /run\n              readOnly: true\n"),
+     "writes to ['/var/lib/nginx']"),
+    (("    - Egress\n", "", "base/network-policy.yaml"), "does not bound Egress"),
+    (("port: http\n", "port: page\n", "base/network-policy.yaml"), "the network policy opens ['page']"),
+    (("  - network-policy.yaml\n", "", "base/kustomization.yaml"), "there is no NetworkPolicy"),
 ]
 # Mistakes of an overlay, which only kubectl shows.
 MISTAKES_OF_OVERLAY = [

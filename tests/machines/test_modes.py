@@ -4,11 +4,14 @@ from __future__ import annotations
 
 import os
 import pathlib
+import shlex
 import shutil
 import tempfile
 
 from fixtures import needs
 from fixtures.cases import Case
+from fixtures.library import PYTHON
+from fixtures.library import UPDATE
 from fixtures.modes import UMASKS
 from fixtures.modes import mode_of
 from fixtures.modes import modes_below
@@ -33,14 +36,15 @@ class Modes(Case):
     def machine(self, umask: str) -> machines.Machine:
         there, shell = self.folder / umask, self.folder / f"shell-{umask}"
         there.mkdir()
+        update = shlex.join([*PYTHON, UPDATE, "--library", str(there)])
         shell.write_text(SHELL.format(umask=umask))
         shell.chmod(0o755)
-        return machines.Machine("other", str(shell), "openlink-update", there, 0)
+        return machines.Machine("other", str(shell), update, there, 0)
 
     def test_files_of_commands(self) -> None:
         for umask in UMASKS:
             machine = self.machine(umask)
-            machine.in_folder(machines._DRAIN)
+            machine.request("drain")
             machine.name_delivery(STAMP)
             self.expect(
                 f"umask {umask}",
@@ -62,5 +66,5 @@ class Modes(Case):
         for umask in UMASKS:
             machine = self.machine(umask)
             os.chmod(machine.folder, 0o755)
-            machine._copy(f"{source}/", f"{machine.folder}/east/versions/{STAMP}.sent/")
+            machine._copy(f"{source}/", f"east/versions/{STAMP}.sent/")
             self.expect(f"umask {umask}", modes_below(str(machine.folder)), ({0o755}, {0o644}))

@@ -40,6 +40,10 @@ class Images(Case):
         with open("packaging/kubernetes/base/deployment.yaml", encoding="utf-8") as file:
             entries = declarations.yaml(file.read())
         needed = [it.value for it in entries if it.name == "add" and "capabilities" in it.place]
+        container = "spec > template > spec > containers > 1 > volumeMounts"
+        mounted = [it for it in entries if it.place.startswith(container)]
+        kept = {it.place for it in mounted if it.name == "readOnly"}
+        written = [it.value for it in mounted if it.name == "mountPath" and it.place not in kept]
         with open(CONTAINER, encoding="utf-8") as file:
             command = re.search(r"^#   podman run (?:.*\\\n)*.*", file.read(), re.M)
         words = command[0].replace("\\\n#", "").split() if command else []
@@ -49,3 +53,5 @@ class Images(Case):
         given = [after.replace(",", ", ") for it, after in zip(words, words[1:]) if it == "--cap-add"]
         self.expect("rights that are given", given, needed)
         self.expect("no program gives more", "no-new-privileges" in words)
+        self.expect("the root is for reading alone", "--read-only" in words)
+        self.expect("what is written", [after for it, after in zip(words, words[1:]) if it == "--tmpfs"], written)

@@ -16,6 +16,7 @@ NAMES = [
     "base/disruption-budget",
     "base/ingress",
     "base/kustomization",
+    "base/network-policy",
     "base/service",
     "second/host",
     "second/kustomization",

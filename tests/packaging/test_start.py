@@ -170,7 +170,7 @@ class Starts(Container):
         self.expect(
             "nginx takes the place of the script",
             [it for it in calls if it.startswith("nginx")],
-            ["nginx -g daemon off; pid 1"],
+            [f"nginx -c {self.machine.folder}/etc/nginx/nginx.conf -g daemon off; pid 1"],
         )
         self.expect(
             "the processes",
@@ -190,10 +190,21 @@ class Starts(Container):
         self.begin(OPENLINK_WORKERS="3")
         self.wait_for("nginx is not started", lambda: any(it.startswith("nginx") for it in self.calls()))
         self.expect(
-            "nginx.conf",
-            self.read(f"{self.machine.folder}/etc/nginx/nginx.conf"),
+            "nginx.conf of the container",
+            self.read(f"{self.machine.folder}/run/nginx.conf"),
             "user www-data;\nworker_processes 3;\n",
         )
+        self.expect(
+            "that of the image, whose root is for reading alone",
+            self.read(f"{self.machine.folder}/etc/nginx/nginx.conf"),
+            "user www-data;\nworker_processes auto;\n",
+        )
+        self.expect(
+            "nginx reads it",
+            [it for it in self.calls() if f"nginx -c {self.machine.folder}/run/nginx.conf " in it] != [],
+        )
+        log = os.stat(f"{self.machine.folder}/run/openlink-wanted.log")
+        self.expect("nobody else reads the log", log.st_mode & 0o777, 0o640)
 
     def test_a_registry_that_cannot_be_loaded_is_refused(self) -> None:
         self.machine.make("resolve.status", "3")

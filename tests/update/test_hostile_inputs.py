@@ -258,7 +258,8 @@ class Fetches(Machine):
         state = (own / "state.json").read_text()
         shutil.rmtree(own)
         self.write(self.east / ".fetch/state.json", state.replace('"checked": "', '"checked": "1999-01-01", "x": "'))
-        self.write(self.east / ".fetch/lock")
+        for name in ("lock", "7"):
+            self.write(self.east / ".fetch" / name)
         self.write(self.east / "sources.tsv", f"law.txt\t{self.address}\tplain http; every 30 days\n")
         self.expect("it is due", self.fetch("law.txt")[1][-1], "1 file asked for, 0 new or changed, 0 not fetched")
         self.expect("where it was", (self.east / ".fetch").exists(), False)

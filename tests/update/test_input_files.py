@@ -362,6 +362,7 @@ class Writing(InputFiles):
             ("linked/new/file", "Unusable"),
             ("../outside/file", "Unusable"),
             (str(outside), "Unusable"),
+            ("", "Unusable"),
         ]
         for name, error in cases:
             self.expect(f"replace {name[:20]}", outcome(lambda: self.replace(name, b"other")), error)

@@ -119,11 +119,15 @@ class InputFolder:
 
     def replace(self, name: str, data: bytes, mode: int = 0o644) -> None:
         """Gives a file of the folder these bytes, which are on the disk before it gets them by a rename."""
-        root, parts = self._located(name)
-        if root is not self._own:
-            raise Unusable(errno.EXDEV, "outside of the input", str(self.place(name)))
-        root.replace(parts, data, mode)
+        self._own.replace(self._parts_of(name), data, mode)
 
-    def remove(self, name: str) -> None:
+    def remove(self, name: str | Path) -> None:
         """Removes a file of the folder, or a folder that is empty, if it exists."""
-        self._own.remove(Path(name).parts)
+        self._own.remove(self._parts_of(name))
+
+    def _parts_of(self, name: str | Path) -> tuple[str, ...]:
+        """The components of a path below the folder itself."""
+        root, parts = self._located(name)
+        if root is not self._own or not parts:
+            raise Unusable(errno.EXDEV, "not below the input", str(self.place(name)))
+        return parts

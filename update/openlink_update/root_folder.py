@@ -142,7 +142,7 @@ class RootFolder:
                     os.fchmod(file.fileno(), mode)
                     os.fsync(file.fileno())
                 os.rename(_UNFINISHED, parts[-1], src_dir_fd=folder, dst_dir_fd=folder)
-            except OSError:
+            except BaseException:
                 with contextlib.suppress(FileNotFoundError):
                     os.unlink(_UNFINISHED, dir_fd=folder)
                 raise

@@ -21,6 +21,7 @@ class Options:
     back: bool
     send: bool
     receive: str | None  # a stamp
+    take: list[str] | None  # a request of another machine, or nothing if sshd has it
     fetch: bool
     library: Path
     input: Path | None
@@ -52,8 +53,8 @@ class Options:
             return "--input is for one library alone"
         if self.send and (not self.to or self.names or self.all or self.fetch):
             return "--send needs --to, and sends what all libraries have"
-        if self.to and (self.dry_run or self.receive):
-            return "--to is not for --dry-run or --receive"
+        if self.to and (self.dry_run or self.receive or self.take is not None):
+            return "--to is not for --dry-run, --receive or --take"
         if self.receive and not is_stamp(self.receive):
             return "--receive needs the name of a version, a time of at most a day ahead"
         return None
@@ -138,6 +139,12 @@ def _add_processes(parser: argparse.ArgumentParser) -> None:
 def _add_machines(parser: argparse.ArgumentParser, mode: argparse._MutuallyExclusiveGroup) -> None:
     mode.add_argument("--send", action="store_true", help="make nothing, but send the versions in use to the others")
     mode.add_argument("--receive", metavar="STAMP", help="put in use the version that another machine has sent")
+    mode.add_argument(
+        "--take",
+        nargs=argparse.REMAINDER,
+        metavar="REQUEST",
+        help="carry out what another machine needs for a delivery, and nothing else; without arguments, what sshd got",
+    )
     parser.add_argument("--to", nargs="+", default=[], metavar="HOST", help="then send the versions to these machines")
     parser.add_argument("--shell", default=_SHELL, metavar="COMMAND", help=f"reaches another machine ({_SHELL})")
     parser.add_argument(

@@ -9,6 +9,7 @@ from openlink_update.machines.libraries import SHARED, Libraries
 from openlink_update.machines.library_updates import ALONE, Updates
 from openlink_update.machines.machines import deliver
 from openlink_update.machines.receiving import Receiver
+from openlink_update.machines.taking import take
 from openlink_update.outcome import (
     ALL_NEW,
     DEVICE,
@@ -43,6 +44,9 @@ def main(words: list[str] | None = None) -> int:
 
 
 def _run(options: Options) -> int:
+    if options.take is not None:
+        run = take(options)
+        return _run(run) if run else ALL_NEW
     if options.among is not None:
         return _update_one(options)
     status = None if options.send else _update_several(options, Libraries(options.library, options.site))

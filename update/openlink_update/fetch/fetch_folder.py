@@ -41,9 +41,11 @@ class FetchFolder:
         """Takes what an earlier release has remembered below the input."""
         with contextlib.suppress(OSError):
             self.write_state(self._input.read(f"{_BEFORE}/{_STATE}"))
-        for name in (f"{_BEFORE}/{_STATE}", f"{_BEFORE}/{_LOCK}", _BEFORE):
-            with contextlib.suppress(OSError):
-                self._input.remove(name)
+        with contextlib.suppress(OSError):
+            for path in map(Path, self._input.matches(f"{_BEFORE}/*")):
+                if path.name in (_STATE, _LOCK) or path.name.isdigit():
+                    self._input.remove(path)
+            self._input.remove(_BEFORE)
 
     @contextlib.contextmanager
     def locked(self) -> Iterator[None]:

@@ -14,6 +14,8 @@ and in that of a library
     versions/STAMP.sent/   a version that is being sent, and
     versions/STAMP.probes  its probes
 
+The other machine carries out the requests of taking.py alone, whatever the key of this one asks for.
+
 A delivery is named once every machine was tried. Those that missed a part of it keep the older name, which the balancer
 sees (front_door/health.js), and get what they miss with the next delivery or with --send."""
 import dataclasses
@@ -30,6 +32,7 @@ from typing import IO
 
 from openlink_update import children
 from openlink_update.disk import sync
+from openlink_update.fetch.sources import SECRETS
 from openlink_update.input_files import InputFolder
 from openlink_update.machines.libraries import SHARED, SITE, Libraries
 from openlink_update.outcome import ALL_NEW, KEPT, Failure, reset_signals
@@ -40,20 +43,13 @@ from openlink_update.site.probing import Probes
 from openlink_update.update_options import Options
 from openlink_update.versions.library import Library, is_stamp, stamp_after
 
-_ALONE = "."  # the library of a machine with one alone, by its place in the folder
+ALONE = "."  # the library of a machine with one alone, by its place in the folder
 SECONDS_TO_ASK, _SECONDS_TO_SEND, _SECONDS_TO_RECEIVE = 60, 3600, 3600
 MOST_BYTES = 4 * 2**20  # that another machine may print
 PROBES, _OF = "probes.tsv", "# hold in "
-# Commands for another machine, in its folder. A file gets its name by a rename, so that the health page sees it whole.
-# A library whose last run was killed has no version. Draining ends by itself, if the run is killed; an empty file is
-# the operator's.
-_UMASK = "umask 022"  # nginx reads as another user
-_STATE = """[ ! -e delivery ] || echo "delivery $(head -n 1 delivery)"
-for it in . *; do [ ! -L "$it/current" ] || [ -L "$it/before" ] || echo "$it $(readlink "$it/current")"; done"""
-_NAME_DELIVERY = "echo {stamp} >delivery.new && sync delivery.new && mv delivery.new delivery && sync ."
-_DRAIN = """[ -e drain ] && [ ! -s drain ] || {
-date -u -d '+20 minutes' +%Y%m%dT%H%M%SZ >drain.new && mv drain.new drain; }"""
-_END_DRAIN = "[ ! -s drain ] || rm drain"
+_FORCED = 'restrict,command="openlink-update --take"'
+# Of an input. Secrets stay here: another machine that has some loses them, since it fetches nothing.
+_NOT_SENT = (f"--filter=hide {SECRETS}", "--exclude=.fetch")
 
 
 def run(words: Sequence[str | Path], seconds: float) -> str:
@@ -108,7 +104,7 @@ def text_in(path: Path) -> str:
         return ""
 
 
-def _write(path: Path, text: str) -> None:
+def write(path: Path, text: str) -> None:
     """Writes a file as a whole."""
     new = path.with_name(f"{path.name}.new")
     new.write_text(text, encoding="utf-8")
@@ -144,7 +140,7 @@ class _Sendable:
                 door.start()
                 probes.keep_those_that_hold(probes.links(running))
         lines = (f"{probe.query}\t{' '.join(probe.targets) or 'none'}\n" for probe in probes.list)
-        _write(path, head + "".join(lines))
+        write(path, head + "".join(lines))
 
 
 def _sendable(options: Options) -> list[_Sendable]:
@@ -152,7 +148,7 @@ def _sendable(options: Options) -> list[_Sendable]:
     libraries = Libraries(options.library, options.site)
     every = []
     if libraries.has_one_alone() or options.input:
-        every.append(_sendable_of(_ALONE, options.library, Site(options.site), options.input))
+        every.append(_sendable_of(ALONE, options.library, Site(options.site), options.input))
     for name in libraries.names():
         every.append(_sendable_of(name, libraries.path(name), Site(libraries.path(name, SITE), options.site)))
     return [sendable for sendable in every if sendable]
@@ -177,20 +173,24 @@ class Machine:
     folder: Path
     drained: float
     delivery: str = ""
+    has_free_key: bool = False  # whether the maker's key may do there what it likes
     stamps: dict[str, str] = dataclasses.field(default_factory=dict)  # of the versions in use, by library
 
-    def command(self, text: str, seconds: float = SECONDS_TO_ASK) -> str:
-        return run([*shlex.split(self.shell), self.host, text], seconds)
+    def request(self, *words: str, seconds: float = SECONDS_TO_ASK) -> str:
+        """Has it carry out a request of taking.py. Returns what it prints."""
+        return run([*shlex.split(self.shell), self.host, f"{self._take()} {shlex.join(words)}"], seconds)
 
-    def in_folder(self, text: str) -> str:
-        return self.command(f"cd {shlex.quote(str(self.folder))} || exit\n{_UMASK}\n{text}")
+    def _take(self) -> str:
+        return shlex.join([*shlex.split(self.there), "--take"])
 
     def ask(self) -> None:
         """Asks for its delivery and the versions in use. What is no name of one counts as none."""
-        self.delivery, self.stamps = "", {}
-        for line in self.in_folder(_STATE).splitlines():
+        self.delivery, self.has_free_key, self.stamps = "", False, {}
+        for line in self.request("state").splitlines():
             name, _, text = line.partition(" ")
             stamp = text.removeprefix("versions/")
+            if (name, text) == ("key", "free"):
+                self.has_free_key = True
             if not is_stamp(stamp):
                 continue
             if name == "delivery" and stamp == text:
@@ -203,7 +203,7 @@ class Machine:
         what it says."""
         for sendable in lacking:
             self._send(sendable)
-        self.in_folder(_DRAIN)
+        self.request("drain")
         time.sleep(self.drained)
         faults = []
         for sendable in lacking:
@@ -211,20 +211,18 @@ class Machine:
                 self._receive(sendable)
             except Failure as failure:
                 faults.append(str(failure))
-        self.in_folder(_END_DRAIN)
-        if os.path.isdir(self._place(SHARED)):
-            self._copy(f"{self._place(SHARED)}/", f"{self._place(SHARED)}/")
+        self.request("end-drain")
+        if (self.folder / SHARED).is_dir():
+            self._copy(f"{self.folder / SHARED}/", f"{SHARED}/", *_NOT_SENT)
         if faults:
             raise Failure("\n".join(faults))
 
     def name_delivery(self, stamp: str) -> None:
-        self.in_folder(_NAME_DELIVERY.format(stamp=stamp))
-
-    def _place(self, name: str, *names: str) -> Path:
-        return self.folder.joinpath(name, *names)
+        self.request("name", stamp)
 
     def _copy(self, source: str, target: str, *options: str) -> None:
-        words = ["rsync", "-a", "--delete", "--mkpath", "--timeout=60", f"--rsync-path={_UMASK}; rsync"]
+        """Copies folders and plain files to a place below its folder of libraries."""
+        words = ["rsync", "-rt", "--delete", "--mkpath", "--timeout=60", f"--rsync-path={self._take()} rsync"]
         words += ["-e", self.shell, *options]
         run([*words, source, f"{self.host}:{target}"], _SECONDS_TO_SEND)
 
@@ -232,20 +230,18 @@ class Machine:
         """Sends a version and its probes, which changes nothing for readers."""
         name, stamp = sendable.name, sendable.stamp
         bases = [stamp] + ([self.stamps[name]] if name in self.stamps else [])
-        options = [f"--link-dest={self._place(name, 'versions', base)}" for base in bases]
-        to = self._place(name, "versions", stamp)
-        self._copy(f"{sendable.library.version(stamp)}/", f"{to}.sent/", *options)
+        to = f"{name}/versions/{stamp}"
+        self._copy(f"{sendable.library.version(stamp)}/", f"{to}.sent/", *(f"--link-dest=../{it}" for it in bases))
         self._copy(str(sendable.library.path(PROBES)), f"{to}.probes")
 
     def _receive(self, sendable: _Sendable) -> None:
         """Has it put a version in use, and then sends the input, from which it could make versions itself."""
-        self.in_folder(_DRAIN)
-        name, is_alone = sendable.name, sendable.name == _ALONE
-        words = [*shlex.split(self.there), *([] if is_alone else [name]), "--receive", sendable.stamp]
-        self.command(shlex.join(words), _SECONDS_TO_RECEIVE)
-        report(f"{self.host}: {'' if is_alone else f'{name}: '}{sendable.stamp} is in use")
+        self.request("drain")
+        name = sendable.name
+        self.request("receive", name, sendable.stamp, seconds=_SECONDS_TO_RECEIVE)
+        report(f"{self.host}: {'' if name == ALONE else f'{name}: '}{sendable.stamp} is in use")
         if os.path.isdir(sendable.input):
-            self._copy(f"{sendable.input}/", f"{self._place(name)}/input/")
+            self._copy(f"{sendable.input}/", f"{name}/input/", *_NOT_SENT)
 
 
 class Delivery:
@@ -263,7 +259,7 @@ class Delivery:
             for sendable in libraries:
                 sendable.keep_probes(options)
             machines = [Machine(host, options.shell, options.there, folder, options.drained) for host in options.to]
-            complete = [machine for machine in machines if does(machine, lambda each: self.complete(each, libraries))]
+            complete = [machine for machine in machines if does(machine, lambda each: self.complete(each, libraries, not options.send))]
             versions = "".join(f"{sendable.name} {sendable.stamp}\n" for sendable in libraries)
             named = self._name(complete, versions)
         missed = [machine.host for machine in machines if machine not in named]
@@ -272,9 +268,11 @@ class Delivery:
         return KEPT if missed else ALL_NEW
 
     @staticmethod
-    def complete(machine: Machine, libraries: list[_Sendable]) -> None:
-        """Sends a machine the versions that it lacks."""
+    def complete(machine: Machine, libraries: list[_Sendable], is_told: bool = False) -> None:
+        """Sends a machine the versions that it lacks. Says whether the key may do too much there, if that is told."""
         machine.ask()
+        if machine.has_free_key and is_told:
+            report(f"{machine.host}: the key may run any command there: write {_FORCED} before it in authorized_keys")
         lacking = [sendable for sendable in libraries if machine.stamps.get(sendable.name) != sendable.stamp]
         if lacking:
             machine.bring(lacking)
@@ -292,7 +290,7 @@ class Delivery:
             if machine.delivery == stamp or does(machine, lambda each: each.name_delivery(stamp))
         ]
         if stamp != named:
-            _write(self._path, f"{stamp}\n{versions}")
+            write(self._path, f"{stamp}\n{versions}")
             report(f"delivery {stamp}: {', '.join(['this machine', *(machine.host for machine in having)])}")
         return having
 

@@ -1,0 +1,304 @@
+// The limits of the front door's scripts: for each the last value that counts and the first one beyond it. Runs in njs,
+// which finds the modules and fold.js in a folder that test_javascript.py writes. Prints a line of JSON for each case:
+// the file whose limit it is and what it is, alone or with what it gives and what was expected; last how many there are.
+import completion from './completion.js';
+import contact from './contact.js';
+import door from './find.js';
+import folding from './fold.js';
+import identifying from './identifiers.js';
+import index from './index.js';
+import languages from './languages.js';
+import latex from './latex.js';
+import lists from './lists.js';
+import log from './log.js';
+import lookup from './lookup.js';
+import numbers from './numbers.js';
+import openurl from './openurl.js';
+import pages from './pages.js';
+import query from './query.js';
+import references from './references.js';
+import retractions from './retractions.js';
+import search from './search.js';
+
+globalThis.fold = folding;
+globalThis.words_en = { issn: '{}', byDoi: 'by {}' };
+globalThis.words_de = {};
+let count = 0;
+
+function expect(file, name, got, expected) {
+    count++;
+    console.log(JSON.stringify(got === expected ? [file, name] : [file, name, String(got), String(expected)]));
+}
+function repeated(text, times) {
+    const parts = [];
+    while (parts.length < times) parts.push(text);
+    return parts.join('');
+}
+// The numbers from 1 to `most`, each as `write` gives it.
+function counted(most, write) {
+    const found = [];
+    for (let i = 1; i <= most; i++) found.push(write(i));
+    return found;
+}
+function issn(number) { return '1000-' + String(1000 + number).slice(-3) + '0'; }
+function found(value) { return value === null ? 'none' : 'found'; }
+
+// ---------------------------------------------------------------- A request of nginx
+// The file of the index at a path: the lines of the keys that belong there, of titles by their keys.
+function fileOf(path, titles) {
+    const lines = [''];
+    Object.keys(titles).forEach((key) => {
+        const digits = index.hashed(key, 16);
+        if (path !== '/index/keys/' + digits.slice(0, 3)) return;
+        const name = '=~'.includes(key.charAt(0)) ? key.charAt(0) + digits.slice(3) : key;
+        titles[key].forEach((title) => { lines.push(name + '\t' + title); });
+    });
+    if (path === '/index/list/j/letters') lines.push('1\t1', 'a\t1\t1\t0');
+    return lines.length === 1 ? '' : lines.join('\n') + '\n';
+}
+// A request of a site whose index has these titles. It notes the paths that are read, and what the reader gets.
+function requestWith(args, titles) {
+    return {
+        uri: '/journals', method: 'GET', headersIn: {}, headersOut: {}, variables: {},
+        rawVariables: { args: Buffer.from(args) }, paths: [],
+        subrequest: function (path) {
+            this.paths.push(path);
+            return Promise.resolve({ status: 200, responseBuffer: Buffer.from(fileOf(path, titles)) });
+        },
+        return: function (status, text) { this.replied = text; }
+    };
+}
+function readBelow(r, folder) { return r.paths.filter((path) => path.startsWith(folder)).length; }
+
+// ---------------------------------------------------------------- What a request means
+async function testFurther(most, expected) {
+    const all = counted(most, issn);
+    const titles = {};
+    titles[all[0]] = ['j\tTides\t' + all.join(' ') + '\t'];
+    const q = await completion.queryOf(requestWith('issn=' + all[0], titles));
+    expect('completion', most + ' numbers of a title', q.further.map((it) => it.numbers.join(' ')).join(), expected);
+}
+async function testMaybe(most, expected) {
+    const titles = { '=tides': counted(most, (i) => 'j\tTides\t' + issn(i) + '\t') };
+    const q = await completion.queryOf(requestWith('rft.jtitle=Tides', titles));
+    expect('completion', most + ' titles of one name', q.maybe.length, expected);
+}
+// The first title has fourteen keys of similar titles, and the last key of the second one is in the index.
+async function testSimilar(name, keys, expected) {
+    const args = 'rft.jtitle=T%C3%BCde+and+B+(a):+b&rft.stitle=' + name;
+    const r = requestWith(args, { '~coast': ['j\tCoast\t1000-0010\t'] });
+    const q = await completion.queryOf(r);
+    expect('completion', keys + ' keys of similar titles', q.maybe.length, expected);
+    expect('completion', 'keys that are sought, of ' + keys, readBelow(r, '/index/keys/'), 2 + 16);
+}
+async function testLetters(most, expected) {
+    const title = 'Coast: ' + repeated('a', most - 7);
+    const q = await completion.queryOf(requestWith('rft.jtitle=' + title, { '=coast': ['j\tCoast\t1000-0010\t'] }));
+    expect('completion', 'a title of ' + most + ' characters', q.maybe.length, expected);
+}
+async function testCompletion() {
+    const two = '1000-0030 1000-0040,1000-0050 1000-0060';
+    await testFurther(6, two);
+    await testFurther(7, two);
+    await testMaybe(20, 20);
+    await testMaybe(21, 20);
+    await testSimilar('Coast', 16, 1);
+    await testSimilar('Coast:+c', 17, 0);
+    await testLetters(250, 1);
+    await testLetters(251, 0);
+}
+
+// A service that replies after that many milliseconds, on a clock of its own.
+let end = null;
+function replyAfter(milliseconds, work) {
+    globalThis.setTimeout = function (late, most) {
+        end = milliseconds < most ? null : late;
+        return 1;
+    };
+    globalThis.clearTimeout = function () {};
+    const reply = { status: 200, text: function () { return JSON.stringify({ message: work }); } };
+    globalThis.ngx = { fetch: function () {
+        if (end === null) return Promise.resolve(reply);
+        end();
+        return new Promise(function () {});
+    } };
+}
+async function testLookup() {
+    const ask = async function () {
+        const q = openurl.begun('id=doi:10.5555/a');
+        await lookup.complete({ variables: { openlink_lookup: 'http://127.0.0.1:8078' }, rawVariables: {} }, q);
+        return q;
+    };
+    replyAfter(2999, { title: ['Tides'] });
+    const early = await ask();
+    expect('lookup', 'within 3 seconds', early.first('rft.atitle'), 'Tides');
+    replyAfter(3000, { title: ['Tides'] });
+    const late = await ask();
+    expect('lookup', 'after 3 seconds', late.first('rft.atitle'), '');
+    replyAfter(0, { title: [repeated('a', 999) + 'b'], volume: repeated('1', 1000) + '2' });
+    const long = await ask();
+    expect('lookup', '1000 characters', long.first('rft.atitle'), repeated('a', 999) + 'b');
+    expect('lookup', '1001 characters', long.first('rft.volume'), repeated('1', 1000));
+}
+
+// ---------------------------------------------------------------- Texts of a request
+function testIdentifiers() {
+    const doi = (length) => '10.5555/' + repeated('a', length - 8);
+    expect('identifiers', '500 characters', found(identifying.identifierIn(doi(500), 'id')), 'found');
+    expect('identifiers', '501 characters', found(identifying.identifierIn(doi(501), 'id')), 'none');
+    const divided = function (lines) {
+        return identifying.identifierIn('10.5555/' + counted(lines - 1, (i) => '\n' + i).join(''), 'id')[1];
+    };
+    expect('identifiers', '10 lines', divided(10), '10.5555/123456789');
+    expect('identifiers', '11 lines', divided(11), '10.5555/123456789');
+    const pasted = (length) => repeated('a ', (length - 13) / 2) + '10.5555/abcde';
+    expect('identifiers', '999 pasted characters', found(identifying.pastedIn(pasted(999))), 'found');
+    expect('identifiers', '1000 pasted characters', found(identifying.pastedIn(pasted(999) + 'f')), 'found');
+    expect('identifiers', '1001 pasted characters', found(identifying.pastedIn(pasted(1001))), 'none');
+}
+function testNumbers() {
+    const within = (text) => numbers.numbersIn([text], numbers.ISSN, 1).length;
+    expect('numbers', '200 characters', within(repeated('a', 190) + ' 2901-0012'), 1);
+    expect('numbers', '201 characters', within(repeated('a', 191) + ' 2901-0012'), 0);
+    expect('numbers', '12 lines', within(repeated('a\n', 11) + '2901-0012'), 1);
+    expect('numbers', '13 lines', within(repeated('a\n', 12) + '2901-0012'), 0);
+}
+function testOpenurl() {
+    const core = 'rft_val_fmt=info:ofi/fmt:kev:mtx:dc&rft.source=';
+    [500, 501].forEach((length) => {
+        const q = openurl.queryOf(core + repeated('a', length));
+        expect('openurl', 'a source of ' + length + ' characters', q.first('rft.jtitle').length, 500);
+    });
+    const after = (most) => openurl.queryOf(core + 'Tides' + repeated('&rft.source=Silt', most - 2)
+        + '&rft.source=Coast+12(3):45-67').first('rft.volume');
+    expect('openurl', '6 sources', after(6), '12');
+    expect('openurl', '7 sources', after(7), '');
+    [4, 5].forEach((most) => {
+        const isbns = counted(most, (i) => 'isbn=978000000000' + i);
+        expect('openurl', most + ' ISBNs', openurl.queryOf(isbns.join('&')).isbns.length, 4);
+    });
+}
+function testQuery() {
+    [300, 301].forEach((most) => {
+        const q = new query.Query(counted(most, (i) => 'a=' + i).join('&'));
+        expect('query', most + ' pairs', q.given.a.length, 300);
+    });
+    const sent = (length) => openurl.requestText(new query.Query('a=' + repeated('x', length - 6) + '&b=1'));
+    expect('query', '12000 bytes', sent(12000).length, 12000);
+    expect('query', '12001 bytes', sent(12001).length, 11997);
+    [20, 21].forEach((most) => {
+        const q = new query.Query(repeated('rft.au=Li&', most));
+        expect('query', most + ' values of a key', q.all('rft.au').length, 20);
+    });
+    [50, 51].forEach((most) => {
+        const q = new query.Query('rft.atitle=a' + repeated('&+b', most));
+        expect('query', most + ' parts of a title', q.first('rft.atitle').split('&').length, 51);
+    });
+}
+function testReferences() {
+    const reference = ' 12(3):45-67';
+    const pagesIn = (length) => references.partsOf(repeated('a', length - 12) + reference, false).pages;
+    expect('references', '500 characters', pagesIn(500), '45-67');
+    expect('references', '501 characters', pagesIn(501), '45-6');
+}
+function testRetractions() {
+    const longest = '(this article has been retracted conference paper see ';
+    const left = (length) => retractions.withoutRemark('Silt' + longest + repeated('a', length - 55) + ')').length;
+    expect('retractions', 'a remark of 200 characters', left(200), 4);
+    expect('retractions', 'a remark of 201 characters', left(201), 205);
+}
+function testLatex() {
+    const braces = (most) => latex.plain(repeated('{', most) + 'a' + repeated('}', most));
+    expect('latex', '4 braces in each other', braces(4), 'a');
+    expect('latex', '5 braces in each other', braces(5), '{a}');
+    expect('latex', '2000 characters', latex.plain('{' + repeated('a', 1998) + '}').length, 1998);
+    expect('latex', '2001 characters', latex.plain('{' + repeated('a', 1999) + '}').length, 2001);
+}
+function testLog() {
+    [60, 61].forEach((length) => {
+        const q = new query.Query('rfr_id=info:sid/' + repeated('a', length));
+        expect('log', 'a source of ' + length + ' characters', log.sourceOf(q), 'info:sid/' + repeated('a', 60));
+    });
+}
+
+// ---------------------------------------------------------------- Pages
+function testContact() {
+    const day = Date.UTC(2026, 0, 1);
+    [day, day + 86399999].forEach((now) => {
+        const lines = contact.textOf('mailto:a@b', now).split('\n');
+        expect('contact', 'the 180th day after ' + now, lines[1], 'Expires: 2026-06-30T23:59:59Z');
+    });
+}
+function testLanguages() {
+    const chosen = (header) => languages.chosen(header, ['en', 'de']);
+    expect('languages', '500 bytes', chosen(repeated(' ', 498) + 'de'), 'de');
+    expect('languages', '501 bytes', chosen(repeated(' ', 499) + 'de'), 'en');
+    expect('languages', '20 ranges', chosen(repeated('fr,', 19) + 'de'), 'de');
+    expect('languages', '21 ranges', chosen(repeated('fr,', 20) + 'de'), 'en');
+    const offered = function (most) {
+        return languages.siteIn({ languages: counted(most - 1, () => 'fr').concat(['de']) }, '').language;
+    };
+    expect('languages', '100 languages', offered(100), 'de');
+    expect('languages', '101 languages', offered(101), 'en');
+}
+function testLists() {
+    const site = languages.siteIn({}, '');
+    const shown = function (most, rows) {
+        const all = counted(most, issn);
+        return lists.titleHtml({ kind: 'j', title: 'Tides', numbers: all, standard: all, rows }, site, '');
+    };
+    [4, 5].forEach((most) => {
+        const listed = /<p>([^<]*)<\/p>/.exec(shown(most, []))[1].split(', ').length;
+        expect('lists', most + ' numbers', listed, 4);
+    });
+    [12, 13].forEach((most) => {
+        const listed = shown(1, counted(most, (i) => 't' + i + ' 0 2001')).split('</li>').length - 2;
+        expect('lists', most + ' rows', listed, 12);
+    });
+}
+function testPages() {
+    const site = languages.siteIn({ languages: ['en', 'de'] }, '');
+    site.path = '/find';
+    [[3000, true], [3001, false]].forEach((it) => {
+        site.args = repeated('a', it[0]);
+        expect('pages', it[0] + ' bytes', pages.documentOf('a', 'a', [], site).includes('hreflang'), it[1]);
+    });
+    [[300, true], [301, false]].forEach((it) => {
+        const doi = '10.5555/' + repeated('a', it[0] - 8);
+        const text = pages.faultOf(503, languages.siteIn({}, ''), doi);
+        expect('pages', 'a DOI of ' + it[0] + ' characters', text.includes('https://doi.org/'), it[1]);
+    });
+}
+async function testFind(length, expected) {
+    const r = requestWith('q=' + repeated('a', length - 1) + 'b', {});
+    await door.list(r);
+    const text = /name="q"[^>]* value="([^"]*)"/.exec(r.replied)[1];
+    expect('find', length + ' characters', text, repeated('a', 199) + expected);
+}
+async function testSearch(words) {
+    const r = requestWith('', {});
+    await search.search(r, 'j', words, 1);
+    expect('search', words, readBelow(r, '/index/words/'), 6);
+}
+
+testIdentifiers();
+testNumbers();
+testOpenurl();
+testQuery();
+testReferences();
+testRetractions();
+testLatex();
+testLog();
+testContact();
+testLanguages();
+testLists();
+testPages();
+async function testAll() {
+    await testCompletion();
+    await testLookup();
+    await testFind(200, 'b');
+    await testFind(201, 'a');
+    await testSearch('ab bc cd de ef fg');
+    await testSearch('ab bc cd de ef fg gh');
+}
+testAll().then(() => { console.log(String(count)); });
