@@ -8,7 +8,6 @@ import functools
 import hashlib
 import json
 import re
-from pathlib import Path
 from typing import TypedDict
 
 from measuring import copies
