@@ -244,8 +244,9 @@ class Numbers(Case):
             address = f"https://press.example.com/?{{{'k' * count}}}"
             self.expect(f"a name of {count}", Source("a", address).names(), wanted)
         for text, wanted in (("every 99999 days", 99_999), ("least 999999999 rows", 999_999_999)):
-            self.expect(text, list(sources._options_of([text]).values())[-1], wanted)
+            source = sources._with_option(Source("a", "https://press.example.com/"), text)
+            self.expect(text, source.every if "every" in text else source.least, wanted)
         for text in ("every 100000 days", "least 1000000000 rows"):
             with self.assertRaises(sources.Wrong):
-                sources._options_of([text])
+                sources._with_option(Source("a", "https://press.example.com/"), text)
             self.compared += 1

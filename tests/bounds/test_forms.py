@@ -109,12 +109,12 @@ class FrontDoor(Case):
             with open(f"front_door/{name}.js", encoding="utf-8") as file:
                 values.update({f"{name} {key}": int(value) for key, value in numbers.of_script(file.read())})
         pairs = {
-            "index KEY_DIGITS": title_index.DIGITS,
-            "index HASH_DIGITS": title_index.KEY_DIGITS - title_index.DIGITS,
-            "index MOST_LINES": title_index.MOST_LINES,
+            "index KEY_DIGITS": title_index._DIGITS,
+            "index HASH_DIGITS": title_index._KEY_DIGITS - title_index._DIGITS,
+            "index MOST_LINES": title_index._MOST_LINES,
             "index PAGE": title_list.PAGE,
             "titles MOST_CHARACTERS": titles.MOST_CHARACTERS,
-            "search MOST_FEW": word_sets.FEW,
+            "search MOST_FEW": word_sets._FEW,
         }
         self.expect("they are equal", {name: values.get(name) for name in pairs}, pairs)
 

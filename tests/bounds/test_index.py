@@ -41,19 +41,17 @@ class Files(Case):
 
     def test_bytes_of_places(self) -> None:
         """Those of the places of all words of a file."""
-        every = list(range(0, 8 * 2**20, 2))
-        words = [(b"a%d" % number, every, True) for number in range(5)]
-        self.expect("places of a word, as bits", len(word_sets.bits_of(every)), 2**20)
-        lines = word_sets.data_of(words, 2**20).split(b"\n")[1:5]
-        self.expect("four words have 4 MiB", lines, [b"a%d\t4194304\t#%d" % (it, it * 2**20) for it in range(4)])
-        self.expect("a fifth is left out", b"a4\t" in word_sets.data_of(words, 2**20)[:200], False)
-        self.expect("and each of a byte more", word_sets.data_of([(b"a", [8 * MIB_4 - 1], True)], 0)[-1:], b"\x01")
-        self.expect("a word of a byte more", word_sets.data_of([(b"a", [8 * MIB_4], True)], 0), b"2\n")
+        every = array.array("I", range(0, 8 * 2**20, 2))
+        self.expect("places of a word, as bits", len(word_sets._bits_of(every)), 2**20)
+        line = word_sets._Line(b"aa", every, True)
+        for most, wanted in ((2**20 - 26, [b"aa"]), (2**20 - 25, [])):
+            kept = [it.word for it in word_sets._with_most_titles([line], most)]
+            self.expect(f"{most} bytes of places beside 26 others", kept, wanted)
 
     def test_lines_of_a_key(self) -> None:
         for count in (50, 51):
             lines = [b"key\t%02d" % number for number in range(count)] + [b"other\t"]
-            self.expect(f"{count} lines", list(title_index.few_of_each_key(lines)), lines[:50] + lines[-1:])
+            self.expect(f"{count} lines", list(title_index._few_of_each_key(lines)), lines[:50] + lines[-1:])
 
     def test_digits_of_names(self) -> None:
         for count, wanted in ((1000, 1), (1001, 2), (20_000, 2), (20_001, 3)):
@@ -120,9 +118,9 @@ class OfTitles(Case):
         for count in (5, 6):
             every = Titles()
             every.add_table("a", Table(header, [list(row) for row in rows[: count + 1]]))
-            found, related = every.finish()
-            first = next(it for it in found if it.name == "Before")
-            self.expect(f"{count} later ones", [len(it) for it in related[first]], [0, 5])
+            grouped = every.finish()
+            related = grouped.related[next(it for it in grouped.titles if it.name == "Before")]
+            self.expect(f"{count} later ones", (len(related.earlier), len(related.later)), (0, 5))
 
 
 def check_of(digits: str) -> str:
@@ -143,7 +141,7 @@ class OfWords(Case):
 
     def test_new_words(self) -> None:
         """Once there are ANY_NEW different words, a title brings four at most; those that others have count always."""
-        kept, word_sets.ANY_NEW = word_sets.ANY_NEW, 10
+        kept, word_sets._ANY_NEW = word_sets._ANY_NEW, 10
         try:
             for first, wanted in ((5, 5), (6, 4), (10, 4)):
                 old = [f"old{number}" for number in range(first)]
@@ -155,8 +153,8 @@ class OfWords(Case):
                     f"after {first} words, an old one", list(word_sets.places_by_head(pages)["old"]["old0"]), [0, 1]
                 )
         finally:
-            word_sets.ANY_NEW = kept
-        self.expect("words of all titles", word_sets.ANY_NEW, 100_000)
+            word_sets._ANY_NEW = kept
+        self.expect("words of all titles", word_sets._ANY_NEW, 100_000)
 
     def test_heads(self) -> None:
         """Words of three letters and more are by their first three; shorter beginnings are with all their words."""
@@ -169,7 +167,7 @@ class OfWords(Case):
         )
         self.expect(
             "lines",
-            sorted((head, line[0], line[2]) for head, line in word_sets.all_lines(pages)),
+            sorted((head, line.word.decode(), line.has_all) for head, line in word_sets._all_lines(pages)),
             [("ab", "ab", True), ("abc", "abc", False), ("abc", "abcd", False), ("abd", "abdx", False)],
         )
 
@@ -178,7 +176,7 @@ class OfWords(Case):
         for count, wanted in ((64, ["aab", "aac"]), (65, ["aa", "aab", "aac"])):
             places = {"aab": list(range(count - 1)), "aac": [7]}
             sets = {word: array.array("I", it) for word, it in places.items()}
-            self.expect(f"{count} places", [line[0] for line in word_sets.lines_of(sorted(sets), sets)], wanted)
+            self.expect(f"{count} places", [line.word.decode() for line in word_sets._lines_of(sorted(sets), sets)], wanted)
 
 
 class OfPages(Case):
@@ -191,7 +189,7 @@ class OfPages(Case):
         """It has as many characters as it needs, at most 32."""
         for length, wanted in ((31, 32), (32, 32), (40, 32)):
             pages = [("a", [title("a" * length + "b")]), ("a", [title("a" * length + "c")])]
-            self.expect(f"{length} alike", [len(it) for it in title_list.starts_of(pages).split(";")], [2, wanted])
+            self.expect(f"{length} alike", [len(it) for it in title_list._starts_of(pages).split(";")], [2, wanted])
 
     def test_a_file(self) -> None:
         """A key of more titles than it may have lines, in the file itself."""

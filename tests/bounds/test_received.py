@@ -71,11 +71,11 @@ class Tables(Case):
     def test_lines(self) -> None:
         said = "it has 2,000,001 lines, and a table may have 2,000,000: is it a table of holdings?"
         for name, end in (("LF", b"\n"), ("CR LF", b"\r\n"), ("CR", b"\r")):
-            self.expect(f"2,000,000, {name}", reason(limits.check, end * 2_000_000), "")
-            self.expect(f"2,000,001, {name}", reason(limits.check, end * 2_000_001), said)
-            self.expect(f"2,000,000 without a last end, {name}", reason(limits.check, end * 1_999_999 + b"x"), "")
-            self.expect(f"2,000,001 without a last end, {name}", reason(limits.check, end * 2_000_000 + b"x"), said)
-        self.expect("a text", reason(limits.check, "\n" * 2_000_001), said)
+            self.expect(f"2,000,000, {name}", reason(limits.check_bytes, end * 2_000_000), "")
+            self.expect(f"2,000,001, {name}", reason(limits.check_bytes, end * 2_000_001), said)
+            self.expect(f"2,000,000 without a last end, {name}", reason(limits.check_bytes, end * 1_999_999 + b"x"), "")
+            self.expect(f"2,000,001 without a last end, {name}", reason(limits.check_bytes, end * 2_000_000 + b"x"), said)
+        self.expect("a text", reason(limits.check_text, "\n" * 2_000_001, 1), said)
 
     def test_header(self) -> None:
         """It is among the first twenty lines, and has three names of the standard."""
@@ -84,7 +84,7 @@ class Tables(Case):
         self.expect("in line 21", headers.find(["x"] * 20 + [head]), (None, "\t"))
         self.expect("two names", headers.find([head.rpartition("\t")[0] + "\tmine"]), (None, "\t"))
         table = preparation.read(f"{'about' * 3}\n{head}\na\tb\tc\n".encode())
-        self.expect("what stands above it is left out", table[1], [["a", "b", "c"]])
+        self.expect("what stands above it is left out", table.rows, [["a", "b", "c"]])
 
     def test_web_page(self) -> None:
         """It begins within the first 10,000 characters."""
@@ -98,13 +98,13 @@ class Archives(Case):
     def test_bytes(self) -> None:
         """Of the file that is unpacked, while it is unpacked."""
         said = "more than 256 MB when unpacked: ask the provider for smaller files"
-        self.expect("256 MB", (limits.MOST_BYTES, reason(limits.check_size, 256 * 2**20)), (268_435_456, ""))
+        self.expect("256 MB", (limits._MOST_BYTES, reason(limits.check_size, 256 * 2**20)), (268_435_456, ""))
         self.expect("and a byte", reason(limits.check_size, 256 * 2**20 + 1), said)
         packers: dict[str, Callable[[bytes], bytes]] = {
             "gzip": gzip.compress,
             "zip": lambda data: zipped(["table.txt"], data),
         }
-        with mock.patch.object(limits, "MOST_BYTES", 5000):
+        with mock.patch.object(limits, "_MOST_BYTES", 5000):
             for name, pack in packers.items():
                 self.expect(f"the last, {name}", archives.unpacked(pack(bytes(5000))), bytes(5000))
                 self.expect(f"beyond, {name}", reason(archives.unpacked, pack(bytes(5001))), said)

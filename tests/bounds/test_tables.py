@@ -84,7 +84,7 @@ class Parts(Case):
         """Of the whole table with its header, and of each part of a larger one."""
         table = self.table(16, 1_000_000)
         size = len(table.to_bytes())
-        table.rows[0][0] += "x" * (parts.MOST_BYTES - size)
+        table.rows[0][0] += "x" * (parts._MOST_BYTES - size)
         self.expect("16 MiB", (len(table.to_bytes()), list(parts.parts_of("a", table, 2**24))), (16_777_216, ["a"]))
         table.rows[0][0] += "x"
         found = parts.parts_of("a", table, 2**24 + 1)

@@ -111,7 +111,7 @@ class Exports(Case):
     def test_bytes_of_a_part(self) -> None:
         """A document for Google Scholar has at most a million bytes, not characters, if one item has not more."""
         rest = len(next(scholar.holdings([])))
-        last = (scholar.MOST_BYTES - rest) // 2
+        last = (scholar._MOST_BYTES - rest) // 2
         for name, items, wanted in (
             ("the last", ["x" * last, "y" * last], 1),
             ("beyond", ["x" * last, "y" * (last + 2)], 2),
@@ -121,4 +121,4 @@ class Exports(Case):
             parts = list(scholar.holdings(items))
             self.expect(f"{name}: {[len(it) for it in parts]}", len(parts), wanted)
             self.expect(f"{name}: all items", sum(len(it) - rest for it in parts), sum(map(len, items)))
-        self.expect("a million", scholar.MOST_BYTES, 1_000_000)
+        self.expect("a million", scholar._MOST_BYTES, 1_000_000)
