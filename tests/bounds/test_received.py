@@ -108,7 +108,7 @@ class Archives(Case):
             for name, pack in packers.items():
                 self.expect(f"the last, {name}", archives.unpacked(pack(bytes(5000))), bytes(5000))
                 self.expect(f"beyond, {name}", reason(archives.unpacked, pack(bytes(5001))), said)
-                with mock.patch.object(archives, "CHUNK", 100):
+                with mock.patch.object(archives, "_CHUNK", 100):
                     self.expect(f"in pieces, {name}", reason(archives.unpacked, pack(bytes(5001))), said)
 
     def test_members(self) -> None:

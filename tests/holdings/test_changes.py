@@ -9,6 +9,7 @@ import json
 import os
 from collections.abc import Callable
 from typing import Any
+from pathlib import Path
 from unittest import mock
 
 from fixtures import needs
@@ -27,8 +28,8 @@ WRITTEN = "it changed while it was read: update again when it is written"
 
 
 def differences(conf: str, names: list[str]) -> list[str]:
-    site = Site(conf)
-    return site.differences(names, site.targets_path())
+    path = Path(Site(conf).targets_path())
+    return Site.differences(names, path, path.read_bytes() if path.is_file() else b"")
 
 
 class Writing(Program):
