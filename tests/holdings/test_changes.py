@@ -8,8 +8,8 @@ import gzip
 import json
 import os
 from collections.abc import Callable
-from typing import Any
 from pathlib import Path
+from typing import Any
 from unittest import mock
 
 from fixtures import needs
