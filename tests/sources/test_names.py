@@ -24,7 +24,8 @@ LEAST_FILES, LEAST_NAMES, LEAST_USERS = 30, 2000, 5
 # What njs, node and nginx declare. The last two are objects that nginx has loaded.
 GLOBALS = set(
     """Array Boolean Buffer Date Error JSON Math Number Object Promise RegExp String clearTimeout console
-    decodeURIComponent encodeURIComponent globalThis isNaN NaN ngx njs parseInt process setTimeout undefined fold targets
+    decodeURIComponent encodeURIComponent globalThis isNaN NaN ngx njs parseInt process setTimeout undefined fold
+    targets
     """.split()
 )
 BUILT_IN = {"fs", "crypto"}

@@ -7,6 +7,7 @@ __all__ = [
     "dropped_rows",
     "embargo",
     "identifiers",
+    "link_hosts",
     "parts",
     "preparation",
     "registry",
