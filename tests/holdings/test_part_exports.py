@@ -130,7 +130,7 @@ class PartExports(Case):
             self.expect(
                 "the list has each title once",
                 letters[1:4],
-                [f"{COUNT + 1}\t1", f"t\t0\t1\t{COUNT}\tti", "w\t1\t1\t1\twa"],
+                [f"{COUNT + 1}\t1", f"t\t0\t1\t{COUNT}", "w\t1\t1\t1"],
             )
 
     def test_exports(self) -> None:

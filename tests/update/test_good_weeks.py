@@ -237,7 +237,7 @@ class GoodWeeks(Case):
         """A table beyond 16 MiB is two targets for the processes and one for readers, forward and back."""
         with Library() as library:
             small = library.names()
-            library.input.allowed["coastal-law"] = "gone up to 100%; less than half of the rows"
+            library.input.allowed["coastal-law"] = "gone up to 100%; less than half of the rows; came up to 15000%"
             library.input.write_list()
             cells = TITLE.split("\t")
             numbers = [f"{4000000 + number}X" for number in range(300)]

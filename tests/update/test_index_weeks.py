@@ -94,6 +94,8 @@ class IndexWeeks(Case):
         with Library() as library:
             rows = [TITLE.replace("Papers on Piers", f"Papers {number}").replace("3030-0009", f"{4000000 + number}X")
                     .replace("3030-0017", "").encode() for number in range(3000)]
+            library.input.allowed["coastal-law"] = "came up to 150000%"
+            library.input.write_list()
             library.input.add_row("coastal-law", b"\n".join(rows))
             status, printed = library.run()
             self.expect(f"3000 more titles: {printed}", (status, len(names_of(library, "keys")) > 3000), (0, True))
