@@ -51,7 +51,7 @@ function version(q) {
 function fields(q) {
     if (!q.has('number') && !q.has('identifier')) return;
     const isIsbn = numbers.numbersIn([q.first('number')], numbers.ISBN, 1).length > 0;
-    q.copy('number', isIsbn ? 'rft.isbn' : 'rft.issn');
+    if (!query.isAny(q.first('number'))) q.copy('number', isIsbn ? 'rft.isbn' : 'rft.issn');
     q.copy('identifier', is(/^\s*\d{1,9}\s*$/, q.first('identifier')) ? 'pmid' : 'id');
 }
 

@@ -35,6 +35,8 @@ function isColumn(key) {
     return (key.includes('_') || key === 'notes') && !is(OF_OPENURL, key)
         && (isIn(COLUMNS, key) || isIn(ADDED_COLUMNS, key));
 }
+// Whether a value is the one by which targets that reply to every request are found, as the program reads it.
+function isAny(value) { return is(ANY, value); }
 function isDropped(key, value) {
     return value.trim() === '' || key.startsWith('x.') || isColumn(key)
         || (key === 'rft_id' && is(PREFIX, value))
@@ -240,4 +242,4 @@ Query.prototype.parts = function (first, omitted, isShort) {
     return parts;
 };
 
-export default { Query, OLD_KEYS, NONE };
+export default { isAny, Query, OLD_KEYS, NONE };

@@ -176,7 +176,8 @@ class OfWords(Case):
         for count, wanted in ((64, ["aab", "aac"]), (65, ["aa", "aab", "aac"])):
             places = {"aab": list(range(count - 1)), "aac": [7]}
             sets = {word: array.array("I", it) for word, it in places.items()}
-            self.expect(f"{count} places", [line.word.decode() for line in word_sets._lines_of(sorted(sets), sets)], wanted)
+            lines = word_sets._lines_of(sorted(sets), sets)
+            self.expect(f"{count} places", [line.word.decode() for line in lines], wanted)
 
 
 class OfPages(Case):

@@ -74,7 +74,8 @@ class Tables(Case):
             self.expect(f"2,000,000, {name}", reason(limits.check_bytes, end * 2_000_000), "")
             self.expect(f"2,000,001, {name}", reason(limits.check_bytes, end * 2_000_001), said)
             self.expect(f"2,000,000 without a last end, {name}", reason(limits.check_bytes, end * 1_999_999 + b"x"), "")
-            self.expect(f"2,000,001 without a last end, {name}", reason(limits.check_bytes, end * 2_000_000 + b"x"), said)
+            beyond = reason(limits.check_bytes, end * 2_000_000 + b"x")
+            self.expect(f"2,000,001 without a last end, {name}", beyond, said)
         self.expect("a text", reason(limits.check_text, "\n" * 2_000_001, 1), said)
 
     def test_header(self) -> None:
