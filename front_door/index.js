@@ -46,7 +46,7 @@ function linesWith(bytes, beginning, most) {
     }
     return found;
 }
-// The first characters of the line that begins after a place; null if no line has so many.
+// The first characters of the line that begins after a place; null if no line has that many.
 const CUT = 4;  // bytes at the end of a part may be those of half a character
 function startAfter(bytes, place, length) {
     for (let size = PROBED_BYTES; ; size *= 8) {

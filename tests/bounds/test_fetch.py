@@ -69,7 +69,7 @@ class Bytes(Case):
         self.addCleanup(shutil.rmtree, self.folder)
 
     def end_of(self, most: int, *steps: Step) -> tuple[bool, str | None, int]:
-        """How a download ends that may take so many bytes: whether it is whole, its error, and its tries."""
+        """How a download ends that may take this number of bytes: whether it is whole, its error, and its tries."""
         self.provider.steps = {"/table": list(steps)}
         body = self.folder / "body"
         body.write_bytes(b"")

@@ -1,4 +1,4 @@
-"""Texts of which only so many characters or digits count: names, numbers, entities, limits in lists, and options."""
+"""Texts of which few characters or digits count: names, numbers, entities, limits in lists, and options."""
 from __future__ import annotations
 
 import os

@@ -34,7 +34,7 @@ class Hosts(Case):
                 self.expect(f"{count}, {name}", len(found), int(count > most))
 
     def test_few_rows(self) -> None:
-        """Three rows: hosts of so many are usual in a table that has many of them, and an address of so many none."""
+        """Three rows: in a table that has many such hosts, a new one is usual; an address in three rows is fine."""
         usual = several("a", 20, 3)
         for rows, wanted in ((3, 0), (4, 1)):
             self.expect(f"a new host of {rows} rows", new(usual, {**usual, "b": rows}), wanted)

@@ -26,7 +26,7 @@ from openlink_update.site import targets_file
 
 
 def nested(depth: int) -> bytes:
-    """An object that has lists in each other, so many of both."""
+    """An object that has lists in each other, with these numbers of both."""
     return b'{"a": ' + b"[" * (depth - 1) + b"1" + b"]" * (depth - 1) + b"}"
 
 

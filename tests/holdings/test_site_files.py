@@ -35,7 +35,7 @@ def of_size(size: int) -> bytes:
 
 
 def nested(depth: int) -> bytes:
-    """A file with so many lists in each other, in the object of the file; only the last has another."""
+    """A file with this number of lists in each other, in the object of the file; only the last has another."""
     return ('{"groups": ' + "[" * (depth - 1) + "]" * (depth - 1) + "}").encode()
 
 

@@ -3,6 +3,7 @@ from __future__ import annotations
 
 import glob
 import os
+import re
 import shlex
 import shutil
 import stat
@@ -37,9 +38,9 @@ def here(machine, safe, line):
     """A command of the chapter, with the paths of the folder that stands for the machine."""
     update = shlex.join([sys.executable, "-S", "-B", f"{machine.share}/update", *machine.update_words("--all")])
     test = f"nginx -t -c {machine.path('etc/nginx/nginx.conf')} -p {machine.folder} -e {machine.path('test.log')}"
-    for old, new in ((" /etc/", f" {machine.path('etc')}/"), (" /var/", f" {machine.path('var')}/"),
-                     (" -C / ", f" -C {machine.folder} "), (" /root/", f" {safe}/")):
-        line = line.replace(old, new)
+    places = {" /var/backups/": f" {safe}/", " /etc/": f" {machine.path('etc')}/", " /var/": f" {machine.path('var')}/",
+              " -C / ": f" -C {machine.folder} "}
+    line = re.sub("|".join(places), lambda found: places[found[0]], line)
     if line.startswith("chown ") and os.getuid() != 0:
         return "true"
     return {"openlink-update --all": update, "nginx -t": test}.get(line, line)

@@ -88,7 +88,7 @@ def places_of(table: Table, most_bytes: int, most_rows: int) -> list[Sequence[in
 
 
 def parts_of(target: str, table: Table, size: int) -> dict[str, Sequence[int]]:
-    """The names of the parts of a table of so many bytes, each with the places of its rows."""
+    """The names of the parts of a table with this number of bytes, each with the places of its rows."""
     if size <= _MOST_BYTES and len(table.rows) <= MOST_ROWS:
         return {target: range(len(table.rows))}
     places = places_of(table, _MOST_BYTES, MOST_ROWS)
