@@ -64,7 +64,7 @@ def marked(query: str) -> str:
 
 
 def _get(address: str, target: str) -> tuple[int, str]:
-    """The status and the text that an address gives for a path with a query, asked again while it says that requests come too fast."""
+    """The status and the text that an address gives for a path with a query; it waits while too many came."""
     for _ in range(_TRIES):
         status, text = _get_now(address, target)
         if status != _TOO_MANY:
