@@ -92,7 +92,8 @@ def is_open(port: int) -> bool:
 def free_port() -> int:
     """A port at which nothing listens. No process gets it from here again until this one ends: for so long it holds the
     name openlink-port-N of an abstract socket. A Failure says that there is none: any user can take these names."""
-    for port in random.sample(_PORTS, len(_PORTS)):
+    first = random.randrange(len(_PORTS))
+    for port in (*_PORTS[first:], *_PORTS[:first]):
         claim = socket.socket(socket.AF_UNIX)
         try:
             claim.bind(f"\0openlink-port-{port}")
