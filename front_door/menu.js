@@ -1,5 +1,6 @@
 // The reader's page and its JSON: the citation of a request, and the links of a menu in the groups of targets.json.
 // text.js says in which njs it runs.
+import addresses from './addresses.js';
 import citation from './citation.js';
 import coverage from './coverage.js';
 import form from './form.js';
@@ -108,7 +109,7 @@ function actionsHtml(q, site) {
 // What is said of a request without full text: only what is certain.
 const NOTICES = {
     number: 'nothing', held: 'held', title: 'unknownTitle', unlisted: 'numberMissing', identifier: 'numberAlone',
-    nothing: 'incomplete'
+    nothing: 'incomplete', page: 'onlyPage'
 };
 function hasNotice(q, groups) { return groups[0].links.length === 0 && q.maybe.length === 0 && !q.isEmpty(); }
 // A journal of the first group may have no link because the request has no year or no volume. Then the page says
@@ -128,10 +129,11 @@ function heldIn(q, group, site) {
         return isOfGroup && coverage.mayHave(row, q.first('rft.date').slice(0, 4));
     };
 }
-function noticeHtml(q, groups, site) {
+function noticeHtml(q, groups, hasPage, site) {
     if (!hasNotice(q, groups)) return '';
     const known = knowledgeOf(q, groups, site);
-    const parts = [pages.notice(NOTICES[known] || 'incomplete', site)];
+    const name = hasPage && known === 'number' ? 'page' : known;
+    const parts = [pages.notice(NOTICES[name] || 'incomplete', site)];
     const isHeld = heldIn(q, groups[0], site);
     if (known === 'held') q.titles.forEach((it) => { parts.push(lists.rowsHtml(it, site, isHeld)); });
     return parts.filter(Boolean).join('\n');
@@ -149,6 +151,14 @@ function foundHtml(q, site) {
 }
 function listHtml(heading, items) {
     return `<h2>${escape(heading)}</h2>\n<ul>\n${items.join('\n')}\n</ul>`;
+}
+// The groups that a reader sees, and after that of the full text the pages of the title.
+function listsHtml(groups, offered, site) {
+    const toHtml = (link) => linkHtml(link, site);
+    const shown = shownGroups(groups).map((g) => listHtml(g.label || g.name, g.links.map(toHtml)));
+    const pagesHtml = offered.length > 0 ? [listHtml(word(site, 'titlePages'), offered.map(toHtml))] : NONE;
+    const place = groups[0].links.length > 0 ? 1 : 0;
+    return shown.slice(0, place).concat(pagesHtml, shown.slice(place));
 }
 function maybeHtml(q, site) {
     if (q.maybe.length === 0) return '';
@@ -169,11 +179,10 @@ function pageOf(q, groups, site) {
     const put = (html) => { if (html !== '') body.push(html); };
     put(foundHtml(q, site));
     if (q.isRetracted) put(`<p class="retracted"><strong>${escape(word(site, 'retracted'))}</strong></p>`);
-    put(noticeHtml(q, groups, site));
+    const offered = addresses.pagesOf(q, groups, site);
+    put(noticeHtml(q, groups, offered.length > 0, site));
     put(maybeHtml(q, site));
-    shownGroups(groups).forEach((g) => {
-        body.push(listHtml(g.label || g.name, g.links.map((link) => linkHtml(link, site))));
-    });
+    listsHtml(groups, offered, site).forEach(put);
     if (q.titles.length > 0) q.titles[0].related.forEach((it) => { body.push(relatedHtml(it, site)); });
     put(completeHtml(q, groups, site));
     put(actionsHtml(q, site));
@@ -190,6 +199,8 @@ function dataOf(q, groups, site) {
     if (q.maybe.length > 0) {
         data.maybe = q.maybe.map((it) => ({ title: it.title, numbers: it.standard }));
     }
+    const offered = addresses.pagesOf(q, groups, site);
+    if (offered.length > 0) data.pages = offered.map((it) => ({ target: it.target, label: it.label, url: it.url }));
     return data;
 }
 

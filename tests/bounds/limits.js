@@ -2,6 +2,7 @@
 // which finds the modules and fold.js in a folder that test_javascript.py writes. Prints a line of JSON for each case:
 // the file whose limit it is and what it is, alone or with what it gives and what was expected; last how many there
 // are.
+import addresses from './addresses.js';
 import completion from './completion.js';
 import contact from './contact.js';
 import door from './find.js';
@@ -257,6 +258,15 @@ function testLists() {
         expect('lists', most + ' rows', listed, 12);
     });
 }
+function testAddresses() {
+    const q = new query.Query('rft.issn=1000-0010');
+    [4, 5].forEach((most) => {
+        const rows = counted(most, (i) => 't ' + i + ' 200' + i + ' 200' + i);
+        q.titles = [{ kind: 'j', pages: [{ target: 't', url: 'https://e.org/' }], rows }];
+        const found = addresses.pagesOf(q, [], languages.siteIn({}, ''));
+        expect('addresses', most + ' rows', found[0].covered, '2001; 2002; 2003; 2004');
+    });
+}
 function testPages() {
     const site = languages.siteIn({ languages: ['en', 'de'] }, '');
     site.path = '/find';
@@ -293,6 +303,7 @@ testLog();
 testContact();
 testLanguages();
 testLists();
+testAddresses();
 testPages();
 async function testAll() {
     await testCompletion();

@@ -36,6 +36,9 @@ class Scripts(Case):
         for what, *pair in cases:
             self.expect(what, pair[:1], pair[1:])
 
+    def test_addresses(self) -> None:
+        self.check("addresses")
+
     def test_completion(self) -> None:
         self.check("completion", 10)
 

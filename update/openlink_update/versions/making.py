@@ -11,6 +11,7 @@
     earlier.tsv            see earlier_files.py
     allowed.tsv            a target, words of its line that allow warnings, and the number up to which they do
     hosts.tsv              see host_judge.py
+    undated.tsv            see undated_links.py
     index/                 the index of titles, for the front door
     prepared/              only until the index and the exports are made: see prepared_tables.py
 
@@ -36,7 +37,7 @@ from openlink_update.shown_text import amount
 from openlink_update.tables import date_order, dropped_rows, row_changes
 from openlink_update.tables.preparation import Prepared
 from openlink_update.tables.table import Table
-from openlink_update.versions import earlier_files, host_judge, shared_tables
+from openlink_update.versions import earlier_files, host_judge, shared_tables, undated_links
 from openlink_update.versions.earlier_files import EarlierFiles
 from openlink_update.versions.judging import Judge
 from openlink_update.versions.prepared_tables import PreparedTables
@@ -182,12 +183,14 @@ class Maker:
         self._write("registry.tsv", self._tables.registry(self.names))
         self._write("allowed.tsv", self._judge.text(self.names).encode())
         self._write(host_judge.NAME, self._judge.hosts.text(self.names).encode())
+        self._write(undated_links.NAME, self._judge.undated.text(self.names).encode())
         self._write(earlier_files.NAME, self._earlier.text(self.names, self._today).encode())
         title_index.begin(self._folder / "index", has_list)
 
     def make_index(self, has_list: bool) -> None:
         """Makes the index, which takes longest."""
-        self.titles = title_index.make(self._folder / "index", has_list, self.prepared_parts())
+        offers = {name: self._judge.hosts.offer(name) for name in self.names}
+        self.titles = title_index.make(self._folder / "index", has_list, self.prepared_parts(), offers)
 
     def remove_prepared(self) -> None:
         """Removes what only the index and the exports need."""
@@ -223,12 +226,15 @@ class Maker:
         elif old is not None:
             self.names.append(target.name)
             self._put_again(target, old)
+            self._judge.undated.find(target.name, old.prepared.table, not old.has_code)
             parts = self._tables.parts_of(target.name)
             self._judge.keep(target, parts, not old.has_code, is_used=not reasons)
         else:
             self._discard(target.name)
             return
-        for line in self._judge.hosts.lines(target.name):
+        is_changed = new is not None and not reasons and new != old
+        lines = self._judge.undated.lines(target.name, is_changed)
+        for line in [*self._judge.hosts.lines(target.name), *lines]:
             self._report(f"{target.name}: {line}")
 
     def _put_again(self, target: Target, old: _Files) -> None:
@@ -291,6 +297,7 @@ class Maker:
         reasons = self._put(target, new)
         if self._tables.parts_of(target.name):
             parts = dict(self._tables.divided(target.name, prepared.table))
+            self._judge.undated.find(target.name, prepared.table, not new.has_code and not reasons)
             reasons += self._judge.reasons(target, parts, not new.has_code and not reasons, old is not None)
         lines = (
             *dropped_rows.reasons_against(prepared.dropped, prepared.count, target.allowed),
@@ -336,7 +343,7 @@ def is_same(one: str | Path, other: str | Path, received: RootFolder | None = No
         [f"{folder}/{name}" for folder in folders for name in sorted(os.listdir(version / folder))]
         for version in versions
     ]
-    files = ["registry.tsv", "allowed.tsv", host_judge.NAME, "index/format", *names[0]]
+    files = ["registry.tsv", "allowed.tsv", host_judge.NAME, undated_links.NAME, "index/format", *names[0]]
     opened = received or received_in(versions[1])
     return names[0] == names[1] and all(
         (
