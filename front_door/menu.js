@@ -5,6 +5,7 @@ import coverage from './coverage.js';
 import form from './form.js';
 import index from './index.js';
 import lists from './lists.js';
+import notices from './notices.js';
 import pages from './pages.js';
 import texts from './text.js';
 import words from './words.js';
@@ -168,7 +169,7 @@ function pageOf(q, groups, site) {
     const body = [citation.citationHtml(cited, site)];
     const put = (html) => { if (html !== '') body.push(html); };
     put(foundHtml(q, site));
-    if (q.isRetracted) put(`<p class="retracted"><strong>${escape(word(site, 'retracted'))}</strong></p>`);
+    notices.linesOf(q, site).forEach(put);
     put(noticeHtml(q, groups, site));
     put(maybeHtml(q, site));
     shownGroups(groups).forEach((g) => {
@@ -186,7 +187,7 @@ function dataOf(q, groups, site) {
     const shown = shownGroups(groups);
     shown.forEach((g) => { g.links.forEach((link) => { delete link.covered; }); });
     const data = { citation: citation.citationOf(q, site), groups: shown };
-    if (q.isRetracted) data.retracted = true;
+    notices.addTo(data, q);
     if (q.maybe.length > 0) {
         data.maybe = q.maybe.map((it) => ({ title: it.title, numbers: it.standard }));
     }
