@@ -6,6 +6,7 @@ import coverage from './coverage.js';
 import form from './form.js';
 import index from './index.js';
 import lists from './lists.js';
+import notices from './notices.js';
 import pages from './pages.js';
 import texts from './text.js';
 import words from './words.js';
@@ -178,7 +179,7 @@ function pageOf(q, groups, site) {
     const body = [citation.citationHtml(cited, site)];
     const put = (html) => { if (html !== '') body.push(html); };
     put(foundHtml(q, site));
-    if (q.isRetracted) put(`<p class="retracted"><strong>${escape(word(site, 'retracted'))}</strong></p>`);
+    notices.linesOf(q, site).forEach(put);
     const offered = addresses.pagesOf(q, groups, site);
     put(noticeHtml(q, groups, offered.length > 0, site));
     put(maybeHtml(q, site));
@@ -195,7 +196,7 @@ function dataOf(q, groups, site) {
     const shown = shownGroups(groups);
     shown.forEach((g) => { g.links.forEach((link) => { delete link.covered; }); });
     const data = { citation: citation.citationOf(q, site), groups: shown };
-    if (q.isRetracted) data.retracted = true;
+    notices.addTo(data, q);
     if (q.maybe.length > 0) {
         data.maybe = q.maybe.map((it) => ({ title: it.title, numbers: it.standard }));
     }

@@ -64,7 +64,10 @@ class Scripts(Case):
         self.check("log")
 
     def test_lookup(self) -> None:
-        self.check("lookup", 4)
+        self.check("lookup")
+
+    def test_notices(self) -> None:
+        self.check("notices", 7)
 
     def test_numbers(self) -> None:
         self.check("numbers", 4)
@@ -80,6 +83,9 @@ class Scripts(Case):
 
     def test_references(self) -> None:
         self.check("references")
+
+    def test_replies(self) -> None:
+        self.check("replies", 8)
 
     def test_retractions(self) -> None:
         self.check("retractions")

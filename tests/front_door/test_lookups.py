@@ -2,11 +2,14 @@
 from __future__ import annotations
 
 import concurrent.futures
+import html
 import http.client
 import json
 import os
+import re
 import stat
 import time
+from pathlib import Path
 from typing import Any
 
 from fixtures import needs
@@ -16,6 +19,7 @@ from fixtures.lookup_services import FALSE_LENGTHS
 from fixtures.lookup_services import READERS
 from fixtures.lookup_services import Services
 from fixtures.lookup_services import bytes_in
+from fixtures.lookup_services import replaced
 from fixtures.lookup_services import switched_on
 from fixtures.local_ports import free_ports
 from fixtures.nginx_site import Reply
@@ -28,10 +32,10 @@ FULL_TEXT = "tidal-press aggregate-net catalogue"
 ALONE = "so we do not know whether the library has the full text."
 
 
-@needs.command("openssl")
-class Lookups(SiteCase):
-    """The look-up is switched on."""
+class SiteWithLookups(SiteCase):
+    """The look-up is switched on, with `switches` of the site."""
 
+    switches: tuple[str, ...] = ()
     services: Services
     plain: str
 
@@ -48,13 +52,18 @@ class Lookups(SiteCase):
         services, cache = cls.services, cls.site.path("lookups")
         limits = {"rate": "rate=300r/s", **limits}
         text = switched_on(cls.plain, port or services.port, certificate or services.certificate, cache, **limits)
-        cls.site.write_site(text)
+        cls.site.write_site(replaced(text, ((f"{name} off;", f"{name} on;") for name in cls.switches)))
 
     def data(self, query: str) -> Any:
         return json.loads(self.site.get(f"/find.json?{query}").text)
 
     def targets(self, query: str) -> str:
         return " ".join(link["target"] for group in self.data(query)["groups"] for link in group["links"])
+
+
+@needs.command("openssl")
+class Lookups(SiteWithLookups):
+    """As the site has it, without a further switch."""
 
     def test_found(self) -> None:
         """What a service says fills in what the request lacks, and finds its links as any request does."""
@@ -230,9 +239,195 @@ class Lookups(SiteCase):
     def test_off(self) -> None:
         self.expect(
             "the look-up is off",
-            [it in self.plain for it in ("\njs_var $openlink_lookup", "\nproxy_cache_path")],
+            [it in self.plain for it in ("\njs_var $openlink_lookup ", "\nproxy_cache_path")],
             [False] * 2,
         )
         self.site.write_site(self.plain)
         self.site.get("/find?id=doi:10.5555/off")
         self.expect("off: nothing is asked", self.services.asked["10.5555/off"], 0)
+
+    def test_other_numbers(self) -> None:
+        """A number of PMC goes to NCBI, whose reply has no ISSN, and one of arXiv to DataCite."""
+        data = self.data("rft_id=https://www.ncbi.nlm.nih.gov/pmc/articles/PMC7000001/")["citation"]
+        named = [data.get(name) for name in ("title", "journal", "issn", "doi", "pmid")]
+        expected = ["Storm surges", "Annals of tidal studies", "2901-0012", "10.5555/good", "99990003"]
+        self.expect("PMC", named, expected)
+        self.expect("its links", self.targets("id=pmc:7000001"), f"{FULL_TEXT} doi-resolver pubmed web-search")
+        self.expect("asked once", self.services.asked["pmc:7000001"], 1)
+        for query in ("id=arXiv:2101.00001", "id=doi:10.48550/arXiv.2101.00001v2"):
+            data = self.data(query)["citation"]
+            named = [data.get(name) for name in ("title", "author", "year", "doi")]
+            expected = ["Tides on other moons", "Smith, Jane", "2021", "10.48550/arXiv.2101.00001"]
+            self.expect(query, named, expected)
+        self.expect(
+            "a reply of another form",
+            self.data("id=arXiv:2101.00002")["citation"],
+            {"doi": "10.48550/arXiv.2101.00002"},
+        )
+        hosts = {path.split("/")[1]: heads["Host"] for path, heads in self.services.heads}
+        self.expect("the hosts", (hosts["dois"], hosts["entrez"]), ("api.datacite.org", "eutils.ncbi.nlm.nih.gov"))
+
+    def test_notices(self) -> None:
+        """What a record says of retractions and corrections stands above the links, and hides none of them."""
+        retraction = {"kind": "retraction", "doi": "10.5555/notice"}
+        correction = {"kind": "correction", "doi": "10.5555/erratum", "source": "publisher"}
+        for name, notices, about in (
+            ("retracted", [{**retraction, "source": "retraction-watch"}], None),
+            ("corrected", [correction], None),
+            ("both", [{**retraction, "source": "publisher"}, correction], None),
+            ("notice", None, [{"kind": "retraction", "doi": "10.5555/retracted", "source": "publisher"}]),
+            ("in-place", [{"kind": "retraction", "doi": "10.5555/IN-PLACE", "source": "publisher"}], None),
+            ("version", None, None),
+            ("remark", [{**retraction, "source": "retraction-watch"}], None),
+            ("odd-updates", None, None),
+        ):
+            data = self.data(f"id=doi:10.5555/{name}")
+            self.expect(name, (data.get("notices"), data.get("noticeAbout")), (notices, about))
+            is_retracted = any(it["kind"] == "retraction" for it in notices or ())
+            self.expect(f"{name}: retracted", data.get("retracted", False), is_retracted)
+            links = " ".join(link["target"] for group in data["groups"] for link in group["links"])
+            self.expect(f"{name}: its links", links, f"{FULL_TEXT} doi-resolver web-search")
+
+    def lines_of(self, query: str) -> list[str]:
+        """The lines of a page that say something of notices, without tags."""
+        page = self.site.get(f"/find?{query}")
+        self.expect(f"{query}: the status", (page.status, page.headers["X-Evil"]), (200, None))
+        self.tidy(f"{query}: the page", page.text)
+        lines = re.findall(r'<p class="(?:retracted|corrected|about)">(.*)</p>', page.text)
+        where = [page.text.index(line) < page.text.index("<h2>") for line in lines]
+        self.expect(f"{query}: above the links", where, [True] * len(lines))
+        return [html.unescape(re.sub(r"<[^>]*>", "", line)) for line in lines]
+
+    def test_lines_of_notices(self) -> None:
+        retracted = "This article was retracted. Notice: doi.org/10.5555/notice."
+        for query, expected in (
+            ("id=doi:10.5555/retracted", [f"{retracted} Source: Retraction Watch."]),
+            (
+                "id=doi:10.5555/both",
+                [
+                    f"{retracted} Source: the publisher.",
+                    "This article was corrected. Notice: doi.org/10.5555/erratum. Source: the publisher.",
+                ],
+            ),
+            ("id=doi:10.5555/remark", [f"{retracted} Source: Retraction Watch."]),
+            ("id=doi:10.5555/notice", ["This is a notice about DOI 10.5555/retracted."]),
+            ("id=pmid:99990004", [f"{retracted} Source: PubMed."]),
+            ("id=pmid:99990005", ["This article was retracted. Source: PubMed."]),
+            ("id=pmid:99990006", []),
+            ("id=doi:10.5555/good", []),
+            ("id=doi:10.5555/good&atitle=RETRACTED:+Storms", ["The source says that this article was retracted."]),
+            ("id=doi:10.5555/retracted&issn=2901-0012", []),
+        ):
+            self.expect(query, self.lines_of(query), expected)
+        page = self.site.get("/find?id=doi:10.5555/notice").text
+        self.expect("to the article", '"/find?rft_id=info%3Adoi%2F10.5555%2Fretracted"' in page)
+        page = self.site.get("/find?id=doi:10.5555/retracted&lang=de").text
+        self.expect(
+            "to the notice", 'zurückgezogen.</strong> Mitteilung: <a href="https://doi.org/10.5555/notice">' in page
+        )
+
+    def test_hostile_notices(self) -> None:
+        """No text of a notice is markup, leads to another host than doi.org or hides the links."""
+        for name, least in (("marked-up", 1), ("forged-doi", 2), ("many-updates", 10)):
+            lines = self.lines_of(f"id=doi:10.5555/{name}")
+            self.expect(f"{name}: {lines}", len(lines), least)
+            page = self.site.get(f"/find?id=doi:10.5555/{name}").text
+            self.expect(f"{name}: no markup", [it for it in ("<script", "<img", "javascript:") if it in page], [])
+            links = re.findall(r'<p class="(?:retracted|corrected|about)">.*?href="([^"]*)', page)
+            beginnings = {link[: len("https://doi.org/")] for link in links} - {"https://doi.org/"}
+            self.expect(f"{name}: where they lead", beginnings, set())
+            self.expect(
+                f"{name}: its links", self.targets(f"id=doi:10.5555/{name}"), f"{FULL_TEXT} doi-resolver web-search"
+            )
+
+
+@needs.command("openssl")
+class Beside(SiteWithLookups):
+    """A number that came with other things is looked up too."""
+
+    switches = ("openlink_lookup_more",)
+
+    def citation(self, query: str, *names: str) -> list[object]:
+        found = self.data(query)["citation"]
+        return [found.get(name) for name in names]
+
+    def test_found(self) -> None:
+        """What the request says stays, although the service says something else."""
+        doi = "id=doi:10.5555/beside"
+        query = f"{doi}0&title=Nowhere&volume=9&date=1999"
+        cited = self.citation(query, "journal", "volume", "year", "issn", "pages")
+        self.expect("a title that the index does not know", cited, ["Nowhere", "9", "1999", "2901-0012", "101-118"])
+        self.expect("its links", "tidal-press" in self.targets(query))
+        page = self.site.get(f"/find?{query}")
+        self.tidy("its page", page.text)
+        query = f"{doi}1&issn=2901-0012&volume=12&date=2003"
+        self.expect("without a page", self.citation(query, "pages", "volume"), ["101-118", "12"])
+        links = [link["url"] for group in self.data(query)["groups"] for link in group["links"]]
+        self.expect("its link", "https://press.example.com/2908-0142/12/3/101" in links)
+        query = f"{doi}2&issn=2901-0012&spage=7&date=2003"
+        self.expect("without a volume", self.citation(query, "pages", "volume"), ["7", "12"])
+        query = f"{doi}3&issn=2901-0012&year=2001&volume=11"
+        self.expect("another date", self.citation(query, "pages", "volume", "year"), ["101-118", "11", "2001"])
+        query = f"{doi}4&issn=1111-1119&title=Nowhere"
+        self.expect(
+            "a number that the index does not know", self.citation(query, "issn", "journal"), ["1111-1119", "Nowhere"]
+        )
+        self.expect("the other number of the reply", "tidal-press" in self.targets(query))
+        query = "id=doi:10.5555/no-number&stitle=Ann+Tid+Stud"
+        self.expect("a title of the reply", self.citation(query, "issn"), ["2901-0012"])
+        asked = [self.services.asked[f"10.5555/beside{i}"] for i in range(5)]
+        self.expect("asked once, then from the cache", asked, [1] * 5)
+
+    def test_not_asked(self) -> None:
+        """A citation that lacks nothing that the rules of its targets name, or no title; all without a number."""
+        before = sum(self.services.asked.values())
+        doi = "id=doi:10.5555/beside"
+        for query in (
+            f"{doi}5&issn=2901-0012&volume=12&date=2003&spage=101",
+            f"{doi}5&title=Annals+of+Tidal+Studies&volume=12&date=2003&pages=101-118",
+            f"{doi}5&isbn=9781234564728",  # of the catalogue, whose rule names nothing
+            f"{doi}5&issn=1111-1119",
+            "title=Nowhere",
+            "issn=2901-0012",
+        ):
+            self.data(query)
+            self.expect(query, sum(self.services.asked.values()), before)
+
+    def test_faults(self) -> None:
+        """A service that fails leaves the page as it is without a look-up."""
+        for name in ("none", "busy", "half", "deep", "slow"):
+            query = f"id=doi:10.5555/{name}&title=Annals+of+Tidal+Studies&volume=12&date=2003"
+            self.expect(name, self.targets(query), f"{FULL_TEXT} doi-resolver")
+
+    def test_off(self) -> None:
+        before = sum(self.services.asked.values())
+        self.site.edit(("openlink_lookup_more on;", "openlink_lookup_more off;"))
+        self.data("id=doi:10.5555/beside7&title=Nowhere")
+        self.data("id=doi:10.5555/beside7&issn=2901-0012")
+        self.expect("off", sum(self.services.asked.values()), before)
+        self.expect("off as the site comes", "js_var $openlink_lookup_more off;" in self.plain)
+        self.site.write_site(self.plain.replace("openlink_lookup_more off;", "openlink_lookup_more on;"))
+        self.data("id=doi:10.5555/beside7&title=Nowhere")
+        self.expect("without the look-up", sum(self.services.asked.values()), before)
+
+    def test_named(self) -> None:
+        """What the update has written of the rules of the title's own targets decides; before it did, nothing."""
+        path = Path(self.site.path("current/index/named"))
+        written = path.read_text(encoding="ascii")
+        self.expect(
+            "what the update writes", written.splitlines()[:2], ["open-shelf\tdate volume", "tidal-press\tvolume page"]
+        )
+        for named, query, count in (
+            ("tidal-press\tdate\n", "issn=2901-0012&date=2003", 0),
+            ("book-house\tdate volume page\n", "issn=2901-0012", 0),
+            ("", "issn=2901-0012", 0),
+            (None, "issn=2901-0012", 0),
+            ("tidal-press\tdate\n", "issn=2901-0012&volume=12", 1),
+        ):
+            if named is None:
+                path.unlink()
+            else:
+                path.write_text(named, encoding="ascii")
+            self.data(f"id=doi:10.5555/beside8&{query}")
+            self.expect(f"{named} {query}", self.services.asked["10.5555/beside8"], count)
+        path.write_text(written, encoding="ascii")

@@ -27,7 +27,7 @@ import shutil
 from collections.abc import Callable, Iterable, Iterator
 from pathlib import Path
 
-from openlink_update.index import title_index
+from openlink_update.index import named_parts, title_index
 from openlink_update.index.title_groups import Title
 from openlink_update.input_files import InputFile
 from openlink_update.outcome import Failure, Refused
@@ -185,7 +185,9 @@ class Maker:
         self._write(host_judge.NAME, self._judge.hosts.text(self.names).encode())
         self._write(undated_links.NAME, self._judge.undated.text(self.names).encode())
         self._write(earlier_files.NAME, self._earlier.text(self.names, self._today).encode())
-        title_index.begin(self._folder / "index", has_list)
+        index = self._folder / "index"
+        title_index.begin(index, has_list)
+        named_parts.write(index, ((name, (self._folder / f"code/{name}.olk").read_bytes()) for name in self.names))
 
     def make_index(self, has_list: bool) -> None:
         """Makes the index, which takes longest."""
