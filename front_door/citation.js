@@ -50,7 +50,8 @@ function citationHtml(c, site) {
     if (c.journal) parts.push(`<cite>${textHtml(c.journal)}</cite>`);
     if (c.year) parts.push(textHtml(c.year));
     NAMED.forEach((name) => { if (c[name]) parts.push(textHtml(filled(site, name, c[name]))); });
-    return `<p class="citation">${parts.length > 0 ? parts.join(', ') : escape(word(site, 'noCitation'))}</p>`;
+    const all = parts.join(escape(words.separatorOf(site)));
+    return `<p class="citation">${all || escape(word(site, 'noCitation'))}</p>`;
 }
 
 // The types of RIS for genres, for types of Dublin Core (those of OpenAIRE too), and for the format and kind of a

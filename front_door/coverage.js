@@ -11,8 +11,8 @@ function given(cell) { return cell === undefined || cell === '-' ? '' : cell; }
 function embargoText(part, site) {
     const found = PART.exec(part);
     if (found === null) return '';
-    const name = (found[1] === 'P' ? 'without' : 'only') + UNITS[found[3]] + (Number(found[2]) === 1 ? '' : 's');
-    return words.filled(site, name, found[2]);
+    const single = (found[1] === 'P' ? 'without' : 'only') + UNITS[found[3]];
+    return words.counted(site, single + 's', single, Number(found[2]));
 }
 
 // For example `since 1995, without the last 12 months`; '' if nothing is known.
@@ -24,7 +24,7 @@ function textOf(row, site) {
     const embargo = given(row.embargo);
     if (embargo === '') return years;
     const parts = embargo.split(',').filter((part) => is(PART, part));
-    return [years].concat(parts.map((part) => embargoText(part, site))).filter(Boolean).join(', ');
+    return words.listed(site, [years].concat(parts.map((part) => embargoText(part, site))).filter(Boolean));
 }
 // The same as `from`, `to` and `embargo`; undefined if nothing is known.
 function dataOf(row) {

@@ -19,6 +19,15 @@ const is = texts.is;
 const isObject = texts.isObject;
 
 // ---------------------------------------------------------------- Accept-Language
+// A tag in small letters, with the script of Chinese that follows from a region: browsers send `zh-CN` and `zh-TW`,
+// where files have `zh-Hans` and `zh-Hant`.
+const SCRIPTS = { cn: 'hans', my: 'hans', sg: 'hans', hk: 'hant', mo: 'hant', tw: 'hant' };
+function small(tag) {
+    const lower = tag.toLowerCase();
+    const script = lower.startsWith('zh-') ? own(SCRIPTS, lower.slice(3)) : undefined;
+    return script === undefined ? lower : `zh-${script}-${lower.slice(3)}`;
+}
+
 // The ranges of a header in their order, each with its quality. Those of another form are left out, and the rest of a
 // header that no browser sends.
 function rangesOf(header) {
@@ -27,7 +36,7 @@ function rangesOf(header) {
     const ranges = pieces.map((piece) => piece.trim()).filter(Boolean).slice(0, MOST_RANGES);
     return ranges.filter((text) => is(RANGE, text)).map((text) => {
         const found = RANGE.exec(text);
-        return { tag: found[1].toLowerCase(), quality: found[2] === undefined ? 1 : Number(found[2]) };
+        return { tag: small(found[1]), quality: found[2] === undefined ? 1 : Number(found[2]) };
     });
 }
 
@@ -37,7 +46,6 @@ function covers(tag, other) { return (other + '-').startsWith(tag + '-'); }
 // The language that a range names: itself, else one that the range covers (`pt-BR` for `pt`), else the longest one that
 // covers the range (`de` for `de-AT`).
 function named(range, languages) {
-    const small = (language) => language.toLowerCase();
     const exact = languages.filter((language) => small(language) === range);
     const within = languages.filter((language) => covers(range, small(language)));
     const around = languages.filter((language) => covers(small(language), range));
@@ -57,10 +65,10 @@ function preferred(header, languages) {
     const end = header.indexOf(',');
     const first = end < 0 ? header : header.slice(0, end);
     if (header.length > MOST_BYTES || !is(TAG, first) || is(REJECTION, header)) return undefined;
-    return named(first.toLowerCase(), languages);
+    return named(small(first), languages);
 }
 function chosenOf(ranges, languages) {
-    const isIn = (range, language) => range.tag !== '*' && covers(range.tag, language.toLowerCase());
+    const isIn = (range, language) => range.tag !== '*' && covers(range.tag, small(language));
     const free = languages.filter((language) => !ranges.some((range) => range.quality === 0 && isIn(range, language)));
     const others = free.filter((language) => !ranges.some((range) => isIn(range, language)));
     let best = { language: free[0] || languages[0], quality: 0 };
@@ -127,16 +135,20 @@ function textOf(value, site) {
 
 function textAt(value) { return typeof value === 'string' ? value.trim() : ''; }
 function inFiles(name, site) { return textAt(own(site.file, name)) || textAt(own(site.mainFile, name)); }
-// The text of a word, '' if there is none. Those of targets.json come before those of the files, but a plain text there
-// is in the default language.
+// The text of a word in the reader's language, '' if there is none. Those of targets.json come before those of the
+// files, but a plain text there is in the default language.
+function ownWordOf(name, site) {
+    const text = own(site.words, name);
+    const isMain = site.language === site.main;
+    const replaced = isObject(text) ? own(text, site.language) : isMain ? text : undefined;
+    return textAt(replaced) || textAt(own(site.file, name));
+}
+// The same, or in the default language.
 function wordOf(name, site) {
     const text = own(site.words, name);
     if (text === undefined) return inFiles(name, site);
-    const isByLanguage = isObject(text);
-    const isMain = site.language === site.main;
-    return (isByLanguage ? textAt(own(text, site.language)) : isMain && textAt(text))
-        || textAt(own(site.file, name)) || textAt(isByLanguage ? own(text, site.main) : text)
+    return ownWordOf(name, site) || textAt(isObject(text) ? own(text, site.main) : text)
         || textAt(own(site.mainFile, name));
 }
 
-export default { chosen, nameOf, siteIn, textAt, textOf, wordOf };
+export default { chosen, nameOf, siteIn, textAt, textOf, ownWordOf, wordOf };

@@ -30,7 +30,7 @@ function rowsHtml(it, site, isShown) {
     const rows = it.rows.map(index.rowOf).filter(isShown || Boolean).map((row) => {
         const text = coverage.textOf(row, site);
         const label = words.labelOf(site, row.target);
-        return escape(text ? `${label}: ${text}` : label);
+        return escape(text ? words.labelled(site, label, text) : label);
     }).filter((text) => {
         const isNew = known[text] !== true;
         known[text] = true;
@@ -40,7 +40,7 @@ function rowsHtml(it, site, isShown) {
 }
 function numberText(number, site) { return filled(site, numbers.isIssn(number) ? 'issn' : 'isbn', number); }
 function titleHtml(it, site, args) {
-    const listed = it.standard.slice(0, MOST_NUMBERS).map((number) => numberText(number, site)).join(', ');
+    const listed = words.listed(site, it.standard.slice(0, MOST_NUMBERS).map((number) => numberText(number, site)));
     const anchor = pages.anchor(titleAddress(it, args, site), it.title);
     return `<li>${anchor}<p>${escape(listed)}</p>${rowsHtml(it, site)}</li>`;
 }
@@ -49,7 +49,7 @@ function titlesHtml(titles, site) {
     return ['<ul class="titles">'].concat(titles.map((it) => titleHtml(it, site, '')), ['</ul>']);
 }
 function paragraph(text) { return `<p>${escape(text)}</p>`; }
-function countText(count, site) { return filled(site, count === 1 ? 'oneTitle' : 'titles', String(count)); }
+function countText(count, site) { return words.counted(site, 'titles', 'oneTitle', count); }
 
 function searchHtml(kind, text, site) {
     const language = site.chosen ? `<input type="hidden" name="lang" value="${site.chosen}">` : '';
@@ -121,8 +121,8 @@ function startOf(kind, found, site) {
 function letterOf(kind, found, it, page, titles, site) {
     const addressOf = (number) => pages.addressOf(letterPath(kind, it.letter, number), '', site);
     const name = letterName(it.letter, site);
-    const place = filled(site, 'pageOf', [String(page), String(it.pages)]);
-    return documentOf(kind, `${word(site, NAMES[kind])}: ${name}`, [searchHtml(kind, '', site),
+    const place = filled(site, 'pageOf', [page, it.pages].map((number) => words.numberOf(site, number)));
+    return documentOf(kind, words.labelled(site, word(site, NAMES[kind]), name), [searchHtml(kind, '', site),
         lettersHtml(kind, found, it.letter, site), [`<h2>${escape(name)}</h2>`],
         pagesHtml(it, page, addressOf, site), titlesHtml(titles, site), [paragraph(place)],
         nearHtml(page, it.pages, addressOf, site)], site);
@@ -133,7 +133,7 @@ function searchOf(kind, text, found, site) {
     const args = 'q=' + encodeURIComponent(text);
     const again = pages.addressOf(PATHS[other], args, site);
     const link = pages.anchor(again, filled(site, 'searchIn', word(site, NAMES[other])));
-    const title = `${word(site, NAMES[kind])}: ${texts.clean(text).slice(0, 100)}`;
+    const title = words.labelled(site, word(site, NAMES[kind]), texts.clean(text).slice(0, 100));
     const near = found === null ? [] : nearHtml(found.page, found.pages, (page) => {
         return pages.addressOf(PATHS[kind], page === 1 ? args : `${args}&page=${page}`, site);
     }, site);
@@ -146,13 +146,15 @@ function foundText(found, site) {
     if (found === null) return word(site, 'noWords');
     const count = found.count;
     if (count === 0) return word(site, found.isMore ? 'tooFrequent' : 'noTitle');
-    if (found.pages === 1) return found.isMore ? filled(site, 'moreThan', String(count)) : countText(count, site);
+    if (found.pages === 1) {
+        return found.isMore ? filled(site, 'moreThan', words.numberOf(site, count)) : countText(count, site);
+    }
     const last = (found.page - 1) * MOST_TITLES + found.titles.length;
     const first = last - found.titles.length + 1;
     const shown = found.page === 1 ? [last] : [first, last];
     const name = (found.page === 1 ? 'firstTitles' : 'titlesBetween') + (found.isMore ? 'OfMore' : '');
     const isWhole = !found.isMore && found.pages * MOST_TITLES >= count;
-    const text = filled(site, name, shown.concat([count]).map(String));
+    const text = filled(site, name, shown.concat([count]).map((number) => words.numberOf(site, number)));
     return isWhole ? text : `${text} ${word(site, 'addWord')}`;
 }
 // The page of a search that an address names, which is the first one unless it is a number.

@@ -147,7 +147,7 @@ function completeHtml(q, groups, site) {
 }
 function foundHtml(q, site) {
     if (!q.byTitle) return '';
-    const text = `${q.byTitle.title}, ${numberText(q.byTitle.standard[0], site)}`;
+    const text = words.listed(site, [q.byTitle.title, numberText(q.byTitle.standard[0], site)]);
     return `<p class="found">${escape(filled(site, 'byTitle', text))}</p>`;
 }
 function listHtml(heading, items) {

@@ -10,9 +10,11 @@ import languages from './languages.js';
 import menus from './menu.js';
 import numbers from './numbers.js';
 import openurl from './openurl.js';
+import plurals from './plurals.js';
 import program from './program.js';
 import references from './references.js';
 import staff from './why.js';
+import wording from './words.js';
 import cases from './cases.js';
 import parts from './parts.js';
 import folding from './fold.js';
@@ -302,7 +304,15 @@ const HEADERS = [
     ['de;level=1, en', 'de en', 'en'],
     ['de-AT, de;q=0', 'de en', 'en'], ['de-AT, de;q=0.0, fr', 'de en', 'en'], ['de, en;q=0.05', 'en de', 'de'],
     ['de_AT, en', 'de en', 'en'], ['<de>, "en", \u00e9, de\r\nX: y', 'en de', 'en'], [',,,de,,', 'en de', 'de'],
-    ['__proto__', 'en', 'en']
+    ['__proto__', 'en', 'en'],
+    // regions, and the scripts of Chinese
+    ['fr-CA, en;q=0.5', 'en fr', 'fr'], ['pt-BR', 'en pt', 'pt'], ['pt-PT', 'en pt', 'pt'], ['es-419', 'en es', 'es'],
+    ['ar-EG,ar;q=0.9', 'en ar', 'ar'], ['sv-FI', 'en sv', 'sv'], ['nl-BE;q=0.9, fr-BE', 'nl fr', 'fr'],
+    ['zh-CN,zh;q=0.9', 'en zh-Hans', 'zh-Hans'], ['zh-SG', 'en zh-Hans', 'zh-Hans'], ['zh', 'en zh-Hans', 'zh-Hans'],
+    ['zh-Hans-CN', 'en zh-Hans', 'zh-Hans'], ['ZH-cn', 'en zh-Hans', 'zh-Hans'], ['zh-CN', 'en zh-CN', 'zh-CN'],
+    ['zh-TW', 'en zh-Hans', 'en'], ['zh-TW,zh;q=0.9,en;q=0.8', 'en zh-Hans', 'zh-Hans'],
+    ['zh-HK', 'en zh-Hans zh-Hant', 'zh-Hant'], ['zh-TW', 'en zh', 'zh'], ['zh-CN;q=0, *', 'zh-Hans en', 'zh-Hans'],
+    ['zh-Hans;q=0, zh-CN, en;q=0.1', 'zh-Hans en', 'en'], ['zh-AQ', 'en zh-Hans', 'en']
 ];
 
 function testHeaders() {
@@ -313,6 +323,58 @@ function testHeaders() {
     expect('a range that is cut', languages.chosen(repeated(' ', 498) + 'de-AT', ['en', 'de']), 'en');
     expect('commas', languages.chosen(repeated(',', 8192), ['en', 'de']), 'en');
     expect('ranges beyond the twentieth', languages.chosen(repeated('fr,', 20) + 'de', ['en', 'de']), 'en');
+}
+
+// The categories of CLDR, of a language and numbers.
+const CATEGORIES = [
+    ['en de nl sv da el tr', '0 other, 1 one, 2 other, 5 other, 21 other, 1000000 other'],
+    ['fr pt pt-BR', '0 one, 1 one, 2 other, 21 other, 1000 other, 1000000 many, 1000001 other, 3000000 many'],
+    ['es it pt-PT', '0 other, 1 one, 2 other, 21 other, 1000 other, 1000000 many, 1000001 other, 3000000 many'],
+    ['pl', '0 many, 1 one, 2 few, 4 few, 5 many, 11 many, 12 many, 14 many, 21 many, 22 few, 112 many, 122 few'],
+    ['uk', '0 many, 1 one, 2 few, 4 few, 5 many, 11 many, 12 many, 14 many, 21 one, 22 few, 111 many, 121 one'],
+    ['cs', '0 other, 1 one, 2 few, 4 few, 5 other, 12 other, 21 other, 22 other, 102 other'],
+    ['hr', '0 other, 1 one, 2 few, 11 other, 12 other, 21 one, 24 few'],
+    ['ar ar-EG', '0 zero, 1 one, 2 two, 3 few, 10 few, 11 many, 99 many, 100 other, 102 other, 103 few, 111 many'],
+    ['he', '0 other, 1 one, 2 two, 3 other, 10 other, 20 other, 102 other'],
+    ['ja zh-Hans', '0 other, 1 other, 2 other, 1000000 other']
+];
+function testPlurals() {
+    CATEGORIES.forEach(function (it) {
+        it[0].split(' ').forEach(function (language) {
+            it[1].split(', ').forEach(function (pair) {
+                const number = Number(pair.split(' ')[0]);
+                expect('the category of ' + number + ' in ' + language, plurals.categoryOf(language, number),
+                    pair.split(' ')[1]);
+            });
+        });
+    });
+    const site = function (language) { return languages.siteIn({ languages: [language] }, ''); };
+    globalThis.words_pl = {
+        oneTitle: '1 tytuł', titles: '{} tytułu', 'titles.few': '{} tytuły', 'titles.many': '{} tytułów',
+        thousand: '1000', tenThousand: '10\u00a0000'
+    };
+    globalThis.words_en.titles = '{} titles';
+    globalThis.words_en.oneTitle = '1 title';
+    globalThis.words_en.thousand = '1,000';
+    globalThis.words_en.tenThousand = '10,000';
+    const counted = function (language, counts) {
+        const pages = site(language);
+        return counts.map(function (it) { return wording.counted(pages, 'titles', 'oneTitle', it); }).join(', ');
+    };
+    expect('counts in Polish', counted('pl', [0, 1, 3, 5, 22, 1002, 12345]),
+        '0 tytułów, 1 tytuł, 3 tytuły, 5 tytułów, 22 tytuły, 1002 tytuły, 12\u00a0345 tytułów');
+    expect('counts in English', counted('en', [0, 1, 2, 999, 1000, 9999, 10000, 1234567]),
+        '0 titles, 1 title, 2 titles, 999 titles, 1,000 titles, 9,999 titles, 10,000 titles, 1,234,567 titles');
+    const two = { languages: ['pl', 'de'] };
+    globalThis.words_de.titles = '{} Titel';
+    const three = function (data, header) {
+        return wording.counted(languages.siteIn(data, header), 'titles', 'oneTitle', 3);
+    };
+    expect('no form of another language', three(two, 'de'), '3 Titel');
+    const own = { languages: ['pl'], words: { 'titles.few': '{} tytuliki' } };
+    expect('a form of the site', three(own, ''), '3 tytuliki');
+    delete globalThis.words_pl;
+    expect('no form and no word', wording.counted(site('en'), 'none', 'noneOfOne', 3), '');
 }
 
 // The languages that a site offers and the texts that a page has in them.
@@ -580,6 +642,7 @@ testRis();
 testCitations();
 testHeaders();
 testWords();
+testPlurals();
 testCases();
 testCommands();
 testReasons();

@@ -1,6 +1,7 @@
 """The page and the JSON in the language that the header prefers, and in one that is read from right to left."""
 from __future__ import annotations
 
+import html
 import json
 import re
 
@@ -20,6 +21,34 @@ HEADERS = [
     ("de" + ",x" * 3000, "de"),
     ("\u00e4\u00fc,de".encode().decode("latin-1"), "de"),
 ]
+# A header of each language of the front door that the site does not offer at first.
+HEADERS_OF_LANGUAGES = {
+    "ar": "ar-EG,ar;q=0.9,en;q=0.5",
+    "cs": "cs-CZ",
+    "da": "da-DK,da;q=0.9",
+    "el": "el-CY",
+    "es": "es-419,es;q=0.9",
+    "fr": "fr-CA,en;q=0.5",
+    "he": "he-IL",
+    "it": "it-CH",
+    "ja": "ja-JP,ja;q=0.9,en;q=0.8",
+    "nl": "nl-BE",
+    "pl": "pl-PL",
+    "pt": "pt-BR,pt;q=0.9",
+    "sv": "sv-FI,fi;q=0.9",
+    "tr": "tr-TR",
+    "uk": "uk-UA,ru;q=0.5",
+    "zh-Hans": "zh-CN,zh;q=0.9,en;q=0.8",
+}
+# Pages, and the name of a text that each has.
+PAGES = {
+    "/find": "formNote",
+    f"/find?{ARTICLE}": "change",
+    "/find?issn=3006-1962&atitle=x": "nothing",
+    "/journals": "searchField",
+    "/journals?q=tid": "oneTitle",
+    "/none": "missing",
+}
 IN_GERMAN = [
     ">Problem melden (Ihre Anfrage wird an die Bibliothek gesendet)</a>",
     "<title>Storm surges – Bibliothek der Beispieluniversität</title>",
@@ -88,14 +117,34 @@ class Languages(SiteCase):
         reply = self.site.get("/go?issn=2943-081X&date=2012")
         self.expect("a redirect has no language", (reply.status, reply.headers["Content-Language"]), (302, None))
 
+    def switch_on(self, languages: list[str]) -> None:
+        """Offers languages that the front door brings, as an operator does."""
+        data = json.loads(self.site.read("openlink/targets.json"))
+        self.site.write("openlink/targets.json", json.dumps({**data, "languages": ["en", "de", *languages]}))
+        names = [f"js_preload_object words_{it.replace('-', '_')} " for it in languages]
+        self.site.edit(*((f"#{name}", name) for name in names))
+
+    def test_all_languages(self) -> None:
+        """Each language that a site has switched on, by a header with a region."""
+        self.switch_on(sorted(HEADERS_OF_LANGUAGES))
+        for language, header in HEADERS_OF_LANGUAGES.items():
+            words = json.loads(self.site.read(f"openlink/words/{language}.json"))
+            for target, name in PAGES.items():
+                reply = self.reply_in(header, target)
+                got = (reply.headers["Content-Language"], re.findall('<html lang="(.*)" dir="(.*)">', reply.text))
+                direction = "rtl" if language in ("ar", "he") else "ltr"
+                self.expect(f"{header}: {target}", got, (language, [(language, direction)]))
+                self.expect(f"{header}: {target} has {name}", words[name] in html.unescape(reply.text))
+                self.tidy(f"{header}: {target}", reply.text)
+        data = json.loads(self.reply_in("uk-UA", f"/find.json?{ARTICLE}").text)
+        self.expect("JSON in Ukrainian", [it["name"] for it in data["groups"]][:1], ["Full text"])
+
     def add_hebrew(self) -> None:
         """Adds Hebrew as an operator does, with one word in it."""
         self.site.write("openlink/words/he.json", json.dumps({"heading": "חיפוש"}))
         data = json.loads(self.site.read("openlink/targets.json"))
         self.site.write("openlink/targets.json", json.dumps({**data, "languages": ["de", "he", "fr"]}))
-        german = f"js_preload_object words_de from {self.site.path('openlink/words/de.json')};\n"
-        hebrew = german.replace("words_de", "words_he").replace("de.json", "he.json")
-        self.site.edit((german, german + hebrew))
+        self.site.edit(("#js_preload_object words_he ", "js_preload_object words_he "))
 
     def test_hebrew(self) -> None:
         self.add_hebrew()

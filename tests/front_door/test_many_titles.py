@@ -79,13 +79,13 @@ class ManyTitles(TitlesCase):
             row_of_links(between, "Seiten"),
             [("/journals?q=yankee&lang=de", "Vorige Seite"), ("/journals?q=yankee&page=3&lang=de", "Nächste Seite")],
         )
-        for text in ("Titel 51 bis 100 von 10002.", 'page=2&amp;lang=en"'):
+        for text in ("Titel 51 bis 100 von 10.002.", 'page=2&amp;lang=en"'):
             self.expect(f"a page in the chosen language: {text}", text in between.text)
         for query, words in (
-            ("yankee", "The first 50 of 10002 titles. Please add a word to find fewer."),
-            ("yankee&page=40", "Titles 1951 to 2000 of 10002. Please add a word to find fewer."),
-            ("yankee+zulu", "The first 50 of more than 2000 titles. Please add a word to find fewer."),
-            ("yankee+zulu&page=41", "Titles 1951 to 2000 of more than 2000. Please add a word"),
+            ("yankee", "The first 50 of 10,002 titles. Please add a word to find fewer."),
+            ("yankee&page=40", "Titles 1,951 to 2,000 of 10,002. Please add a word to find fewer."),
+            ("yankee+zulu", "The first 50 of more than 2,000 titles. Please add a word to find fewer."),
+            ("yankee+zulu&page=41", "Titles 1,951 to 2,000 of more than 2,000. Please add a word"),
             ("alpha+omega", "not all of them were searched"),
             ("coast+nothing", "No title has these words."),
             ("x09999&page=9", "1 title<"),

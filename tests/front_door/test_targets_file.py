@@ -2,7 +2,7 @@
 from __future__ import annotations
 
 import json
-import os
+import re
 
 from fixtures.cases import Case
 from openlink_update.site import targets_file as targets
@@ -66,11 +66,9 @@ class TargetsFile(Case):
         self.expect(
             "targets.json has the library's words", set(site["words"]), {"links", *targets.OF_THE_LIBRARY} - {"logo"}
         )
-        self.expect(
-            "it offers all languages",
-            {f"{language}.json" for language in site["languages"]},
-            set(os.listdir("front_door/words")),
-        )
+        with open("front_door/openlink.conf") as file:
+            loaded = re.findall(r"^js_preload_object words_(\w+) ", file.read(), re.M)
+        self.expect("it offers all languages that openlink.conf loads", sorted(site["languages"]), sorted(loaded))
 
     def test_slips(self) -> None:
         for data, fault in SLIPS:
@@ -80,4 +78,4 @@ class TargetsFile(Case):
 
     def test_slips_of_words(self) -> None:
         for data, fault in SLIPS_OF_WORDS:
-            self.expect(f"words: {fault}", any(fault in found for found in targets.faults_of_words(data)))
+            self.expect(f"words: {fault}", any(fault in found for found in targets.faults_of_words(data, "fr")))

@@ -22,12 +22,14 @@ FILES = """
     usr/share/man/man8/openlink-update.8.gz usr/share/doc/openlink/copyright usr/share/doc/openlink/SECURITY.md
     usr/share/man/man8/openlink-fetch.8.gz usr/sbin/openlink-fetch usr/share/openlink/nginx/library.conf
     usr/share/man/man8/openlink-library.8.gz usr/sbin/openlink-library
-    lib/systemd/system/openlink@.service usr/share/openlink/nginx/openlink.conf usr/share/openlink/nginx/words/de.json
+    lib/systemd/system/openlink@.service usr/share/openlink/nginx/openlink.conf
     usr/share/openlink/tables/ANY.tsv usr/share/doc/openlink/INSTALLING.md usr/share/doc/openlink/LIBRARIANS.md
     usr/share/doc/openlink/SEVERAL.md usr/share/doc/openlink/OPERATING.md usr/share/doc/openlink/CONSORTIUM.md
     usr/share/openlink/nginx/balancer.conf usr/share/openlink/haproxy/haproxy.cfg
     usr/share/openlink/kubernetes/base/deployment.yaml usr/share/openlink/openlink_update/weekly_run.py
     """.split()
+WORDS = sorted(it.name for it in Path("front_door/words").iterdir())  # a file for each language of the reader's page
+FILES += [f"usr/share/openlink/nginx/words/{it}" for it in WORDS]
 
 
 def made(*arguments: str) -> tuple[int, str]:

@@ -191,7 +191,7 @@ class FirstStart(ReleaseCase):
         self.expect(f"{what}: {done.stderr}", done.returncode, 0)
 
     def test_labels(self) -> None:
-        for name in "targets.json", "words/de.json":
+        for name in ("targets.json", *(f"words/{it}" for it in releases.WORDS)):
             self.expect(name, (self.tree / f"front_door/{name}").is_file())
         check = ["update/update.d/targets_file.py", "front_door/targets.json"]
         done = subprocess.run(check, cwd=self.tree, env=releases.PLAIN, capture_output=True, encoding="utf-8")

@@ -27,11 +27,9 @@ import sys
 from collections.abc import Collection, Iterator
 from pathlib import Path
 
-from openlink_update.places import FRONT_DOOR
 from openlink_update.shown_text import report
+from openlink_update.site import words_file
 
-_WORDS = FRONT_DOOR / "words"
-_SAMPLE = _WORDS / "en.json"
 # Texts that depend on the library, so no file of a language has them.
 OF_THE_LIBRARY = ("library", "help", "helpLink", "problemLink", "logo")
 _LOGO = r"[\w-]{1,60}\.(svg|png|jpg|gif|webp)"
@@ -46,21 +44,18 @@ _MOST_FAULTS, _MOST_CHARACTERS = 10, 40  # of those in the values, and of a name
 
 def names_of_words() -> set[str]:
     """Returns the names that `words` may have."""
-    return {*json.loads(_SAMPLE.read_text(encoding="utf-8")), *OF_THE_LIBRARY}
+    return {*words_file.sample(), *words_file.names_of_forms(), *OF_THE_LIBRARY}
 
 
-def _texts(
-    place: str, value: object, names: Collection[str], languages: Collection[str] | None, faults: list[str]
-) -> None:
-    """Errors of an object whose members are texts under known names, some of them by language if there are
-    languages."""
+def _texts(place: str, value: object, names: Collection[str], languages: Collection[str], faults: list[str]) -> None:
+    """Errors of an object whose members are texts under known names, some of them by language."""
     if not isinstance(value, dict):
         faults.append(f"{place} is not an object")
         return
     for name, text in value.items():
         if name not in names:
             faults.append(f"{place}: unknown name {json.dumps(name)}")
-        elif isinstance(text, dict) and languages is not None and name not in _PLAIN:
+        elif isinstance(text, dict) and name not in _PLAIN:
             _by_language(f"{place}: {name}", text, languages, faults)
         elif not isinstance(text, str):
             faults.append(f"{place}: {name} is not a text")
@@ -139,20 +134,11 @@ def parsed(data: bytes, faults: list[str]) -> dict[str, object] | None:
     return value
 
 
-def faults_of_words(data: bytes) -> list[str]:
-    """Errors of a file of words: it has the names of the English one, and the same places for values."""
+def faults_of_words(data: bytes, language: str) -> list[str]:
+    """Errors of a file of words, of this language."""
     faults: list[str] = []
     words = parsed(data, faults)
-    if words is None:
-        return faults
-    expected = json.loads(_SAMPLE.read_text(encoding="utf-8"))
-    _texts("words", words, expected, None, faults)
-    faults += [f"words: no {name}" for name in expected if name not in words]
-    for name, text in expected.items():
-        word = words.get(name)
-        if isinstance(word, str) and word.count("{}") != text.count("{}"):
-            faults.append(f"words: {name} has not {text.count('{}')} of {{}}")
-    return faults
+    return faults if words is None else words_file.faults_of(words, language)
 
 
 def _languages_of(site: dict[str, object], loaded: Collection[str] | None, faults: list[str]) -> list[str]:
@@ -165,7 +151,7 @@ def _languages_of(site: dict[str, object], loaded: Collection[str] | None, fault
         if not re.fullmatch(_TAG, language):
             faults.append(f"languages: {json.dumps(language)} is no tag of a language")
         elif loaded is not None and language not in loaded:
-            faults.append(f"languages: no words/{language}.json")
+            faults.append(f"languages: no words/{language}.json is loaded")
     return languages
 
 
@@ -257,10 +243,10 @@ def faults_in(path: str | Path) -> list[str]:
     own."""
     path = Path(path)
     files = sorted((path.parent / "words").glob("*.json"))
-    loaded = {path.stem for path in (*files, *_WORDS.glob("*.json"))}
+    loaded = {path.stem for path in (*files, *words_file.FOLDER.glob("*.json"))}
     faults = [f"{path}: {fault}" for fault in faults_of(_start_of(path), loaded)]
     for file in files:
-        faults += [f"{file}: {fault}" for fault in faults_of_words(_start_of(file))]
+        faults += [f"{file}: {fault}" for fault in faults_of_words(_start_of(file), file.stem)]
     return faults
 
 
