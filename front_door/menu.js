@@ -5,6 +5,7 @@ import citation from './citation.js';
 import coverage from './coverage.js';
 import form from './form.js';
 import index from './index.js';
+import languages from './languages.js';
 import lists from './lists.js';
 import notices from './notices.js';
 import pages from './pages.js';
@@ -60,7 +61,7 @@ function groupsOf(links, site) {
     const others = site.groups === undefined ? groups[0] : places[more] || { name: more, label: more, links: [] };
     links.forEach((found) => {
         if (!texts.isWeb(found.url)) return;
-        const target = own(site.targets, found.target);
+        const target = languages.objectUnder(site.targets, found.target);
         const group = target === undefined ? others : places[words.textAt(own(target, 'group'))] || groups[0];
         group.links.push(linkOf(found, target, site));
     });
@@ -124,7 +125,7 @@ function knowledgeOf(q, groups, site) {
 // Whether a row is of a target of a group, and may have the year of a request.
 function heldIn(q, group, site) {
     return (row) => {
-        const target = own(site.targets, row.target);
+        const target = languages.objectUnder(site.targets, row.target);
         const name = words.textAt(own(target, 'group'));
         const isOfGroup = site.groups === undefined || (target !== undefined && (name === '' || name === group.name));
         return isOfGroup && coverage.mayHave(row, q.first('rft.date').slice(0, 4));
