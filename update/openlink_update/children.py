@@ -1,5 +1,6 @@
 """Processes that end with this one, even if it is killed; and free ports for them."""
 import ctypes
+import itertools
 import os
 import random
 import resource
@@ -93,7 +94,7 @@ def free_port() -> int:
     """A port at which nothing listens. No process gets it from here again until this one ends: for so long it holds the
     name openlink-port-N of an abstract socket. A Failure says that there is none: any user can take these names."""
     first = random.randrange(len(_PORTS))
-    for port in (*_PORTS[first:], *_PORTS[:first]):
+    for port in itertools.chain(_PORTS[first:], _PORTS[:first]):
         claim = socket.socket(socket.AF_UNIX)
         try:
             claim.bind(f"\0openlink-port-{port}")
