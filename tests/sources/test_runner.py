@@ -66,7 +66,8 @@ class Reports(RunnerCase):
             "3 passed, 0 failed", "sources.test_sums (1 of 2): passed: 2 tests, 2 comparisons",
             "sources.test_sums (2 of 2): passed: 1 test, 2 comparisons"])
         self.expect("the status", status, 0)
-        self.expect("a chosen class", self.given("sources.Words")[1][0], "sources.test_sums: passed: 1 test, 1 comparison")
+        found = self.given("sources.Words")[1][0]
+        self.expect("a chosen class", found, "sources.test_sums: passed: 1 test, 1 comparison")
         self.long({"sources.test_sums": 4})
         self.expect("a part without a test", self.given()[1][-1], "3 passed, 1 failed")
 
