@@ -41,6 +41,10 @@ class Test:
             return "--early"
         return "--crates" if package == UNPROVED or self.kind == "crate" else "--program"
 
+    def halves(self) -> int:
+        """What it takes of a processor, in halves: a test that runs the program waits as long as it works."""
+        return 1 if self.group() == "--program" else 2
+
 
 def modules() -> list[Test]:
     """The modules tests/PACKAGE/../test_NAME.py."""

@@ -106,14 +106,18 @@ def stop(processes: list[Any]) -> None:
     machine.end(processes)
 
 
+def has_room(test: Test, running: list[Run], jobs: int) -> bool:
+    return sum(it.test.halves() for it in running) + test.halves() <= 2 * jobs
+
+
 def run_all(tests: list[Test], jobs: int, totals: Totals) -> None:
-    """Runs these tests, at most this many at once, in this order."""
+    """Runs these tests in this order, as many at once as that many processors have work for."""
     waiting = [*tests]
     running: list[Run] = []
     with tempfile.TemporaryDirectory() as folder:
         try:
             while waiting or running:
-                while waiting and len(running) < jobs:
+                while waiting and (not running or has_room(waiting[0], running, jobs)):
                     running.append(Run(waiting.pop(0), folder))
                 time.sleep(0.05)
                 for run in [it for it in running if it.has_ended()]:
