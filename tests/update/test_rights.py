@@ -3,19 +3,25 @@ from __future__ import annotations
 
 import contextlib
 import os
+import shutil
 import socket
 import stat
 import subprocess
 import tempfile
 import time
-from collections.abc import Callable, Iterator
+from collections.abc import Callable
 from pathlib import Path
 from unittest import mock
 
 from fixtures import PYTHON
 from fixtures import needs
 from fixtures.cases import Case
+from fixtures.fetch_input import TABLE
 from fixtures.patience import patience
+from fixtures.program import PATH
+from fixtures.provider import Provider
+from fixtures.provider import reply
+from fixtures.updates import Library
 from openlink_update.outcome import Failure
 from openlink_update.rights import handover
 from openlink_update.rights import lent_files
@@ -30,6 +36,7 @@ from openlink_update.rights.sandbox import Parent
 from openlink_update.rights.sandbox import Sandbox
 from openlink_update.root_folder import RootFolder
 from openlink_update.root_folder import Unusable
+from openlink_update.site.front_door import Site
 
 MB = 2**20
 
@@ -159,6 +166,13 @@ class Users(Rights):
         with mock.patch("openlink_update.rights.library_user._is_known", lambda _: True):
             self.expect("none is free", library_user.claim(self.top, "east"), None)
 
+    def test_last_number(self) -> None:
+        """The numbers are those that systemd keeps for such users, 61184 to 65519."""
+        for number, wanted in ((61183, None), (61184, 61184), (65519, 65519), (65520, None)):
+            with mock.patch("openlink_update.rights.library_user._is_known", lambda it, free=number: it != free):
+                user = library_user.claim(self.top, "east")
+            self.expect(f"{number} alone is free", user and user.number, wanted)
+
     def test_paths_that_it_cannot_read(self) -> None:
         """Where the user could not do the work, the run keeps its rights, and says so."""
         self.expect("all is well", self.user.fault([self.top, self.top / "written"]), "")
@@ -237,6 +251,34 @@ class LentFiles(Rights):
         self.expect(
             "the others", ((self.input / "table.txt").read_text(), (self.top / "new.txt").exists()), ("rows", False)
         )
+
+    def test_long_names(self) -> None:
+        """A path that no file can have is refused before it is sent."""
+
+        def work(parent: Parent) -> str:
+            root = parent.lent(RootFolder(self.input))
+            return "\n".join(fault_of(lambda: root.open(("x" * count,))) for count in (255, 2**16 - 3, 2**16 - 2))
+
+        wanted = ["FileNotFoundError", "OSError: File name too long", "Unusable: not a name of a file"]
+        got = self.run_of(work).split("\n")
+        self.expect("names", [line[: len(start)] for line, start in zip(got, wanted)], wanted)
+
+    def test_shared_tables(self) -> None:
+        """Root gets the bytes of a table, and lends what is made of it; it is asked for 100 files at most."""
+        made, seen = self.file("made", "prepared"), list[list[tuple[str, bytes]]]()
+
+        def shared(files: list[tuple[str, bytes]]) -> int | None:
+            seen.append(files)
+            return os.open(made, os.O_RDONLY) if files[0][1] == b"rows" else None
+
+        def work(parent: Parent) -> str:
+            files = [(f"/input/{number}.txt", b"rows") for number in range(101)]
+            cases = (files[:2], files[:100], files, [("other", b"other")])
+            return " ".join(str(parent.prepared(case)) for case in cases)
+
+        self.expect("what is lent", self.run_of(work, shared=shared), "b'prepared' b'prepared' None None")
+        self.expect("what root gets", [len(files) for files in seen], [2, 100, 1])
+        self.expect("with their names", seen[0], [("/input/0.txt", b"rows"), ("/input/1.txt", b"rows")])
 
     def test_requests_that_nobody_sends(self) -> None:
         """Whatever is asked for, root answers with a refusal, and reads nothing but regular files."""
@@ -343,11 +385,24 @@ class MostTaken(Rights):
         beyond = "Exceeded 4: the library has more than 8 MB on the disk, so it was ended: LINE allows more"
         self.expect("beyond", self.run_of(lambda _: write(6), self.box_of(most)), beyond)
 
+    def test_lines_of_a_site(self) -> None:
+        """The line of a library, or of the machine, in any unit; a number has nine digits at most."""
+        site, machine = self.top / "site.conf", self.top / "openlink.conf"
+        machine.write_text("js_var $openlink_disk 3g;\n")
+        lines = {"set $openlink_disk 20m;": 20 * MB, 'set $openlink_disk "2T";': 2 * 2**40, "": 3 * 2**30}
+        lines |= {"#set $openlink_disk 20m;": 3 * 2**30, "set $openlink_disk 20;": 3 * 2**30}
+        lines |= {f"set $openlink_disk {'9' * 9}m;": 999_999_999 * MB, f"set $openlink_disk {'9' * 10}m;": 3 * 2**30}
+        for line, wanted in lines.items():
+            site.write_text(f"server {{\n    {line}\n}}\n")
+            self.expect(line, Site(site, machine).most_disk, wanted)
+        self.expect("no line", Site(site).most_disk, None)
+
     def test_disk_without_a_line(self) -> None:
         """Without a line, it is what is written that is bounded."""
+        self.expect("as it is", limits._MOST_ADDED, 20 * 2**30)
         with mock.patch("openlink_update.rights.limits._MOST_ADDED", 2 * MB):
             disk = DiskLimit(Limits(folders=(self.input,)), (self.written,))
-            for size, wanted in ((2 * MB, ""), (2 * MB + 1, f"it writes more than 2 MB, so it was ended: ")):
+            for size, wanted in ((2 * MB, ""), (2 * MB + 1, "it writes more than 2 MB, so it was ended: ")):
                 (self.written / "file").write_bytes(b"x" * size)
                 self.expect(
                     f"{size} bytes", str(disk.fault() or "").startswith(wanted) and bool(disk.fault()), bool(wanted)
@@ -441,3 +496,94 @@ class Fallbacks(Case):
         with mock.patch("os.geteuid", lambda: 1000):
             self.expect("not root", sandbox.of(Path("/"), Path("/"), limits.Limits(), []).number, None)
         self.expect("an unusable file is one of the system", issubclass(Unusable, OSError))
+
+
+# Notes who runs a command, and runs it.
+_NOTING = """#!/bin/sh
+echo "{name} $1 $(id -u) $(id -G)" >>{notes}
+exec {program} "$@"
+"""
+
+
+@needs.program()
+@needs.command("curl")
+class Runs(Case):
+    """Runs of the update and of the fetch."""
+
+    def setUp(self) -> None:
+        super().setUp()
+        self.library = self.enterContext(Library())
+        self.notes = Path(self.library.top, "notes")
+        self.bin = Path(self.library.top, "bin")
+        self.bin.mkdir()
+        self.notes.touch()
+        self.notes.chmod(0o666)
+        self.library.write("table.txt", TABLE)
+        self.library.targets["press"] = ("table.txt", "")
+        self.library.write_targets()
+        for name, program in (("openlink", os.path.abspath(PATH)), ("curl", shutil.which("curl"))):
+            path = self.bin / name
+            path.write_text(_NOTING.format(name=name, notes=self.notes, program=program))
+            path.chmod(0o755)
+        self.library.environment["PATH"] = f"{self.bin}:{os.environ['PATH']}"
+
+    def noted(self) -> list[list[str]]:
+        """What ran since the last time: a command, a word, a user and groups."""
+        lines = [line.split(" ", 3) for line in self.notes.read_text().splitlines()]
+        self.notes.write_text("")
+        return lines
+
+    def update(self, *words: str) -> tuple[int, str]:
+        return self.library.update("--program", str(self.bin / "openlink"), *words)
+
+    @needs.root()
+    def test_who_runs(self) -> None:
+        """All that reads a table runs as a user that is not root, of no group; what it makes is root's."""
+        provider = Provider(has_tls=False)
+        self.addCleanup(provider.stop)
+        provider.steps = {"/table?key=s3cr3t": [reply(200, TABLE)]}
+        self.library.write("sources.tsv", f"table.txt\t{provider.address('/table?key={key}')}\tplain http\n")
+        self.library.write("secrets.tsv", "key\ts3cr3t\n")
+        os.chmod(self.library.folder, 0o700)  # the input is for its staff alone
+        status, printed = self.update("--fetch")
+        self.expect(f"the run: {printed}", (status, "rights of root" in printed), (0, False))
+        noted = self.noted()
+        self.expect("what ran", {(name, word) for name, word, *_ in noted}, RAN)
+        users = {(user, groups) for _, _, user, groups in noted}
+        self.expect("one user, and its own group", [user == groups for user, groups in users], [True])
+        self.expect("not root", all(61184 <= int(user) < 65520 for user, _ in users))
+        version = Path(self.library.library, "current")
+        self.expect("owners", {path.stat().st_uid for path in version.rglob("*")}, {0})
+        self.expect("received", stat.S_IMODE((version / "received/press.txt").stat().st_mode), 0o600)
+        self.expect("the next run", self.update("--fetch")[0], 0)
+        self.library.write("table.txt", TABLE.replace(b"Harbour", b"Port"))
+        self.expect(
+            "another table", (self.update()[0], "Port" in (self.library.served("tables/press.txt") or "")), (0, True)
+        )
+
+    @needs.root()
+    def test_a_folder_that_is_closed(self) -> None:
+        """Where the user could not enter the library, the run goes on as before, and says why first."""
+        os.chmod(self.library.top, 0o700)
+        status, printed = self.update()
+        line = f"files of providers are read with the rights of root: its user cannot read {self.library.library}: "
+        self.expect(printed, (status, printed.startswith(line)), (0, True))
+        self.expect("who ran", {user for _, _, user, _ in self.noted()}, {"0"})
+
+    @needs.root()
+    def test_another_user(self) -> None:
+        """A run that is not root's does all as its own user."""
+        user = 65533
+        for path in (self.library.top, *map(str, Path(self.library.top).rglob("*"))):
+            os.chown(path, user, user)
+        words = [*PYTHON, "update/update", "--library", self.library.library, "--site", "/nonexistent"]
+        words += ["--restart", "true", "--program", str(self.bin / "openlink")]
+        done = subprocess.run(words, capture_output=True, text=True, user=user, group=user, extra_groups=[])
+        self.expect(
+            f"the run: {done.stdout}{done.stderr}", (done.returncode, "rights of root" in done.stdout), (0, False)
+        )
+        self.expect("who ran", {it for _, _, it, _ in self.noted()}, {str(user)})
+        self.expect("the owner", Path(self.library.library, "current/registry.tsv").stat().st_uid, user)
+
+
+RAN = {("curl", "-q"), *(("openlink", word) for word in ("compile", "inspect", "lint", "serve"))}
