@@ -1,6 +1,7 @@
 // The reader's page and its JSON: the citation of a request, and the links of a menu in the groups of targets.json.
 // text.js says in which njs it runs.
 import citation from './citation.js';
+import copies from './copies.js';
 import coverage from './coverage.js';
 import form from './form.js';
 import index from './index.js';
@@ -132,7 +133,8 @@ function heldIn(q, group, site) {
 function noticeHtml(q, groups, site) {
     if (!hasNotice(q, groups)) return '';
     const known = knowledgeOf(q, groups, site);
-    const parts = [pages.notice(NOTICES[known] || 'incomplete', site)];
+    const isOnlyCopy = known === 'number' && q.freeCopy !== null;
+    const parts = [pages.notice(isOnlyCopy ? 'onlyCopy' : NOTICES[known] || 'incomplete', site)];
     const isHeld = heldIn(q, groups[0], site);
     if (known === 'held') q.titles.forEach((it) => { parts.push(lists.rowsHtml(it, site, isHeld)); });
     return parts.filter(Boolean).join('\n');
@@ -172,7 +174,7 @@ function pageOf(q, groups, site) {
     notices.linesOf(q, site).forEach(put);
     put(noticeHtml(q, groups, site));
     put(maybeHtml(q, site));
-    shownGroups(groups).forEach((g) => {
+    copies.placed(shownGroups(groups), groups, q, site).forEach((g) => {
         body.push(listHtml(g.label || g.name, g.links.map((link) => linkHtml(link, site))));
     });
     if (q.titles.length > 0) q.titles[0].related.forEach((it) => { body.push(relatedHtml(it, site)); });
@@ -186,7 +188,7 @@ function pageOf(q, groups, site) {
 function dataOf(q, groups, site) {
     const shown = shownGroups(groups);
     shown.forEach((g) => { g.links.forEach((link) => { delete link.covered; }); });
-    const data = { citation: citation.citationOf(q, site), groups: shown };
+    const data = { citation: citation.citationOf(q, site), groups: copies.placed(shown, groups, q, site) };
     notices.addTo(data, q);
     if (q.maybe.length > 0) {
         data.maybe = q.maybe.map((it) => ({ title: it.title, numbers: it.standard }));
