@@ -2,6 +2,7 @@
 // text.js says in which njs it runs.
 import addresses from './addresses.js';
 import citation from './citation.js';
+import copies from './copies.js';
 import coverage from './coverage.js';
 import form from './form.js';
 import index from './index.js';
@@ -135,7 +136,8 @@ function noticeHtml(q, groups, hasPage, site) {
     if (!hasNotice(q, groups)) return '';
     const known = knowledgeOf(q, groups, site);
     const name = hasPage && known === 'number' ? 'page' : known;
-    const parts = [pages.notice(NOTICES[name] || 'incomplete', site)];
+    const isOnlyCopy = known === 'number' && q.freeCopy !== null;
+    const parts = [pages.notice(isOnlyCopy ? 'onlyCopy' : NOTICES[name] || 'incomplete', site)];
     const isHeld = heldIn(q, groups[0], site);
     if (known === 'held') q.titles.forEach((it) => { parts.push(lists.rowsHtml(it, site, isHeld)); });
     return parts.filter(Boolean).join('\n');
@@ -155,9 +157,10 @@ function listHtml(heading, items) {
     return `<h2>${escape(heading)}</h2>\n<ul>\n${items.join('\n')}\n</ul>`;
 }
 // The groups that a reader sees, and after that of the full text the pages of the title.
-function listsHtml(groups, offered, site) {
+function listsHtml(q, groups, offered, site) {
     const toHtml = (link) => linkHtml(link, site);
-    const shown = shownGroups(groups).map((g) => listHtml(g.label || g.name, g.links.map(toHtml)));
+    const all = copies.placed(shownGroups(groups), groups, q, site);
+    const shown = all.map((g) => listHtml(g.label || g.name, g.links.map(toHtml)));
     const pagesHtml = offered.length > 0 ? [listHtml(word(site, 'titlePages'), offered.map(toHtml))] : NONE;
     const place = groups[0].links.length > 0 ? 1 : 0;
     return shown.slice(0, place).concat(pagesHtml, shown.slice(place));
@@ -184,7 +187,7 @@ function pageOf(q, groups, site) {
     const offered = addresses.pagesOf(q, groups, site);
     put(noticeHtml(q, groups, offered.length > 0, site));
     put(maybeHtml(q, site));
-    listsHtml(groups, offered, site).forEach(put);
+    listsHtml(q, groups, offered, site).forEach(put);
     if (q.titles.length > 0) q.titles[0].related.forEach((it) => { body.push(relatedHtml(it, site)); });
     put(completeHtml(q, groups, site));
     put(actionsHtml(q, site));
@@ -196,7 +199,7 @@ function pageOf(q, groups, site) {
 function dataOf(q, groups, site) {
     const shown = shownGroups(groups);
     shown.forEach((g) => { g.links.forEach((link) => { delete link.covered; }); });
-    const data = { citation: citation.citationOf(q, site), groups: shown };
+    const data = { citation: citation.citationOf(q, site), groups: copies.placed(shown, groups, q, site) };
     notices.addTo(data, q);
     if (q.maybe.length > 0) {
         data.maybe = q.maybe.map((it) => ({ title: it.title, numbers: it.standard }));

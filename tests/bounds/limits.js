@@ -5,6 +5,7 @@
 import addresses from './addresses.js';
 import completion from './completion.js';
 import contact from './contact.js';
+import copies from './copies.js';
 import door from './find.js';
 import folding from './fold.js';
 import identifying from './identifiers.js';
@@ -172,6 +173,19 @@ async function testLookup() {
         replyAfter(0, {}, { result: { uids: ['7'], 7: summary } });
         const q = await lookedUp('id=pmid:7');
         expect('lookup', `a DOI after ${before} other numbers`, q.first('x.doi'), before === 19 ? '10.5555/a' : '');
+    }
+}
+function testCopies() {
+    const address = (length) => 'https://a.example.org/' + repeated('a', length - 22);
+    expect('copies', '2000 characters', copies.hostOf(address(2000)), 'a.example.org');
+    expect('copies', '2001 characters', copies.hostOf(address(2001)), '');
+    const host = (length) => repeated(repeated('a', 49) + '.', 4) + repeated('a', length - 212) + '.example.org';
+    expect('copies', 'a host of 253 characters', copies.hostOf('https://' + host(253)), host(253));
+    expect('copies', 'a host of 254 characters', copies.hostOf('https://' + host(254)), '');
+    for (let before = 19; before <= 20; before++) {
+        const all = counted(before, () => ({ url: 'http://a.example.org/' })).concat([{ url: address(30) }]);
+        const found = copies.copyIn({ best_oa_location: null, oa_locations: all });
+        expect('copies', `a place after ${before} others`, foundOrNone(found), before === 19 ? 'found' : 'none');
     }
 }
 function testNotices() {
@@ -363,6 +377,7 @@ async function testAll() {
     await testReplies();
     await testLookup();
     testNotices();
+    testCopies();
     await testFind(200, 'b');
     await testFind(201, 'a');
     await testSearch('ab bc cd de ef fg');

@@ -45,6 +45,9 @@ class Scripts(Case):
     def test_contact(self) -> None:
         self.check("contact")
 
+    def test_copies(self) -> None:
+        self.check("copies", 6)
+
     def test_find(self) -> None:
         self.check("find")
 

@@ -16,6 +16,8 @@ from fixtures import needs
 from fixtures.lookup_services import DOI_300
 from fixtures.lookup_services import ENOUGH
 from fixtures.lookup_services import FALSE_LENGTHS
+from fixtures.lookup_services import FREE
+from fixtures.lookup_services import NO_LINKS
 from fixtures.lookup_services import READERS
 from fixtures.lookup_services import Services
 from fixtures.lookup_services import bytes_in
@@ -26,7 +28,10 @@ from fixtures.nginx_site import Reply
 from fixtures.patience import best_of_three
 from fixtures.patience import patience
 from fixtures.patience import wait_until
+from fixtures.site_case import ARTICLE
 from fixtures.site_case import SiteCase
+from fixtures.site_case import added
+from fixtures.site_case import lines_of
 
 FULL_TEXT = "tidal-press aggregate-net catalogue"
 ALONE = "so we do not know whether the library has the full text."
@@ -314,6 +319,12 @@ class Lookups(SiteWithLookups):
             ("id=pmid:99990004", [f"{retracted} Source: PubMed."]),
             ("id=pmid:99990005", ["This article was retracted. Source: PubMed."]),
             ("id=pmid:99990006", []),
+            (
+                "id=doi:10.5555/other-source",
+                [
+                    "This article was corrected. Notice: doi.org/10.5555/erratum. Source: Watch & <3 'friends'.",
+                ],
+            ),
             ("id=doi:10.5555/good", []),
             ("id=doi:10.5555/good&atitle=RETRACTED:+Storms", ["The source says that this article was retracted."]),
             ("id=doi:10.5555/retracted&issn=2901-0012", []),
@@ -431,3 +442,150 @@ class Beside(SiteWithLookups):
             self.data(f"id=doi:10.5555/beside8&{query}")
             self.expect(f"{named} {query}", self.services.asked["10.5555/beside8"], count)
         path.write_text(written, encoding="ascii")
+
+
+@needs.command("openssl")
+class Copies(SiteWithLookups):
+    """The page has free copies."""
+
+    switches = ("openlink_free_copies",)
+
+    def shown(self, query: str) -> list[tuple[str, list[str]]]:
+        """The headings of a page, each with its links."""
+        page = self.site.get(f"/find?{query}")
+        self.expect(f"{query}: the status", (page.status, page.headers["X-Evil"]), (200, None))
+        self.tidy(f"{query}: the page", page.text)
+        parts = re.findall(r"<h2>(.*?)</h2>\n<ul>(.*?)</ul>", page.text, re.S)
+        return [(name, re.findall(r'<a href="[^"]*">(.*?)</a>', text)) for name, text in parts]
+
+    def copy(self, name: str) -> Any:
+        """The link of the free copy in the data of a DOI, None if it has none."""
+        groups = [
+            group for group in self.data(f"id=doi:10.5555/{name}&{ARTICLE}")["groups"] if group["name"] == "Free copy"
+        ]
+        return groups[0]["links"] if groups else None
+
+    def test_copies(self) -> None:
+        """The best place that a reader may follow, with its version and host."""
+        published, repository = "Free copy: publisher’s version, at ", "repository.example.org"
+        for name, label, url, host, version in (
+            ("good", published, FREE, repository, "publishedVersion"),
+            ("accepted", "Free copy: accepted manuscript, at ", FREE, repository, "acceptedVersion"),
+            (
+                "submitted",
+                "Free copy: submitted manuscript, at ",
+                "HTTPS://Preprints.Example.ORG:443/7?a=1#b",
+                "preprints.example.org",
+                "submittedVersion",
+            ),
+            ("unversioned", "Free copy, at ", FREE, repository, None),
+            ("landing", published, "https://a.example.org/12", "a.example.org", "publishedVersion"),
+            ("second", "Free copy, at ", FREE, repository, None),
+            ("puny", "Free copy, at ", "https://xn--rpository-b4a.example.org/", "xn--rpository-b4a.example.org", None),
+            (
+                "quoted",
+                published,
+                "https://a.example.org/o'neil?a=(1)&amp;b='x'",
+                "a.example.org",
+                "publishedVersion",
+            ),
+        ):
+            link = {"label": label + host, "url": url, "host": host}
+            self.expect(name, self.copy(name), [link if version is None else {**link, "version": version}])
+            self.expect(
+                f"{name}: on the page", ("Free copy", [label + host]) in self.shown(f"id=doi:10.5555/{name}&{ARTICLE}")
+            )
+        self.expect("asked once, then from the cache", self.services.asked["copy:10.5555/good"], 1)
+        sent = json.dumps([path for path, _ in self.services.heads if path.startswith("/v2/")])
+        self.expect(
+            "what is sent",
+            ("/v2/10.5555%2Fgood?email=links@library.example.org" in sent, "issn" in sent),
+            (True, False),
+        )
+        hosts = {heads["Host"] for path, heads in self.services.heads if path.startswith("/v2/")}
+        self.expect("the host", hosts, {"api.unpaywall.org"})
+
+    def test_place(self) -> None:
+        """Below the library's own links and before loans; in German too."""
+        own = [("Full text", ["Tidal Press", "AggregateNet"]), ("In the library", ["Library catalogue"])]
+        free = ("Free copy", ["Free copy: publisher’s version, at repository.example.org"])
+        more = ("More about it", ["Publisher&#39;s page (DOI)", "Search the web"])
+        self.expect("full text", self.shown(f"id=doi:10.5555/good&{ARTICLE}"), [*own, free, more])
+        loan = "issn=2901-0012&date=1850&volume=1&atitle=x"
+        found = self.shown(f"id=doi:10.5555/good&{loan}")
+        self.expect(
+            "before the loan",
+            [name for name, _ in found],
+            ["In the library", "Free copy", "Request a copy", "More about it"],
+        )
+        page = self.site.get(f"/find?id=doi:10.5555/good&{loan}").text
+        self.expect("what is said", ("there is a free copy." in page, "We found no full text" in page), (True, False))
+        page = self.site.get(f"/find?id=doi:10.5555/closed&{loan}").text
+        self.expect("without a copy", ("there is a free copy." in page, "We found no full text" in page), (False, True))
+        groups = self.data(f"lang=de&id=doi:10.5555/good&{ARTICLE}")["groups"]
+        label = "Freie Kopie: Fassung des Verlags, bei repository.example.org"
+        self.expect(
+            "in German",
+            [(it.get("label"), it["links"][0]["label"]) for it in groups if it["name"] == "Free copy"],
+            [("Freie Kopie", label)],
+        )
+        targets = json.loads(self.site.read("openlink/targets.json"))
+        del targets["groups"]
+        self.site.write_targets(targets)
+        self.expect(
+            "without groups", [name for name, _ in self.shown(f"id=doi:10.5555/good&{ARTICLE}")], ["Links", "Free copy"]
+        )
+
+    def test_not_counted(self) -> None:
+        """It is no link of /go, and not counted in the log."""
+
+        def logged(address: str) -> str:
+            before = lines_of(self.site)
+            self.site.get(address)
+            return " ".join(added(self.site, "openlink.log", 1, before)[0].split(" ")[5:7])
+
+        with_copy = logged(f"/find?id=doi:10.5555/good&{ARTICLE}")
+        self.expect("in the log", with_copy, logged(f"/find?id=doi:10.5555/closed&{ARTICLE}"))
+        self.expect(
+            "what it has", with_copy, "found=2/6 targets=tidal-press,aggregate-net,catalogue,doi-resolver,web-search"
+        )
+        before = self.services.asked["copy:10.5555/accepted"]
+        reply = self.site.get(f"/go?first=1&id=doi:10.5555/accepted&{ARTICLE}")
+        self.expect("/go", (reply.status, reply.headers["Location"][:26]), (302, "https://press.example.com/"))
+        self.expect("it asks for nothing", self.services.asked["copy:10.5555/accepted"], before)
+        reply = self.site.get("/go?first=1&id=doi:10.5555/good&issn=2901-0012&date=1850&volume=1")
+        self.expect("no full text but the copy", (reply.status, FREE in reply.text), (200, True))
+        before = sum(self.services.asked.values())
+        for place in ("/cite", "/find.ris"):
+            self.site.get(f"{place}?id=doi:10.5555/copied&{ARTICLE}")
+        self.site.get(f"/find?id=arXiv:2101.00001&{ARTICLE}")
+        self.expect("no page, no question", sum(self.services.asked.values()), before)
+
+    def test_hostile(self) -> None:
+        """An address that no reader may follow is none, and the page is as without."""
+        for number, address in enumerate(NO_LINKS):
+            query = f"id=doi:10.5555/no-link{number}&{ARTICLE}"
+            self.expect(f"{address}: the link", self.copy(f"no-link{number}"), None)
+            self.expect(f"{address}: asked", self.services.asked[f"copy:10.5555/no-link{number}"], 1)
+            names = [name for name, _ in self.shown(query)]
+            self.expect(f"{address}: the page", names, ["Full text", "In the library", "More about it"])
+        for name in ("closed", "list", "text", "none", "deep", "huge", "half", "busy", "slow", "drip", "endless"):
+            self.expect(f"{name}: the link", self.copy(name), None)
+            self.expect(f"{name}: other links", len(self.shown(f"id=doi:10.5555/{name}&{ARTICLE}")), 3)
+
+    def test_both(self) -> None:
+        """A look-up and a copy, whose DOI may be that of a reply, have three seconds together."""
+        self.expect("a retracted article", [name for name, _ in self.shown("id=doi:10.5555/retracted")][2], "Free copy")
+        self.expect("the DOI of a reply", "Free copy" in [name for name, _ in self.shown("id=pmc:7000001")])
+        start = time.monotonic()
+        self.data("id=doi:10.5555/slow")
+        self.expect("both late", time.monotonic() - start < patience(4))
+
+    def test_off(self) -> None:
+        self.site.edit(("openlink_free_copies on;", "openlink_free_copies off;"))
+        before = sum(self.services.asked.values())
+        self.expect("off", self.copy("good"), None)
+        self.expect("off as the site comes", "js_var $openlink_free_copies off;" in self.plain)
+        self.site.write_site(self.plain.replace("openlink_free_copies off;", "openlink_free_copies on;"))
+        self.expect("without the look-up", self.copy("good"), None)
+        self.expect("nothing is asked", sum(self.services.asked.values()), before)
