@@ -122,7 +122,7 @@ function siteIn(targets, header, asked, library) {
         known: Object.create(null), labels: Object.create(null), languages, chosen: isChosen ? asked : '',
         file: wordsIn(language, library), mainFile: wordsIn(languages[0], library), library,
         words: own(targets, 'words'), groups: own(targets, 'groups'), targets: own(targets, 'targets'),
-        folder: own(targets, 'folder') };
+        folder: own(targets, 'folder'), all: targets };
 }
 
 // A text of targets.json for a reader, '' if there is none. It is the same in all languages, or an object of texts by

@@ -78,10 +78,12 @@ function shownGroups(groups) {
 
 function noteHtml(note) { return note ? `<p>${escape(note)}</p>` : ''; }
 function numberText(number, site) { return filled(site, number.includes('-') ? 'issn' : 'isbn', number); }
+// The link's name for those who hear it has all that distinguishes it: the edition, and what the target has.
 function linkHtml(link, site) {
     const edition = link.edition ? filled(site, 'edition', numberText(link.edition, site)) : '';
-    const anchor = pages.anchor(link.url, link.label);
-    return `<li>${anchor}${noteHtml(edition)}${noteHtml(link.covered)}${noteHtml(link.note)}</li>`;
+    const parts = [edition, link.covered || ''].filter(Boolean).map((text) => ` <span>${escape(text)}</span>`);
+    const name = pages.isolated(link.label, site) + parts.join('');
+    return `<li>${pages.anchorOf(link.url, name)}${noteHtml(link.note)}</li>`;
 }
 
 // The link by which a reader sends the request to the library. `{}` in the library's address is the place of the
@@ -144,8 +146,9 @@ function completeHtml(q, groups, site) {
 }
 function foundHtml(q, site) {
     if (!q.byTitle) return '';
-    const text = words.listed(site, [q.byTitle.title, numberText(q.byTitle.standard[0], site)]);
-    return `<p class="found">${escape(filled(site, 'byTitle', text))}</p>`;
+    const title = pages.isolated(q.byTitle.title, site);
+    const number = escape(words.separatorOf(site) + numberText(q.byTitle.standard[0], site));
+    return `<p class="found">${filled(site, 'byTitle', '\t').split('\t').map(escape).join(title + number)}</p>`;
 }
 function listHtml(heading, items) {
     return `<h2>${escape(heading)}</h2>\n<ul>\n${items.join('\n')}\n</ul>`;
@@ -158,13 +161,28 @@ function maybeHtml(q, site) {
 function relatedHtml(it, site) {
     const name = it.isLater ? 'later' : 'earlier';
     const key = is(/-/, it.number) ? 'rft.issn=' : 'rft.isbn=';
-    const link = pages.anchor(pages.addressOf('/find', key + encodeURIComponent(it.number), site), it.title);
+    const address = pages.addressOf('/find', key + encodeURIComponent(it.number), site);
+    const link = pages.anchorOf(address, pages.isolated(it.title, site));
     return `<p class="related">${filled(site, name, '\t').split('\t').map(escape).join(link)}</p>`;
 }
 
+// What was found: whose full text, or else the title of what is sought.
+const MOST_NAMES = 3;
+const MOST_HEADING = 200;  // characters of a title
+function headingOf(q, groups, cited, site) {
+    const names = groups[0].links.map((link) => link.label).filter((name, i, all) => all.indexOf(name) === i);
+    if (site.groups === undefined || names.length === 0 || q.maybe.length > 0) {
+        const title = cited.title || cited.journal || word(site, 'heading');
+        return title.length > MOST_HEADING ? `${title.slice(0, MOST_HEADING - 1)}\u2026` : title;
+    }
+    const listed = words.listed(site, names.slice(0, MOST_NAMES));
+    const shown = names.length > MOST_NAMES ? filled(site, 'others', listed) : listed;
+    return filled(site, 'fullText', shown) || shown;
+}
 function pageOf(q, groups, site) {
     const cited = citation.citationOf(q, site);
-    const heading = word(site, 'heading');
+    const heading = headingOf(q, groups, cited, site);
+    const title = (cited.title || cited.journal || word(site, 'heading')).slice(0, 100);
     const body = [citation.citationHtml(cited, site)];
     const put = (html) => { if (html !== '') body.push(html); };
     put(foundHtml(q, site));
@@ -178,7 +196,7 @@ function pageOf(q, groups, site) {
     put(completeHtml(q, groups, site));
     put(actionsHtml(q, site));
     put(problemHtml(q, site));
-    return pages.documentOf((cited.title || cited.journal || heading).slice(0, 100), heading, body, site);
+    return pages.documentOf(title, heading, body, site);
 }
 
 // The same as data. What a link's `coverage` says is left to the reader of the data.

@@ -2,6 +2,8 @@
 // which finds the modules and fold.js in a folder that test_javascript.py writes. Prints a line of JSON for each case:
 // the file whose limit it is and what it is, alone or with what it gives and what was expected; last how many there
 // are.
+import addresses from './addresses.js';
+import browser from './browser.js';
 import completion from './completion.js';
 import contact from './contact.js';
 import door from './find.js';
@@ -13,6 +15,7 @@ import latex from './latex.js';
 import lists from './lists.js';
 import log from './log.js';
 import lookup from './lookup.js';
+import menus from './menu.js';
 import numbers from './numbers.js';
 import openurl from './openurl.js';
 import pages from './pages.js';
@@ -157,6 +160,13 @@ function testIdentifiers() {
     expect('identifiers', '1000 pasted characters', foundOrNone(identifying.pastedIn(pasted(999) + 'f')), 'found');
     expect('identifiers', '1001 pasted characters', foundOrNone(identifying.pastedIn(pasted(1001))), 'none');
 }
+function testAddresses() {
+    const address = (length) => 'https://e.org/' + repeated('a', length - 26) + '/10.5555/abc';
+    [[1999, 'found'], [2000, 'found'], [2001, 'none']].forEach((it) => {
+        const found = foundOrNone(addresses.identifierIn(address(it[0])));
+        expect('addresses', it[0] + ' characters', address(it[0]).length + ' ' + found, it[0] + ' ' + it[1]);
+    });
+}
 function testNumbers() {
     const within = (text) => numbers.numbersIn([text], numbers.ISSN, 1).length;
     expect('numbers', '200 characters', within(repeated('a', 190) + ' 2901-0012'), 1);
@@ -270,6 +280,28 @@ function testPages() {
         expect('pages', 'a DOI of ' + it[0] + ' characters', text.includes('https://doi.org/'), it[1]);
     });
 }
+function testMenu() {
+    const targets = { t1: {}, t2: {}, t3: {}, t4: {} };
+    const texts = { fullText: '{}', others: '{} ..' };
+    const site = languages.siteIn({ groups: [{ name: 'A' }], targets, words: texts }, '');
+    const headingOf = function (args, links) {
+        const q = openurl.queryOf(args);
+        return /<h1>([^<]*)<\/h1>/.exec(menus.pageOf(q, menus.groupsOf(links, site), site))[1];
+    };
+    const linkOf = (i) => ({ target: 't' + i, url: 'https://e.org/', edition: null, row: null });
+    const found = (most) => counted(most, linkOf);
+    expect('menu', '3 names', headingOf('atitle=a', found(3)), 't1, t2, t3');
+    expect('menu', '4 names', headingOf('atitle=a', found(4)), 't1, t2, t3 ..');
+    expect('menu', '200 characters', headingOf('atitle=' + repeated('a', 199) + 'b', []), repeated('a', 199) + 'b');
+    expect('menu', '201 characters', headingOf('atitle=' + repeated('a', 201), []), repeated('a', 199) + '\u2026');
+}
+function testBrowser() {
+    const r = { headersIn: { Host: 'e.org' }, variables: { scheme: 'https' } };
+    [16, 17].forEach((length) => {
+        const text = browser.searchOf(r, languages.siteIn({ words: { library: repeated('a', length) } }, ''));
+        expect('browser', length + ' characters', /<ShortName>(.*)<\/ShortName>/.exec(text)[1], repeated('a', 16));
+    });
+}
 async function testFind(length, expected) {
     const r = requestWith('q=' + repeated('a', length - 1) + 'b', {});
     await door.list(r);
@@ -283,6 +315,7 @@ async function testSearch(words) {
 }
 
 testIdentifiers();
+testAddresses();
 testNumbers();
 testOpenurl();
 testQuery();
@@ -294,6 +327,8 @@ testContact();
 testLanguages();
 testLists();
 testPages();
+testMenu();
+testBrowser();
 async function testAll() {
     await testCompletion();
     await testLookup();
