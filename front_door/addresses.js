@@ -1,48 +1,29 @@
-// The pages that providers have for the journal or book of a request, whose addresses the index has (title_url). They
-// are offered for targets that have the title and no link, if the request may mean all of it. They are neither links of
-// the program nor full text, so nothing counts them. text.js says in which njs it runs.
-import coverage from './coverage.js';
-import index from './index.js';
+// The identifier in the address of a page, which the bookmarklet sends: that of a page of PubMed or arXiv, or a DOI in
+// the path or the query, without what publishers write after it. text.js says in which njs it runs.
+import identifying from './identifiers.js';
 import texts from './text.js';
-import words from './words.js';
 
-const HTTPS = /^https:\/\/[\x21-\x7e]+$/;
-const MOST_ROWS = 4;  // whose coverage is shown
+const is = texts.is;
+const MOST_CHARACTERS = 2000;
+const DOI = texts.lazy('[\\/=:](10\\.\\d{4,9}\\/[^\\s"?#&]+)', 'i');
+// What a page shows of an article, and its form: `/full`, `/pdf/name.pdf`, `.full.pdf+html`.
+const VIEW = texts.lazy('[\\/.](?:abs(?:tract)?|citations?|e?pdf(?:direct|plus)?|epub|figures|full(?:-?text|html)?'
+    + '|html?|meta(?:data)?|metrics|references|summary|suppl_file|tables|xml)(?:[\\/.+].*)?$', 'i');
+// bioRxiv and medRxiv write the version of a preprint after its DOI.
+const VERSION = /^(10\.1101\/[\d.]{6,30})v\d{1,3}$/;
 
-// Whether a journal's article is named so well that a target without a link does not have it.
-function isWhole(q) { return q.has('x.issn') && q.has('x.to') && q.has('rft.volume'); }
-// Whether a row may be of what is asked for. Nobody here knows what an embargo closes in a year.
-function mayBe(row, year) {
-    const isOpen = row.embargo === undefined || row.embargo === '-';
-    return coverage.mayHave(row, year) && (year === '' || isOpen);
+function decoded(text) {
+    try { return decodeURIComponent(text); } catch (e) { return text; }
 }
-function pageOf(title, page, rows, site) {
-    const covered = [];
-    rows.slice(0, MOST_ROWS).forEach((row) => {
-        const text = coverage.textOf(row, site);
-        if (text !== '' && !covered.includes(text)) covered.push(text);
-    });
-    const name = title.kind === 'b' ? 'bookAt' : 'journalAt';
-    return {
-        target: page.target, label: words.filled(site, name, words.labelOf(site, page.target)), url: page.url,
-        covered: covered.join('; ')
-    };
-}
-// The pages for the titles of a request, one of each target that has no link in the groups.
-function pagesOf(q, groups, site) {
-    if (isWhole(q) || q.titles.every((it) => it.pages.length === 0)) return [];
-    const known = Object.create(null);
-    groups.forEach((group) => { group.links.forEach((link) => { known[link.target] = true; }); });
-    const year = q.first('rft.date').slice(0, 4);
-    const found = [];
-    q.titles.forEach((title) => { title.pages.forEach((page) => {
-        if (known[page.target] === true || !texts.is(HTTPS, page.url)) return;
-        const rows = title.rows.map(index.rowOf).filter((row) => row.target === page.target && mayBe(row, year));
-        if (rows.length === 0) return;
-        known[page.target] = true;
-        found.push(pageOf(title, page, rows, site));
-    }); });
-    return found;
+// The identifier as [key, number, URI], or null.
+function identifierIn(address) {
+    if (address.length > MOST_CHARACTERS) return null;
+    const whole = identifying.identifierIn(address, '');
+    if (whole !== null) return whole;
+    const text = decoded(address);
+    if (!text.includes('10.') || !is(DOI(), text)) return null;
+    const doi = DOI().exec(text)[1].replace(VIEW(), '');
+    return identifying.identifierIn('doi:' + (is(VERSION, doi) ? VERSION.exec(doi)[1] : doi), '');
 }
 
-export default { pagesOf };
+export default { identifierIn };

@@ -29,6 +29,7 @@ function siteOf(r) {
     site.path = isFault ? '' : r.uri;
     site.args = asked === undefined ? sent : withoutLanguage(sent);
     site.hasList = r.variables.openlink_list !== 'off';
+    site.isFramed = Boolean(r.variables.openlink_frames);
     return site;
 }
 function hasLanguage(args) { return args.includes('lang=') && is(LANGUAGE, args); }
@@ -106,4 +107,4 @@ function guarded(handler) {
     };
 }
 
-export default { argsOf, siteOf, send, sendPage, sendJson, sendFault, guarded };
+export default { argsOf, siteOf, send, sendIn, sendPage, sendJson, sendFault, guarded };

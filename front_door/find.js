@@ -1,6 +1,7 @@
 // The front door of the link resolver: reads an OpenURL of any source, asks the program for its menu, and replies with
 // the reader's page, JSON or a redirect. An operator edits nothing here: labels are in targets.json, the page's texts
 // in words/. text.js says in which njs it runs.
+import browser from './browser.js';
 import citation from './citation.js';
 import completion from './completion.js';
 import contact from './contact.js';
@@ -43,7 +44,8 @@ function logLinks(r, q, groups) {
 }
 
 function replyPage(r, q, groups, site) {
-    exchange.sendPage(r, 200, q.isEmpty() ? form.formOf(q, site) : menu.pageOf(q, groups, site), site);
+    const text = q.isEmpty() ? form.formOf(q, site, browser.bookmarkletHtml(r, site)) : menu.pageOf(q, groups, site);
+    exchange.sendPage(r, 200, text, site);
 }
 async function find(r) {
     const q = await completion.queryOf(r);
@@ -83,7 +85,7 @@ async function go(r) {
 async function cite(r) {
     const site = exchange.siteOf(r);
     const q = await completion.queryOf(r);
-    exchange.sendPage(r, 200, form.formOf(q, site), site);
+    exchange.sendPage(r, 200, form.formOf(q, site, ''), site);
 }
 async function ris(r) {
     const site = exchange.siteOf(r);
@@ -130,6 +132,12 @@ async function report(r) {
     exchange.send(r, 200, 'text/plain', program.joinedReports(replies.texts));
 }
 
+// The site's search, for browsers.
+function opensearch(r) {
+    const site = exchange.siteOf(r);
+    exchange.sendIn(r, site, 200, 'application/opensearchdescription+xml', browser.searchOf(r, site));
+}
+
 // Whom to tell of a weakness, if the site says it (RFC 9116). The reply is valid for a part of a year, from today.
 function security(r) {
     const text = contact.textOf(String(r.variables.openlink_security || ''), Date.now());
@@ -143,5 +151,5 @@ function fault(r) { exchange.sendFault(r, Number(r.variables.status) || 503, exc
 export default {
     find: exchange.guarded(find), json: exchange.guarded(json), go: exchange.guarded(go), cite: exchange.guarded(cite),
     ris: exchange.guarded(ris), list: exchange.guarded(list), report: exchange.guarded(report),
-    security: exchange.guarded(security), fault: exchange.guarded(fault)
+    opensearch: exchange.guarded(opensearch), security: exchange.guarded(security), fault: exchange.guarded(fault)
 };

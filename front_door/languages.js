@@ -129,7 +129,8 @@ function siteIn(targets, header, asked, library) {
         known: Object.create(null), labels: Object.create(null), languages, chosen: isChosen ? asked : '',
         file: wordsIn(language, library), mainFile: wordsIn(languages[0], library), library,
         words: objectUnder(targets, 'words'), groups: objectUnder(targets, 'groups'),
-        targets: objectUnder(targets, 'targets'), folder: typeof folder === 'string' ? folder : undefined };
+        targets: objectUnder(targets, 'targets'), folder: typeof folder === 'string' ? folder : undefined,
+        all: targets };
 }
 
 // A text of targets.json for a reader, '' if there is none. It is the same in all languages, or an object of texts by

@@ -30,7 +30,8 @@ function rowsHtml(it, site, isShown) {
     const rows = it.rows.map(index.rowOf).filter(isShown || Boolean).map((row) => {
         const text = coverage.textOf(row, site);
         const label = words.labelOf(site, row.target);
-        return escape(text ? words.labelled(site, label, text) : label);
+        const name = pages.isolated(label, site);
+        return text ? words.labelled(site, name, escape(text)) : name;
     }).filter((text) => {
         const isNew = known[text] !== true;
         known[text] = true;
@@ -41,7 +42,7 @@ function rowsHtml(it, site, isShown) {
 function numberText(number, site) { return filled(site, numbers.isIssn(number) ? 'issn' : 'isbn', number); }
 function titleHtml(it, site, args) {
     const listed = words.listed(site, it.standard.slice(0, MOST_NUMBERS).map((number) => numberText(number, site)));
-    const anchor = pages.anchor(titleAddress(it, args, site), it.title);
+    const anchor = pages.anchorOf(titleAddress(it, args, site), pages.isolated(it.title, site));
     return `<li>${anchor}<p>${escape(listed)}</p>${rowsHtml(it, site)}</li>`;
 }
 function titlesHtml(titles, site) {
@@ -54,7 +55,9 @@ function countText(count, site) { return words.counted(site, 'titles', 'oneTitle
 function searchHtml(kind, text, site) {
     const language = site.chosen ? `<input type="hidden" name="lang" value="${site.chosen}">` : '';
     const label = `<label for="q">${escape(word(site, 'searchField'))}</label>`;
-    const input = `<input id="q" name="q" maxlength="200" value="${escape(texts.clean(text))}">`;
+    const direction = site.dir === 'rtl' ? ' dir="auto"' : '';
+    const input = `<input id="q" name="q" maxlength="200" value="${escape(texts.clean(text))}" inputmode="search"${
+        direction} autocapitalize="none" spellcheck="false">`;
     return [`<form action="${PATHS[kind]}" method="get" class="search">${language}`,
         `<p>${label} ${input} <button>${escape(word(site, 'search'))}</button></p>`, '</form>'];
 }

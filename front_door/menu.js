@@ -1,6 +1,5 @@
 // The reader's page and its JSON: the citation of a request, and the links of a menu in the groups of targets.json.
 // text.js says in which njs it runs.
-import addresses from './addresses.js';
 import citation from './citation.js';
 import copies from './copies.js';
 import coverage from './coverage.js';
@@ -11,6 +10,7 @@ import lists from './lists.js';
 import notices from './notices.js';
 import pages from './pages.js';
 import texts from './text.js';
+import titlePages from './title_pages.js';
 import words from './words.js';
 
 const own = texts.own;
@@ -82,10 +82,12 @@ function shownGroups(groups) {
 
 function noteHtml(note) { return note ? `<p>${escape(note)}</p>` : ''; }
 function numberText(number, site) { return filled(site, number.includes('-') ? 'issn' : 'isbn', number); }
+// The link's name for those who hear it has all that distinguishes it: the edition, and what the target has.
 function linkHtml(link, site) {
     const edition = link.edition ? filled(site, 'edition', numberText(link.edition, site)) : '';
-    const anchor = pages.anchor(link.url, link.label);
-    return `<li>${anchor}${noteHtml(edition)}${noteHtml(link.covered)}${noteHtml(link.note)}</li>`;
+    const parts = [edition, link.covered || ''].filter(Boolean).map((text) => ` <span>${escape(text)}</span>`);
+    const name = pages.isolated(link.label, site) + parts.join('');
+    return `<li>${pages.anchorOf(link.url, name)}${noteHtml(link.note)}</li>`;
 }
 
 // The link by which a reader sends the request to the library. `{}` in the library's address is the place of the
@@ -150,8 +152,9 @@ function completeHtml(q, groups, site) {
 }
 function foundHtml(q, site) {
     if (!q.byTitle) return '';
-    const text = words.listed(site, [q.byTitle.title, numberText(q.byTitle.standard[0], site)]);
-    return `<p class="found">${escape(filled(site, 'byTitle', text))}</p>`;
+    const title = pages.isolated(q.byTitle.title, site);
+    const number = escape(words.separatorOf(site) + numberText(q.byTitle.standard[0], site));
+    return `<p class="found">${filled(site, 'byTitle', '\t').split('\t').map(escape).join(title + number)}</p>`;
 }
 function listHtml(heading, items) {
     return `<h2>${escape(heading)}</h2>\n<ul>\n${items.join('\n')}\n</ul>`;
@@ -173,18 +176,33 @@ function maybeHtml(q, site) {
 function relatedHtml(it, site) {
     const name = it.isLater ? 'later' : 'earlier';
     const key = is(/-/, it.number) ? 'rft.issn=' : 'rft.isbn=';
-    const link = pages.anchor(pages.addressOf('/find', key + encodeURIComponent(it.number), site), it.title);
+    const address = pages.addressOf('/find', key + encodeURIComponent(it.number), site);
+    const link = pages.anchorOf(address, pages.isolated(it.title, site));
     return `<p class="related">${filled(site, name, '\t').split('\t').map(escape).join(link)}</p>`;
 }
 
+// What was found: whose full text, or else the title of what is sought.
+const MOST_NAMES = 3;
+const MOST_HEADING = 200;  // characters of a title
+function headingOf(q, groups, cited, site) {
+    const names = groups[0].links.map((link) => link.label).filter((name, i, all) => all.indexOf(name) === i);
+    if (site.groups === undefined || names.length === 0 || q.maybe.length > 0) {
+        const title = cited.title || cited.journal || word(site, 'heading');
+        return title.length > MOST_HEADING ? `${title.slice(0, MOST_HEADING - 1)}\u2026` : title;
+    }
+    const listed = words.listed(site, names.slice(0, MOST_NAMES));
+    const shown = names.length > MOST_NAMES ? filled(site, 'others', listed) : listed;
+    return filled(site, 'fullText', shown) || shown;
+}
 function pageOf(q, groups, site) {
     const cited = citation.citationOf(q, site);
-    const heading = word(site, 'heading');
+    const heading = headingOf(q, groups, cited, site);
+    const title = (cited.title || cited.journal || word(site, 'heading')).slice(0, 100);
     const body = [citation.citationHtml(cited, site)];
     const put = (html) => { if (html !== '') body.push(html); };
     put(foundHtml(q, site));
     notices.linesOf(q, site).forEach(put);
-    const offered = addresses.pagesOf(q, groups, site);
+    const offered = titlePages.pagesOf(q, groups, site);
     put(noticeHtml(q, groups, offered.length > 0, site));
     put(maybeHtml(q, site));
     listsHtml(q, groups, offered, site).forEach(put);
@@ -192,7 +210,7 @@ function pageOf(q, groups, site) {
     put(completeHtml(q, groups, site));
     put(actionsHtml(q, site));
     put(problemHtml(q, site));
-    return pages.documentOf((cited.title || cited.journal || heading).slice(0, 100), heading, body, site);
+    return pages.documentOf(title, heading, body, site);
 }
 
 // The same as data. What a link's `coverage` says is left to the reader of the data.
@@ -204,7 +222,7 @@ function dataOf(q, groups, site) {
     if (q.maybe.length > 0) {
         data.maybe = q.maybe.map((it) => ({ title: it.title, numbers: it.standard }));
     }
-    const offered = addresses.pagesOf(q, groups, site);
+    const offered = titlePages.pagesOf(q, groups, site);
     if (offered.length > 0) data.pages = offered.map((it) => ({ target: it.target, label: it.label, url: it.url }));
     return data;
 }

@@ -1,5 +1,6 @@
 // An OpenURL of any source: the rules by which a query becomes those that the program gets. They are pure functions of
 // the request's text. text.js says in which njs it runs.
+import addresses from './addresses.js';
 import dates from './dates.js';
 import encodings from './encodings.js';
 import identifying from './identifiers.js';
@@ -23,6 +24,7 @@ const FINDING = [
     version,      // a version that is not OpenURL 1.0's is corrected
     fields,       // what a reader has typed into the form is a number of this or that kind
     oldKeys,      // the keys of OpenURL 0.1 give those of 1.0
+    page,         // the address of a page may have an identifier
     pasted,       // an identifier in the field of a title is none of it
     dublinCore,   // the keys of Dublin Core give those of 1.0 too
     cited,        // a title with a volume and pages after it has more than a title
@@ -191,6 +193,14 @@ function retraction(q) {
 const SOURCES = ['rft_id', 'id', 'rft.doi', 'doi', 'pmid', 'rft.pmid', 'pmcid', 'rft.pmcid', 'rft.identifier'];
 function identifiersUnder(q, source) {
     return q.all(source).map((value) => identifying.identifierIn(value, source)).filter(Boolean);
+}
+
+// The identifier in the address of the page from which a reader comes counts if the request has none of its kind.
+function page(q) {
+    const found = q.has('url') ? addresses.identifierIn(q.first('url')) : null;
+    if (found === null || !isNew(q, found)) return;
+    q.copied.url = true;
+    q.pasted = q.pasted.concat([found]);
 }
 
 // An identifier that a reader has pasted into the field of a title counts if the request has none of its kind. The

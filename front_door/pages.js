@@ -15,7 +15,14 @@ const word = words.word;
 const MOST_ARGS = 3000;
 const LOGO = /^[\w-]{1,60}\.(?:svg|png|jpg|gif|webp)$/;
 
-function anchor(url, text) { return `<a href="${escape(url)}">${escape(text)}</a>`; }
+function anchorOf(url, html) { return `<a href="${escape(url)}">${html}</a>`; }
+function anchor(url, text) { return anchorOf(url, escape(text)); }
+// A text that may have another direction than the page: a title, or the name of a target.
+const RIGHT_TO_LEFT = /[\u0590-\u08ff\ufb1d-\ufdff\ufe70-\ufefc]/;
+function isolated(text, site) { return site.dir === 'rtl' ? `<bdi>${escape(text)}</bdi>` : escape(text); }
+function headingHtml(text, site) {
+    return site.dir !== 'rtl' && is(RIGHT_TO_LEFT, text) ? `<bdi>${escape(text)}</bdi>` : isolated(text, site);
+}
 function notice(name, site) { return `<p class="nothing">${escape(word(site, name))}</p>`; }
 // An address of the site, which keeps the language that the reader has chosen.
 function addressOf(path, args, site) {
@@ -23,10 +30,15 @@ function addressOf(path, args, site) {
     return `${path}?${args ? args + '&' : ''}lang=${site.chosen}`;
 }
 
+// The library's name and logo, which lead home. Staff come to a server that has no home.
 function headerHtml(library, site) {
     const logo = word(site, 'logo');
-    const image = logo !== '' && is(LOGO, logo) ? `<img src="/${logo}" alt=""> ` : '';
-    return library || image ? `<header><p>${image}${escape(library)}</p></header>\n` : '';
+    const name = library === '' ? escape(word(site, 'form')) : '';
+    const image = logo !== '' && is(LOGO, logo) ? `<img src="/${logo}" alt="${name}">` : '';
+    const shown = [image, escape(library)].filter(Boolean).join(' ');
+    if (shown === '') return '';
+    const home = site.isForStaff ? shown : `<a href="${addressOf('/find', '', site)}">${shown}</a>`;
+    return `<header><p>${home}</p></header>\n`;
 }
 
 function addHelp(items, site) {
@@ -73,6 +85,14 @@ function footerHtml(site) {
 
 // Characters that HTML may not hold; those of requests are gone before, those of the library's own texts go here.
 const CONTROLS = /[\u0000-\u0009\u000b-\u001f\u007f-\u009f\u2028\u2029\ufdd0-\ufdef\ufffe\uffff]/g;
+// What browsers find in the head: the search of the site, and, if others show the page in a frame, that its links open
+// in the whole window, since publishers refuse to be in one.
+function headHtml(library, site) {
+    if (site.isForStaff) return '';
+    const search = `<link rel="search" type="application/opensearchdescription+xml" href="${
+        addressOf('/opensearch.xml', '', site)}" title="${escape(library || word(site, 'form'))}">\n`;
+    return site.isFramed ? `<base target="_top">\n${search}` : search;
+}
 function documentOf(title, heading, body, site) {
     const library = word(site, 'library');
     const text = `<!DOCTYPE html>
@@ -82,10 +102,10 @@ function documentOf(title, heading, body, site) {
 <meta name="viewport" content="width=device-width, initial-scale=1">
 <title>${escape(library === '' ? title : `${title} – ${library}`)}</title>
 <link rel="stylesheet" href="/menu.css">
-</head>
+${headHtml(library, site)}</head>
 <body>
 ${headerHtml(library, site)}<main>
-<h1>${escape(heading)}</h1>
+<h1>${headingHtml(heading, site)}</h1>
 ${body.join('\n')}
 </main>
 ${footerHtml(site)}</body>
@@ -114,4 +134,6 @@ function faultOf(status, site, doi) {
     return documentOf(title, title, [faultHtml(status, site)].concat(doiHtml(doi, site)), site);
 }
 
-export default { MOST_ARGS, anchor, notice, addressOf, documentOf, doiLink, faultHtml, faultOf };
+export default {
+    MOST_ARGS, anchor, anchorOf, isolated, notice, addressOf, documentOf, doiLink, faultHtml, faultOf
+};

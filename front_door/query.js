@@ -47,7 +47,7 @@ function isDropped(key, value) {
 const OLD_KEYS = ['genre', 'issn', 'eissn', 'isbn', 'eisbn', 'volume', 'issue', 'spage', 'epage', 'pages', 'artnum',
     'date', 'year', 'atitle', 'jtitle', 'btitle', 'stitle', 'au', 'aulast', 'aufirst', 'auinit', 'auinit1', 'aucorp',
     'part', 'ssn', 'quarter', 'sici', 'coden'];
-const OTHER_KEYS = ' title sid pid id doi pmid pmcid number identifier creator source type ctx_ver ctx_enc url_ver '
+const OTHER_KEYS = ' title sid pid id doi pmid pmcid number identifier url creator source type ctx_ver ctx_enc url_ver '
     + 'url_ctx_fmt rft_id rft_dat rft_val_fmt rfr_id ';
 function isIn(names, key) { return names.includes(' ' + key + ' ') && !key.includes(' '); }
 function isKey(key) {

@@ -3,6 +3,7 @@
 // the file whose limit it is and what it is, alone or with what it gives and what was expected; last how many there
 // are.
 import addresses from './addresses.js';
+import browser from './browser.js';
 import completion from './completion.js';
 import contact from './contact.js';
 import copies from './copies.js';
@@ -15,6 +16,7 @@ import latex from './latex.js';
 import lists from './lists.js';
 import log from './log.js';
 import lookup from './lookup.js';
+import menus from './menu.js';
 import notices from './notices.js';
 import numbers from './numbers.js';
 import openurl from './openurl.js';
@@ -24,6 +26,7 @@ import references from './references.js';
 import replies from './replies.js';
 import retractions from './retractions.js';
 import search from './search.js';
+import titlePages from './title_pages.js';
 
 globalThis.fold = folding;
 globalThis.words_en = { issn: '{}', byDoi: 'by {}' };
@@ -225,6 +228,13 @@ function testIdentifiers() {
     expect('identifiers', '1000 pasted characters', foundOrNone(identifying.pastedIn(pasted(999) + 'f')), 'found');
     expect('identifiers', '1001 pasted characters', foundOrNone(identifying.pastedIn(pasted(1001))), 'none');
 }
+function testAddresses() {
+    const address = (length) => 'https://e.org/' + repeated('a', length - 26) + '/10.5555/abc';
+    [[1999, 'found'], [2000, 'found'], [2001, 'none']].forEach((it) => {
+        const found = foundOrNone(addresses.identifierIn(address(it[0])));
+        expect('addresses', it[0] + ' characters', address(it[0]).length + ' ' + found, it[0] + ' ' + it[1]);
+    });
+}
 function testNumbers() {
     const within = (text) => numbers.numbersIn([text], numbers.ISSN, 1).length;
     expect('numbers', '200 characters', within(repeated('a', 190) + ' 2901-0012'), 1);
@@ -325,13 +335,13 @@ function testLists() {
         expect('lists', most + ' rows', listed, 12);
     });
 }
-function testAddresses() {
+function testTitlePages() {
     const q = new query.Query('rft.issn=1000-0010');
     [4, 5].forEach((most) => {
         const rows = counted(most, (i) => 't ' + i + ' 200' + i + ' 200' + i);
         q.titles = [{ kind: 'j', pages: [{ target: 't', url: 'https://e.org/' }], rows }];
-        const found = addresses.pagesOf(q, [], languages.siteIn({}, ''));
-        expect('addresses', most + ' rows', found[0].covered, '2001; 2002; 2003; 2004');
+        const found = titlePages.pagesOf(q, [], languages.siteIn({}, ''));
+        expect('title_pages', most + ' rows', found[0].covered, '2001; 2002; 2003; 2004');
     });
 }
 function testPages() {
@@ -347,6 +357,28 @@ function testPages() {
         expect('pages', 'a DOI of ' + it[0] + ' characters', text.includes('https://doi.org/'), it[1]);
     });
 }
+function testMenu() {
+    const targets = { t1: {}, t2: {}, t3: {}, t4: {} };
+    const texts = { fullText: '{}', others: '{} ..' };
+    const site = languages.siteIn({ groups: [{ name: 'A' }], targets, words: texts }, '');
+    const headingOf = function (args, links) {
+        const q = openurl.queryOf(args);
+        return /<h1>([^<]*)<\/h1>/.exec(menus.pageOf(q, menus.groupsOf(links, site), site))[1];
+    };
+    const linkOf = (i) => ({ target: 't' + i, url: 'https://e.org/', edition: null, row: null });
+    const found = (most) => counted(most, linkOf);
+    expect('menu', '3 names', headingOf('atitle=a', found(3)), 't1, t2, t3');
+    expect('menu', '4 names', headingOf('atitle=a', found(4)), 't1, t2, t3 ..');
+    expect('menu', '200 characters', headingOf('atitle=' + repeated('a', 199) + 'b', []), repeated('a', 199) + 'b');
+    expect('menu', '201 characters', headingOf('atitle=' + repeated('a', 201), []), repeated('a', 199) + '\u2026');
+}
+function testBrowser() {
+    const r = { headersIn: { Host: 'e.org' }, variables: { scheme: 'https' } };
+    [16, 17].forEach((length) => {
+        const text = browser.searchOf(r, languages.siteIn({ words: { library: repeated('a', length) } }, ''));
+        expect('browser', length + ' characters', /<ShortName>(.*)<\/ShortName>/.exec(text)[1], repeated('a', 16));
+    });
+}
 async function testFind(length, expected) {
     const r = requestWith('q=' + repeated('a', length - 1) + 'b', {});
     await door.list(r);
@@ -360,6 +392,7 @@ async function testSearch(words) {
 }
 
 testIdentifiers();
+testAddresses();
 testNumbers();
 testOpenurl();
 testQuery();
@@ -370,8 +403,10 @@ testLog();
 testContact();
 testLanguages();
 testLists();
-testAddresses();
+testTitlePages();
 testPages();
+testMenu();
+testBrowser();
 async function testAll() {
     await testCompletion();
     await testReplies();

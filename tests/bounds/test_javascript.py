@@ -37,7 +37,13 @@ class Scripts(Case):
             self.expect(what, pair[:1], pair[1:])
 
     def test_addresses(self) -> None:
-        self.check("addresses")
+        self.check("addresses", 3)
+
+    def test_title_pages(self) -> None:
+        self.check("title_pages")
+
+    def test_browser(self) -> None:
+        self.check("browser")
 
     def test_completion(self) -> None:
         self.check("completion", 10)
@@ -62,6 +68,9 @@ class Scripts(Case):
 
     def test_lists(self) -> None:
         self.check("lists", 4)
+
+    def test_menu(self) -> None:
+        self.check("menu", 4)
 
     def test_log(self) -> None:
         self.check("log")

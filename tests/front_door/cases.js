@@ -259,6 +259,41 @@ const AROUND = [
         'rft.date=2013-08-01 x.from=20130801 x.to=20130801']
 ];
 
+// The address of a page, which the bookmarklet sends.
+const PAGE = 'rft_val_fmt=x&url=https%3A%2F%2Fpress.example.com%2F';
+const ABC = 'x.doi=10.5555/abc rft_id=info:doi/10.5555/abc';
+const ADDRESSES = [
+    ['a DOI in the path', PAGE + 'doi%2F10.5555%2Fabc', ABC],
+    ['a DOI that the page declares', 'rft_val_fmt=x&url=10.5555/abc', ABC],
+    ['with a word', 'rft_val_fmt=x&url=doi:10.5555/abc', ABC],
+    ['the full text', PAGE + 'doi%2Ffull%2F10.5555%2Fabc%3Fcasa_token%3Dx%23top', ABC],
+    ['a page after the DOI', PAGE + 'articles%2F10.5555%2Fabc%2Ffull', ABC],
+    ['a file', PAGE + 'content%2Fpdf%2F10.5555%2Fabc.pdf', ABC], ['an abstract', PAGE + '10.5555%2Fabc.abstract', ABC],
+    ['a file of a view', PAGE + 'content%2F10.5555%2Fabc.full.pdf%2Bhtml', ABC],
+    ['a supplement', PAGE + 'doi%2F10.5555%2Fabc%2Fsuppl_file%2Fa.pdf', ABC],
+    ['in the query', PAGE + 'article%3Fid%3D10.5555%2Fabc%26type%3Dprintable', ABC],
+    ['encoded twice', PAGE + 'doi%2F10.5555%252Fabc', ABC],
+    ['not encoded', 'rft_val_fmt=x&url=https://e.org/doi/10.5555/abc', ABC],
+    ['behind a proxy', 'rft_val_fmt=x&url=https://press-example-com.proxy.example.edu/doi/10.5555/abc', ABC],
+    ['the resolver of DOIs', 'rft_val_fmt=x&url=https://doi.org/10.5555/abc', ABC],
+    ['a preprint with its version', 'rft_val_fmt=x&url=https://e.org/content/10.1101/2020.01.02.123456v2.full',
+        'x.doi=10.1101/2020.01.02.123456 rft_id=info:doi/10.1101/2020.01.02.123456'],
+    ['a DOI that ends so', PAGE + '10.5555%2Fabcv2', 'x.doi=10.5555/abcv2 rft_id=info:doi/10.5555/abcv2'],
+    ['PubMed', 'rft_val_fmt=x&url=https://pubmed.ncbi.nlm.nih.gov/123/', 'x.pmid=123 rft_id=info:pmid/123'],
+    ['PMC', 'rft_val_fmt=x&url=https://pmc.ncbi.nlm.nih.gov/articles/PMC123/',
+        'rft_id=https://pmc.ncbi.nlm.nih.gov/articles/PMC123/'],
+    ['arXiv', 'rft_val_fmt=x&url=https://arxiv.org/abs/2101.00001v2',
+        'rft_id=info:doi/10.48550/arXiv.2101.00001 x.doi=10.48550/arXiv.2101.00001'],
+    ['capitals', 'rft_val_fmt=x&URL=https://e.org/doi/10.5555/abc', ABC,
+        'rft_val_fmt=x&url=https%3A%2F%2Fe.org%2Fdoi%2F10.5555%2Fabc'],
+    ['a DOI of its own comes first', 'rft_val_fmt=x&rft_id=info:doi/10.5555/xyz&url=https://e.org/doi/10.5555/abc',
+        'x.doi=10.5555/xyz'],
+    ['a number of another kind', 'rft_val_fmt=x&rft_id=info:pmid/7&url=10.5555/abc', 'x.pmid=7 ' + ABC],
+    ['no number', PAGE + 'article', ''], ['no prefix of a DOI', PAGE + 'v10.55%2Fabc', ''],
+    ['digits before it', PAGE + 'a110.5555%2Fabc', ''], ['nothing after it', PAGE + '10.5555%2F', ''],
+    ['an escape that is none', 'rft_val_fmt=x&url=https://e.org/%25zz/10.5555/abc', ABC]
+];
+
 // Identifiers that readers have pasted into the fields of titles, and titles that look like one.
 const PASTED = [
     ['a DOI', 'title=10.5555/abc', 'rft_val_fmt=J x.doi=10.5555/abc rft_id=info:doi/10.5555/abc', ''],
@@ -554,5 +589,5 @@ const FIELDS = [
 export default {
     SEPARATORS, DROPPED, VERSIONS, OLD, IDENTIFIERS, NUMBERS, DATES, DAYS, PAGES, ENCODINGS, PREFIXES, CORE,
     QUESTION_MARKS, CAPITALS, VOLUMES, MARKUP, TWICE, OTHER_ENCODINGS, UNKNOWN_ENCODINGS, FIELDS, FIRST_PAGES, ARTICLES,
-    SUPPLEMENTS, AROUND, PASTED, OTHER_ARCHIVES, DIGITS, LATEX, REFERENCES, RETRACTED
+    SUPPLEMENTS, AROUND, ADDRESSES, PASTED, OTHER_ARCHIVES, DIGITS, LATEX, REFERENCES, RETRACTED
 };

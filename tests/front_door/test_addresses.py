@@ -40,7 +40,7 @@ class Addresses(SiteCase):
             self.expect(
                 f"links of an unknown address, lists {lists}",
                 re.findall(r'<a href="(/[^"]*)"', text),
-                ["/find"] + ["/journals", "/books"] * (lists == "on"),
+                ["/find", "/find"] + ["/journals", "/books"] * (lists == "on"),
             )
             self.tidy("an unknown address", text)
             if lists == "on":

@@ -124,6 +124,8 @@ class Find(SiteCase):
             '<html lang="en" dir="ltr">',
             '<meta name="viewport"',
             "<title>Storm surges – Example University Library</title>",
+            '<header><p><a href="/find">Example University Library</a></p></header>',
+            "<h1>Full text from Tidal Press, AggregateNet</h1>",
             "<strong><bdi>Storm surges</bdi></strong>",
             "<cite><bdi>Annals of Tidal Studies</bdi></cite>",
             "vol. 12",
@@ -137,6 +139,7 @@ class Find(SiteCase):
             "order",
             order_of(reply.text),
             [
+                'a href="/find"',
                 "h1",
                 'p class="citation"',
                 "h2",
@@ -160,6 +163,7 @@ class Find(SiteCase):
             "without full text",
             order_of(reply.text),
             [
+                'a href="/find"',
                 "h1",
                 'p class="citation"',
                 'p class="nothing"',
@@ -190,7 +194,7 @@ class Find(SiteCase):
         reply = self.site.get("/find?rft.genre=unnamed&rft.atitle=x")
         self.expect(
             "a target that targets.json does not name",
-            order_of(reply.text)[1:6],
+            order_of(reply.text)[2:7],
             ['p class="citation"', 'p class="nothing"', "h2", 'a href="https://search.example.org/?q=x"', "h2"],
         )
         self.expect(

@@ -17,6 +17,7 @@ KEYS = (
     " rft.volume rft.issue rft.pages rft.spage rft.artnum rft.issn rft.eissn rft.isbn rft_id rfr_id rft.genre"
     " title id doi pmid sid pid date issn isbn ctx_ver ctx_enc rft_val_fmt first x.doi title_url"
 ).split()
+HEADING = re.compile(r"<h1>(Storm surges|Full text from [\w, -]+)</h1>")  # with and without groups of targets
 
 
 class Hostile(SiteCase):
@@ -99,7 +100,7 @@ class Hostile(SiteCase):
         ):
             self.site.write_targets(data)
             reply = self.site.get(f"/find?{ARTICLE}")
-            self.expect(f"slips: {data}", (reply.status, "<h1>Find this item</h1>" in reply.text), (200, True))
+            self.expect(f"slips: {data}", (reply.status, bool(HEADING.search(reply.text))), (200, True))
             self.tidy(f"slips: {data}", reply.text)
 
     def test_no_json(self) -> None:

@@ -52,12 +52,12 @@ PAGES = {
 IN_GERMAN = [
     ">Problem melden (Ihre Anfrage wird an die Bibliothek gesendet)</a>",
     "<title>Storm surges – Bibliothek der Beispieluniversität</title>",
-    "<h1>Diesen Titel finden</h1>",
+    "<h1>Volltext von Tidal Press, AggregateNet</h1>",
     "Bd. 12",
     "Nr. 3",
     "S. 101",
     "<h2>Volltext</h2>",
-    ">Bibliothekskatalog</a>",
+    ">Bibliothekskatalog <span>",
     ">Im Web suchen</a>",
 ]
 
@@ -141,7 +141,7 @@ class Languages(SiteCase):
 
     def add_hebrew(self) -> None:
         """Adds Hebrew as an operator does, with one word in it."""
-        self.site.write("openlink/words/he.json", json.dumps({"heading": "חיפוש"}))
+        self.site.write("openlink/words/he.json", json.dumps({"fullText": "חיפוש {}"}))
         data = json.loads(self.site.read("openlink/targets.json"))
         self.site.write("openlink/targets.json", json.dumps({**data, "languages": ["de", "he", "fr"]}))
         self.site.edit(("#js_preload_object words_he ", "js_preload_object words_he "))
@@ -150,7 +150,7 @@ class Languages(SiteCase):
         self.add_hebrew()
         reply = self.reply_in("he-IL, fr")
         self.tidy("a page from right to left, reader", reply.text)
-        parts = ('<html lang="he" dir="rtl">', "<h1>חיפוש</h1>", "Bd. 12")
+        parts = ('<html lang="he" dir="rtl">', "<h1><bdi>חיפוש Tidal Press, AggregateNet</bdi></h1>", "Bd. 12")
         self.expect("Hebrew", [part in reply.text for part in parts], [True] * 3)
         other = self.reply_in("en, fr", "/find")
         self.expect("another default", other.headers["Content-Language"], "de")

@@ -109,7 +109,7 @@ class Titles(TitlesCase):
         reply = self.site.get("/find?rft.jtitle=%3Ci%3ENothing%3C/i%3E+of+it")
         self.expect(
             "the page of a title alone, with markup",
-            ("<h1>Find this item</h1>" in reply.text, UNKNOWN in reply.text),
+            ("<h1>Nothing of it</h1>" in reply.text, UNKNOWN in reply.text),
             (True, True),
         )
         self.expect("a redirect by title", self.site.get("/go?title=Estuary+Biology&date=2012").status, 302)
@@ -234,7 +234,8 @@ class Titles(TitlesCase):
         )
         page = self.site.get(f"/find?{atlas}")
         self.tidy("a page with another edition", page.text)
-        self.expect("which edition, on the page", "<p>Edition with ISBN 9781234566265</p>" in page.text)
+        named = "Library catalogue <span>Edition with ISBN 9781234566265</span></a>"
+        self.expect("which edition, on the page", named in page.text)
         self.expect(
             "the second ISBN",
             self.targets("genre=book&rft.isbn=9780000000002&rft.isbn=9781234564728"),
@@ -304,9 +305,9 @@ class Titles(TitlesCase):
         ):
             self.expect(f"coverage in {date}", self.link(law + date, "coastal-law").get("coverage"), expected)
             page = self.site.get(f"/find?{law}{date}", headers=GERMAN)
-            self.expect(f"coverage in German in {date}", f"Coastal Law Society</a><p>{text}</p>" in page.text)
+            self.expect(f"coverage in German in {date}", f"Coastal Law Society <span>{text}</span></a>" in page.text)
         saltmarsh = self.site.get("/find?issn=3020-2353&date=1995", headers=GERMAN).text
-        self.expect("a wall", "AggregateNet</a><p>ab 1990, ohne die letzten 18 Monate</p>" in saltmarsh)
+        self.expect("a wall", "AggregateNet <span>ab 1990, ohne die letzten 18 Monate</span></a>" in saltmarsh)
         loan = self.link("issn=2992-183X&atitle=x", "interlibrary-loan")
         self.expect(
             "a target for every request", (loan["label"], loan.get("coverage")), ("Request by interlibrary loan", None)

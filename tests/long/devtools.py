@@ -87,10 +87,19 @@ class Browser:
         self.wait_for_page()
 
     def show(self, width, scheme, language):
-        """How pages are shown from now on."""
+        """How pages are shown from now on: `light`, `dark`, `forced` (few colours, which the reader chooses), `print`."""
         self.call("Emulation.setDeviceMetricsOverride", width=width, height=800, deviceScaleFactor=1, mobile=False)
-        self.call("Emulation.setEmulatedMedia", features=[{"name": "prefers-color-scheme", "value": scheme}])
+        features = {"prefers-color-scheme": "dark" if scheme == "dark" else "light",
+                    "forced-colors": "active" if scheme == "forced" else "none"}
+        self.call("Emulation.setEmulatedMedia", media="print" if scheme == "print" else "screen",
+                  features=[{"name": name, "value": value} for name, value in features.items()])
         self.call("Network.setExtraHTTPHeaders", headers={"Accept-Language": language})
+
+    def names_of(self, role):
+        """The names that a screen reader says for what has a role in the page, such as `link`."""
+        nodes = self.call("Accessibility.getFullAXTree")["nodes"]
+        shown = [it for it in nodes if not it.get("ignored") and it.get("role", {}).get("value") == role]
+        return [it.get("name", {}).get("value", "") for it in shown]
 
     def value(self, script):
         return self.call("Runtime.evaluate", expression=script, returnByValue=True)["result"].get("value")
