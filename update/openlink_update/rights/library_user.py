@@ -72,7 +72,8 @@ class LibraryUser:
         if child == 0:
             try:
                 self.become(parent)
-                os.kill(-1, signal.SIGKILL)
+                if set(os.getresuid()) == {self.number}:  # as root it would end all processes of the machine
+                    os.kill(-1, signal.SIGKILL)
             finally:
                 os._exit(0)
         os.waitpid(child, 0)
