@@ -140,7 +140,7 @@ function testNotices() {
         targets: { t: { group: 'A' }, other: { group: 'B' }, plain: {} } };
     NOTICES.forEach(function (it) {
         const q = openurl.queryOf(it[0]);
-        q.titles = [{ kind: 'j', title: 'x', numbers: [], standard: [], rows: [it[1]], related: [] }];
+        q.titles = [{ kind: 'j', title: 'x', numbers: [], standard: [], rows: [it[1]], related: [], pages: [] }];
         q.knowledge = 'number';
         const site = languages.siteIn(named, '');
         const page = menus.pageOf(q, menus.groupsOf([], site), site);

@@ -50,9 +50,9 @@ REQUESTS = [
 
 
 def addresses_in(main: str, heading: str) -> list[tuple[str, str]]:
-    """The links below a heading, as texts and addresses."""
+    """The links below a heading, as names without coverage and addresses."""
     found = re.search(rf"<h2>{heading}</h2>\n<ul>\n(.*?)\n</ul>", main, re.S)
-    links = re.findall(r'<a href="([^"]*)">(.*?)</a>', found[1]) if found else []
+    links = re.findall(r'<a href="([^"]*)">(.*?)(?: <span>.*?</span>)*</a>', found[1]) if found else []
     return [(html.unescape(text), html.unescape(address)) for address, text in links]
 
 
@@ -148,7 +148,7 @@ class Offered(TitlesCase):
         self.expect(
             "in German", addresses_in(main, "Die Seite dieses Titels"), [("Die Zeitschrift bei piers", LOCKS[1])]
         )
-        self.expect("what it has", "<p>ab 1990, ohne die letzten 12 Monate</p>" in main)
+        self.expect("what it has", "<span>ab 1990, ohne die letzten 12 Monate</span></a>" in main)
         for query in ("isbn=9781234561000", "issn=2901-0039"):
             main = main_of(self.site.get(f"/find?{query}"))
             said = [text in main for text in ("no link to the text itself", "no full text")]
