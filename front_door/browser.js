@@ -14,7 +14,7 @@ const MOST_NAME = 16;  // characters, as OpenSearch has it
 // The address of the site as a reader's browser knows it: `base` of targets.json, or the name by which the request
 // came.
 function baseOf(r, site) {
-    const base = words.textAt(own(own(site.all, 'scholar'), 'base'));
+    const base = words.textAt(own(site.scholar, 'base'));
     if (texts.isWeb(base)) return base.replace(/\/+$/, '');
     const host = String(r.headersIn.Host || '');
     const isSecure = r.variables.scheme === 'https' || r.headersIn['X-Forwarded-Proto'] === 'https';

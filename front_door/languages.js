@@ -130,7 +130,7 @@ function siteIn(targets, header, asked, library) {
         file: wordsIn(language, library), mainFile: wordsIn(languages[0], library), library,
         words: objectUnder(targets, 'words'), groups: objectUnder(targets, 'groups'),
         targets: objectUnder(targets, 'targets'), folder: typeof folder === 'string' ? folder : undefined,
-        all: targets };
+        scholar: objectUnder(targets, 'scholar') };
 }
 
 // A text of targets.json for a reader, '' if there is none. It is the same in all languages, or an object of texts by
