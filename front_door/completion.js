@@ -177,17 +177,38 @@ async function knowledgeOf(r, q) {
     return q.has('x.doi') || q.has('x.pmid') || q.has('x.oclc') ? 'identifier' : 'nothing';
 }
 
+// What a look-up of the number beside other things fills in, if the site wants it, and the title that is then known.
+async function addLookedUp(r, q) {
+    const wasKnown = q.titles.length > 0;
+    const fields = await lookup.more(r, q, titlesAsked(q).length > 0);
+    if (fields === null) return;
+    q.kind = openurl.kindAsked(q);
+    if (!openurl.hasNumber(q)) await addNumbersNamed(r, q, fields);
+    openurl.finish(q);
+    if (!wasKnown) await addTitle(r, q);
+}
+// The numbers of the one title that a reply names.
+async function addNumbersNamed(r, q, fields) {
+    const names = (fields['rft.jtitle'] || NONE).concat(fields['rft.btitle'] || NONE);
+    const keys = names.map(titles.keyOf).filter(Boolean).map((key) => '=' + key);
+    const all = await index.titlesOfAll(r, keys);
+    const found = ofKind(q, all);
+    if (found.length === 1) addNumbersOf(q, found[0]);
+}
+
 async function queryOf(r) {
     const q = openurl.begun(exchange.argsOf(r));
     let named = null;
+    let isLookedUp = false;
     if (!q.isEmpty()) {
-        await lookup.complete(r, q);
+        isLookedUp = await lookup.complete(r, q);
         q.kind = openurl.kindAsked(q);
         named = await addNumbers(r, q);
     }
     openurl.finish(q);
     if (q.isEmpty()) return q;
     await addTitle(r, q);
+    if (!isLookedUp) await addLookedUp(r, q);
     await addMaybe(r, q, named);
     q.knowledge = await knowledgeOf(r, q);
     return q;

@@ -5,6 +5,7 @@ import browser from './browser.js';
 import citation from './citation.js';
 import completion from './completion.js';
 import contact from './contact.js';
+import copies from './copies.js';
 import exchange from './exchange.js';
 import form from './form.js';
 import index from './index.js';
@@ -26,7 +27,7 @@ async function answer(r, q, reply) {
     if (menus.status !== 200) return exchange.sendFault(r, program.faultStatus(menus), site);
     const groups = menu.groupsOf(menus.links, site);
     logLinks(r, q, groups);
-    reply(groups, site);
+    return reply(groups, site);
 }
 
 function logTargets(r, names) { r.variables.openlink_targets = names.join(','); }
@@ -48,11 +49,19 @@ function replyPage(r, q, groups, site) {
 }
 async function find(r) {
     const q = await completion.queryOf(r);
-    return answer(r, q, (groups, site) => { replyPage(r, q, groups, site); });
+    const copy = copies.find(r, q);  // beside the menus
+    return answer(r, q, async function (groups, site) {
+        await copy;
+        replyPage(r, q, groups, site);
+    });
 }
 async function json(r) {
     const q = await completion.queryOf(r);
-    return answer(r, q, (groups, site) => { exchange.sendJson(r, 200, menu.dataOf(q, groups, site), site); });
+    const copy = copies.find(r, q);
+    return answer(r, q, async function (groups, site) {
+        await copy;
+        exchange.sendJson(r, 200, menu.dataOf(q, groups, site), site);
+    });
 }
 // The first link, if there is one alone in the first group or `first=1` asks for it; otherwise the page, and so if the
 // request may mean several titles.
@@ -60,10 +69,13 @@ async function go(r) {
     const q = await completion.queryOf(r);
     const isFirst = q.first('first') === '1';
     q.drop('first');
-    return answer(r, q, (groups, site) => {
+    return answer(r, q, async function (groups, site) {
         const links = groups[0].links;
         const isOne = links.length === 1 || (isFirst && links.length > 0);
-        if (!isOne || q.maybe.length > 0) return replyPage(r, q, groups, site);
+        if (!isOne || q.maybe.length > 0) {
+            await copies.find(r, q);
+            return replyPage(r, q, groups, site);
+        }
         logTargets(r, [links[0].target]);
         r.return(302, links[0].url);
     });

@@ -84,6 +84,12 @@ function rowOf(entry) {
         embargo: parts[4]
     };
 }
+// An address is after its target, and `@`.
+function isAddress(cell) { return cell.startsWith('@'); }
+function pageAt(cell) {
+    const at = cell.indexOf(' ');
+    return { target: cell.slice(1, at), url: cell.slice(at + 1) };
+}
 function relatedOf(cell) {
     const at = cell.indexOf(' ');
     return { isLater: cell.startsWith('>'), number: cell.slice(1, at), title: cell.slice(at + 1) };
@@ -96,9 +102,11 @@ function titleOf(kind, cells) {
         const number = numbers.standard(it);
         if (!standard.includes(number)) standard.push(number);
     });
+    const others = cells.length > 3 ? cells.slice(3) : NONE;
+    const pages = others.filter(isAddress);
     return {
         kind, title: cells[0], numbers: sent, standard, rows: cells[2] ? cells[2].split(';') : NONE,
-        related: cells.length > 3 ? cells.slice(3).map(relatedOf) : NONE
+        pages: pages.map(pageAt), related: others.slice(pages.length).map(relatedOf)
     };
 }
 // The titles of a number, or of a title's key after `=`, or of one without its subtitle after `~`.

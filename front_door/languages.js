@@ -112,17 +112,25 @@ function nameOf(language, site) {
     return typeof name === 'string' && name !== '' ? name : language;
 }
 
+// What targets.json has under a key if that is an object or a list. nginx reads some numbers that JSON does not have,
+// such as 01, so a number counts nowhere.
+function objectUnder(targets, key) {
+    const value = own(targets, key);
+    return isObject(value) ? value : undefined;
+}
 // What is in the targets.json of a library, for a reader whose browser sends this header, or who has chosen one of the
 // languages.
 function siteIn(targets, header, asked, library) {
     const languages = offered(targets, library);
     const isChosen = asked !== undefined && languages.includes(asked);
     const language = isChosen ? asked : chosen(header, languages);
+    const folder = own(targets, 'folder');
     return { language, main: languages[0], dir: isRightToLeft(language) ? 'rtl' : 'ltr',
         known: Object.create(null), labels: Object.create(null), languages, chosen: isChosen ? asked : '',
         file: wordsIn(language, library), mainFile: wordsIn(languages[0], library), library,
-        words: own(targets, 'words'), groups: own(targets, 'groups'), targets: own(targets, 'targets'),
-        folder: own(targets, 'folder'), all: targets };
+        words: objectUnder(targets, 'words'), groups: objectUnder(targets, 'groups'),
+        targets: objectUnder(targets, 'targets'), folder: typeof folder === 'string' ? folder : undefined,
+        all: targets };
 }
 
 // A text of targets.json for a reader, '' if there is none. It is the same in all languages, or an object of texts by
@@ -151,4 +159,4 @@ function wordOf(name, site) {
         || textAt(own(site.mainFile, name));
 }
 
-export default { chosen, nameOf, siteIn, textAt, textOf, ownWordOf, wordOf };
+export default { chosen, nameOf, objectUnder, ownWordOf, siteIn, textAt, textOf, wordOf };

@@ -1,49 +1,47 @@
-// What Crossref says of a DOI, and NCBI of a PubMed number, that came without a number and without a title. A field of
-// a reply is used if it is a text or a number of the expected form; all else is ignored, and a reply that is late or
-// wrong is none. openlink.conf says where the proxy for both is; without it nothing is asked. text.js says in which
+// What the services say of a number: Crossref of a DOI, DataCite of that of arXiv, and NCBI of a number of PubMed or
+// PMC. It is asked of a number that came without a number and a title of the journal or book, and, if the site wants
+// it, of one that came with a title or with an incomplete citation. What a request says stays. text.js says in which
 // njs it runs.
+import dates from './dates.js';
+import index from './index.js';
+import notices from './notices.js';
 import numbers from './numbers.js';
 import openurl from './openurl.js';
+import replies from './replies.js';
 import texts from './text.js';
-import titles from './titles.js';
 
 const is = texts.is;
 const own = texts.own;
-const SECONDS = 3;
-const MOST_BYTES = 1048576;
-const MOST_CHARACTERS = 1000;
+const textOf = replies.textOf;
+const firstOf = replies.firstOf;
+const recordOf = replies.recordOf;
+const PMID = /^\d{1,9}$/;
+const MOST_IDENTIFIERS = 20;
 const NONE = [];
 const TITLE_KEYS = ['rft.jtitle', 'rft.btitle', 'rft.title', 'rft.stitle'];
 
-function textOf(value) {
-    if (typeof value !== 'string' && typeof value !== 'number') return '';
-    return titles.plain(texts.clean(String(value).slice(0, MOST_CHARACTERS)));
-}
-function firstOf(value) { return textOf(Array.isArray(value) ? value[0] : value); }
-function numbersOf(value, kind) {
-    return Array.isArray(value) ? numbers.numbersIn(value.slice(0, 8).map(textOf), kind, 4) : NONE;
-}
-function recordOf(value) { return texts.isObject(value) && !Array.isArray(value) ? value : {}; }
+function numbersOf(value, kind) { return numbers.numbersIn(replies.listOf(value, 8).map(textOf), kind, 4); }
 
 // Year, month and day of Crossref as a date; '' without a year.
 function dateOf(issued) {
     const all = own(recordOf(issued), 'date-parts');
-    const parts = Array.isArray(all) && Array.isArray(all[0]) ? all[0].slice(0, 3).map(textOf) : NONE;
+    const parts = Array.isArray(all) ? replies.listOf(all[0], 3).map(textOf) : NONE;
     if (!is(/^[12]\d{3}$/, parts[0] || '')) return '';
     return parts.slice(0, 1).concat(parts.slice(1).filter(Boolean).map((part) => ('0' + part).slice(-2))).join('-');
 }
 
+// Each of these gives a record: what fills in the fields of a request, and the notices.
 const BOOKS = /^(?:book|monograph|edited-book|reference-book|proceedings)$/;
 const CHAPTERS = /^(?:book-|reference-entry|proceedings-article)/;
 function ofCrossref(data) {
-    const work = recordOf(own(recordOf(data), 'message'));
+    const work = recordOf(own(data, 'message'));
     const type = textOf(own(work, 'type'));
     const isBook = is(BOOKS, type);
     const isChapter = is(CHAPTERS, type);
     const title = firstOf(own(work, 'title'));
     const container = firstOf(own(work, 'container-title'));
-    const author = recordOf((Array.isArray(own(work, 'author')) ? work.author : NONE)[0]);
-    return {
+    const author = recordOf(replies.listOf(own(work, 'author'), 1)[0]);
+    const fields = {
         'rft.genre': [isBook ? 'book' : isChapter ? 'bookitem' : is(/^journal/, type) ? 'article' : ''],
         'rft.atitle': [isBook ? '' : title], 'rft.btitle': [isBook ? title : isChapter ? container : ''],
         'rft.jtitle': [isBook || isChapter ? '' : container],
@@ -52,14 +50,15 @@ function ofCrossref(data) {
         'rft.pages': [textOf(own(work, 'page'))], 'rft.date': [dateOf(own(work, 'issued'))],
         'rft.aulast': [textOf(own(author, 'family'))], 'rft.aufirst': [textOf(own(author, 'given'))]
     };
+    return { fields, updates: notices.ofCrossref(work) };
 }
 
-function ofPubmed(data) {
-    const result = recordOf(own(recordOf(data), 'result'));
-    const uids = own(result, 'uids');
-    const it = recordOf(own(result, textOf(Array.isArray(uids) ? uids[0] : '')));
-    const author = recordOf((Array.isArray(own(it, 'authors')) ? it.authors : NONE)[0]);
-    return {
+// A summary of PubMed; that of PMC has the same form, without the numbers of the journal.
+function ofNcbi(data) {
+    const result = recordOf(own(data, 'result'));
+    const it = recordOf(own(result, firstOf(own(result, 'uids'))));
+    const author = recordOf(replies.listOf(own(it, 'authors'), 1)[0]);
+    const fields = {
         'rft.genre': [own(it, 'title') ? 'article' : ''],
         'rft.atitle': [textOf(own(it, 'title')).replace(/\.$/, '')], 'rft.jtitle': [textOf(own(it, 'fulljournalname'))],
         'rft.issn': numbersOf([own(it, 'issn')], numbers.ISSN), 'rft.eissn': numbersOf([own(it, 'essn')], numbers.ISSN),
@@ -67,49 +66,126 @@ function ofPubmed(data) {
         'rft.pages': [textOf(own(it, 'pages'))], 'rft.date': [textOf(own(it, 'pubdate'))],
         'rft.aulast': [textOf(own(author, 'name')).replace(/ [A-Z]{1,3}$/, '')]
     };
+    const known = (type) => {
+        const all = replies.listOf(own(it, 'articleids'), MOST_IDENTIFIERS).map(recordOf);
+        return textOf(own(all.find((one) => own(one, 'idtype') === type), 'value'));
+    };
+    const pmid = known('pmid');
+    fields['x.doi'] = [replies.doiOf(known('doi'))];
+    fields['x.pmid'] = [is(PMID, pmid) ? pmid : ''];
+    return { fields, updates: notices.ofPubmed(it) };
 }
 
-// The reply as the fields of a request, or null. A late `ngx.fetch` can't be ended, so it may keep the next request on
-// this connection waiting until the proxy's own time-outs end it; a timer would too, so it is cleared.
-async function fetched(address, reader, read) {
-    let end;
-    const late = new Promise(function (done) { end = done; });
-    const timer = setTimeout(() => { end(null); }, SECONDS * 1000);  // assigned out here, or njs 0.7.9 can't clear it
-    try {
-        const headers = { 'Openlink-Reader': reader };  // its limit counts by it; no service gets it
-        const options = { headers, max_response_body_size: MOST_BYTES, buffer_size: 65536 };
-        const asked = ngx.fetch(address, options).then((reply) => reply.status === 200 ? reply.text() : null);
-        const text = await Promise.race([asked, late]);
-        clearTimeout(timer);
-        return text === null ? null : read(JSON.parse(text));
-    } catch (e) {
-        clearTimeout(timer);
-        return null;
-    }
+function ofDatacite(data) {
+    const it = recordOf(own(recordOf(own(data, 'data')), 'attributes'));
+    const title = recordOf(replies.listOf(own(it, 'titles'), 1)[0]);
+    const author = recordOf(replies.listOf(own(it, 'creators'), 1)[0]);
+    const year = textOf(own(it, 'publicationYear'));
+    const fields = {
+        'rft.genre': [own(title, 'title') ? 'preprint' : ''], 'rft.atitle': [textOf(own(title, 'title'))],
+        'rft.date': [is(/^[12]\d{3}$/, year) ? year : ''],
+        'rft.aulast': [textOf(own(author, 'familyName')) || textOf(own(author, 'name'))],
+        'rft.aufirst': [textOf(own(author, 'familyName')) && textOf(own(author, 'givenName'))]
+    };
+    return { fields, updates: null };
 }
 
-function addressOf(base, q) {
+// The path of the proxy for the number of a request, and what reads the reply; null if there is none.
+function serviceOf(q) {
     const doi = q.first('x.doi');
     const pmid = q.first('x.pmid');
-    if (doi !== '') return doi.length > 300 ? '' : `${base}/doi?id=${encodeURIComponent(doi)}`;
-    return is(/^\d{1,9}$/, pmid) ? `${base}/pmid?id=${pmid}` : '';
+    if (doi !== '') {
+        const isPreprint = is(/^10\.48550\/arxiv\./i, doi);
+        if (doi.length > replies.MOST_DOI) return null;
+        return { path: `${isPreprint ? 'arxiv' : 'doi'}?id=${encodeURIComponent(doi)}`,
+            read: isPreprint ? ofDatacite : ofCrossref };
+    }
+    if (is(PMID, pmid)) return { path: `pmid?id=${pmid}`, read: ofNcbi };
+    return q.pmc === '' ? null : { path: `pmc?id=${q.pmc}`, read: ofNcbi };
 }
 
-// Adds to a request what it lacks, if it has a DOI or PubMed number and neither number nor title.
-async function complete(r, q) {
-    const base = r.variables.openlink_lookup;
-    if (!base || openurl.hasNumber(q) || TITLE_KEYS.some((key) => q.has(key))) return;
-    const address = addressOf(String(base), q);
-    if (address === '') return;
-    const reader = r.rawVariables.openlink_reader;
-    const found = await fetched(address, reader ? reader.toString('hex') : '', q.has('x.doi') ? ofCrossref : ofPubmed);
-    if (found === null) return;
-    Object.keys(found).forEach((key) => {
-        const values = found[key].filter(Boolean);
-        if (values.length > 0 && !q.has(key)) q.put(key, values);
+// The keys with which a request says what a field of a reply says.
+const TITLES = ['rft.jtitle', 'rft.btitle', 'rft.title'];
+const NUMBERS = ['rft.issn', 'rft.eissn', 'rft.isbn', 'rft.eisbn'];
+const PAGES = ['rft.pages', 'rft.spage', 'rft.epage', 'rft.artnum'];
+const AUTHORS = ['rft.au', 'rft.aulast', 'rft.aufirst', 'rft.auinit', 'rft.auinit1', 'rft.aucorp'];
+const SAME = {
+    'rft.jtitle': TITLES, 'rft.btitle': TITLES, 'rft.issn': NUMBERS, 'rft.eissn': NUMBERS, 'rft.isbn': NUMBERS,
+    'rft.pages': PAGES, 'rft.aulast': AUTHORS, 'rft.aufirst': AUTHORS
+};
+function hasDate(q) {
+    return ['rft.date', 'rft.year'].some((key) => q.has(key) && dates.dateOf(q.first(key)) !== '');
+}
+function says(q, key) {
+    return key === 'rft.date' ? hasDate(q) : (SAME[key] || [key]).some((one) => q.has(one));
+}
+const URIS = { 'x.doi': 'info:doi/', 'x.pmid': 'info:pmid/' };
+function fill(q, fields) {
+    const lacking = Object.keys(fields).filter((key) => !says(q, key));
+    lacking.forEach((key) => {
+        const values = fields[key].filter(Boolean);
+        if (values.length === 0) return;
+        q.put(key, values);
+        if (URIS[key]) q.add('rft_id', URIS[key] + values[0]);
     });
     if (q.added.rft_val_fmt) q.set('rft_val_fmt', 'info:ofi/fmt:kev:mtx:' + openurl.kindOf(q));
-    openurl.readNumbers(q);
+}
+// The numbers of a reply beside those of the request, which no title of the index has.
+function addNumbers(q, fields) {
+    const all = (key) => fields[key] || NONE;
+    const issns = all('rft.issn').concat(all('rft.eissn')).filter((it) => !q.issns.includes(it));
+    const isbns = all('rft.isbn').filter((it) => !q.isbns.includes(it));
+    if (q.issns.length === 1 && issns.length > 0) q.lead('rft.eissn', issns[0]);
+    if (q.isbns.length > 0 && isbns.length > 0) q.put('rft.isbn', q.all('rft.isbn').concat(isbns));
 }
 
-export default { complete };
+// Fills in what a request lacks. Returns the fields of the reply, null if no service knows the number.
+async function ask(r, q) {
+    const service = serviceOf(q);
+    if (service === null) return null;
+    const found = await replies.fetched(r, service.path, service.read);
+    if (found === null) return null;
+    if (found.updates !== null) {
+        q.notices = found.updates.notices;
+        q.about = found.updates.about;
+    }
+    fill(q, found.fields);
+    openurl.readNumbers(q);
+    return found.fields;
+}
+
+// The look-up of a number that came without a number and a title of the journal or book. Returns whether it was made.
+async function complete(r, q) {
+    if (!r.variables.openlink_lookup || openurl.hasNumber(q) || TITLE_KEYS.some((key) => q.has(key))) return false;
+    await ask(r, q);
+    return true;
+}
+
+// Whether the rules of the targets of a request's titles name a part of the citation that it lacks. The update writes
+// into the index which parts they name.
+const PARTS = [['date', 'x.from'], ['volume', 'rft.volume'], ['page', 'rft.spage']];
+async function lacksNamed(r, q) {
+    const lacking = PARTS.filter((it) => !q.has(it[1])).map((it) => it[0]);
+    if (lacking.length === 0) return false;
+    const named = Object.create(null);
+    const bytes = await index.bytesOf(r, 'named');
+    bytes.toString().split('\n').map((line) => line.split('\t')).forEach((it) => { named[it[0]] = it[1] || ''; });
+    return q.titles.some((it) => it.rows.some((entry) => {
+        const parts = (named[index.targetOf(entry)] || '').split(' ');
+        return lacking.some((part) => parts.includes(part));
+    }));
+}
+// The look-up of a number that came beside other things, if the site wants it: where the index knows no title of the
+// request, which has one, or its citation lacks what the rules name. Returns the fields of the reply, or null.
+async function more(r, q, hasTitle) {
+    if (r.variables.openlink_lookup_more !== 'on' || !r.variables.openlink_lookup || serviceOf(q) === null) return null;
+    const isKnown = q.titles.length > 0;
+    const isWanted = isKnown ? await lacksNamed(r, q) : hasTitle;
+    const fields = isWanted ? await ask(r, q) : null;
+    if (fields === null || isKnown) return fields;
+    addNumbers(q, fields);
+    openurl.readNumbers(q);
+    return fields;
+}
+
+export default { complete, more };

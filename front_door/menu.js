@@ -1,12 +1,16 @@
 // The reader's page and its JSON: the citation of a request, and the links of a menu in the groups of targets.json.
 // text.js says in which njs it runs.
 import citation from './citation.js';
+import copies from './copies.js';
 import coverage from './coverage.js';
 import form from './form.js';
 import index from './index.js';
+import languages from './languages.js';
 import lists from './lists.js';
+import notices from './notices.js';
 import pages from './pages.js';
 import texts from './text.js';
+import titlePages from './title_pages.js';
 import words from './words.js';
 
 const own = texts.own;
@@ -58,7 +62,7 @@ function groupsOf(links, site) {
     const others = site.groups === undefined ? groups[0] : places[more] || { name: more, label: more, links: [] };
     links.forEach((found) => {
         if (!texts.isWeb(found.url)) return;
-        const target = own(site.targets, found.target);
+        const target = languages.objectUnder(site.targets, found.target);
         const group = target === undefined ? others : places[words.textAt(own(target, 'group'))] || groups[0];
         group.links.push(linkOf(found, target, site));
     });
@@ -110,7 +114,7 @@ function actionsHtml(q, site) {
 // What is said of a request without full text: only what is certain.
 const NOTICES = {
     number: 'nothing', held: 'held', title: 'unknownTitle', unlisted: 'numberMissing', identifier: 'numberAlone',
-    nothing: 'incomplete'
+    nothing: 'incomplete', page: 'onlyPage'
 };
 function hasNotice(q, groups) { return groups[0].links.length === 0 && q.maybe.length === 0 && !q.isEmpty(); }
 // A journal of the first group may have no link because the request has no year or no volume. Then the page says
@@ -124,16 +128,18 @@ function knowledgeOf(q, groups, site) {
 // Whether a row is of a target of a group, and may have the year of a request.
 function heldIn(q, group, site) {
     return (row) => {
-        const target = own(site.targets, row.target);
+        const target = languages.objectUnder(site.targets, row.target);
         const name = words.textAt(own(target, 'group'));
         const isOfGroup = site.groups === undefined || (target !== undefined && (name === '' || name === group.name));
         return isOfGroup && coverage.mayHave(row, q.first('rft.date').slice(0, 4));
     };
 }
-function noticeHtml(q, groups, site) {
+function noticeHtml(q, groups, hasPage, site) {
     if (!hasNotice(q, groups)) return '';
     const known = knowledgeOf(q, groups, site);
-    const parts = [pages.notice(NOTICES[known] || 'incomplete', site)];
+    const name = hasPage && known === 'number' ? 'page' : known;
+    const isOnlyCopy = known === 'number' && q.freeCopy !== null;
+    const parts = [pages.notice(isOnlyCopy ? 'onlyCopy' : NOTICES[name] || 'incomplete', site)];
     const isHeld = heldIn(q, groups[0], site);
     if (known === 'held') q.titles.forEach((it) => { parts.push(lists.rowsHtml(it, site, isHeld)); });
     return parts.filter(Boolean).join('\n');
@@ -152,6 +158,15 @@ function foundHtml(q, site) {
 }
 function listHtml(heading, items) {
     return `<h2>${escape(heading)}</h2>\n<ul>\n${items.join('\n')}\n</ul>`;
+}
+// The groups that a reader sees, and after that of the full text the pages of the title.
+function listsHtml(q, groups, offered, site) {
+    const toHtml = (link) => linkHtml(link, site);
+    const all = copies.placed(shownGroups(groups), groups, q, site);
+    const shown = all.map((g) => listHtml(g.label || g.name, g.links.map(toHtml)));
+    const pagesHtml = offered.length > 0 ? [listHtml(word(site, 'titlePages'), offered.map(toHtml))] : NONE;
+    const place = groups[0].links.length > 0 ? 1 : 0;
+    return shown.slice(0, place).concat(pagesHtml, shown.slice(place));
 }
 function maybeHtml(q, site) {
     if (q.maybe.length === 0) return '';
@@ -186,12 +201,11 @@ function pageOf(q, groups, site) {
     const body = [citation.citationHtml(cited, site)];
     const put = (html) => { if (html !== '') body.push(html); };
     put(foundHtml(q, site));
-    if (q.isRetracted) put(`<p class="retracted"><strong>${escape(word(site, 'retracted'))}</strong></p>`);
-    put(noticeHtml(q, groups, site));
+    notices.linesOf(q, site).forEach(put);
+    const offered = titlePages.pagesOf(q, groups, site);
+    put(noticeHtml(q, groups, offered.length > 0, site));
     put(maybeHtml(q, site));
-    shownGroups(groups).forEach((g) => {
-        body.push(listHtml(g.label || g.name, g.links.map((link) => linkHtml(link, site))));
-    });
+    listsHtml(q, groups, offered, site).forEach(put);
     if (q.titles.length > 0) q.titles[0].related.forEach((it) => { body.push(relatedHtml(it, site)); });
     put(completeHtml(q, groups, site));
     put(actionsHtml(q, site));
@@ -203,11 +217,13 @@ function pageOf(q, groups, site) {
 function dataOf(q, groups, site) {
     const shown = shownGroups(groups);
     shown.forEach((g) => { g.links.forEach((link) => { delete link.covered; }); });
-    const data = { citation: citation.citationOf(q, site), groups: shown };
-    if (q.isRetracted) data.retracted = true;
+    const data = { citation: citation.citationOf(q, site), groups: copies.placed(shown, groups, q, site) };
+    notices.addTo(data, q);
     if (q.maybe.length > 0) {
         data.maybe = q.maybe.map((it) => ({ title: it.title, numbers: it.standard }));
     }
+    const offered = titlePages.pagesOf(q, groups, site);
+    if (offered.length > 0) data.pages = offered.map((it) => ({ target: it.target, label: it.label, url: it.url }));
     return data;
 }
 

@@ -253,6 +253,7 @@ function identifiers(q) {
     });
     q.pasted.forEach((found) => { put(found, found[0] === 'rft.isbn'); });
     if (others.arxiv.length > 0 && !q.has('x.doi')) q.add('x.doi', others.arxiv[0]);
+    q.pmc = others.pmc[0] || '';
     ['rft.issn', 'rft.isbn'].forEach((key) => {
         const kind = key === 'rft.issn' ? numbers.ISSN : numbers.ISBN;
         if (others[key].length === 0 || numbers.numbersIn(q.all(key), kind, 1).length > 0) return;

@@ -121,9 +121,12 @@ function faultName(status) { return FAULTS[status] || (status < 500 ? 'unreadabl
 function faultHtml(status, site) { return notice(faultName(status), site); }
 // The way to an item that needs no resolver.
 const MOST_DOI = 300;
+function doiLink(doi) {
+    return anchor(`https://doi.org/${encodeURIComponent(doi).split('%2F').join('/')}`, `doi.org/${doi}`);
+}
 function doiHtml(doi, site) {
     if (!doi || doi.length > MOST_DOI) return [];
-    const link = anchor(`https://doi.org/${encodeURIComponent(doi).split('%2F').join('/')}`, `doi.org/${doi}`);
+    const link = doiLink(doi);
     const text = words.filled(site, 'byDoi', '\t').split('\t').map(escape);
     return [`<p>${text.length > 1 ? text.join(link) : link}</p>`];
 }
@@ -133,4 +136,6 @@ function faultOf(status, site, doi) {
     return documentOf(title, title, [faultHtml(status, site)].concat(doiHtml(doi, site)), site);
 }
 
-export default { MOST_ARGS, anchor, anchorOf, isolated, isolatedText, notice, addressOf, documentOf, faultHtml, faultOf };
+export default {
+    MOST_ARGS, anchor, anchorOf, isolated, isolatedText, notice, addressOf, documentOf, doiLink, faultHtml, faultOf
+};

@@ -106,6 +106,11 @@ function Query(args) {
     this.issns = NONE;                            // the ISSNs, as the standard writes them, at most two
     this.isbns = NONE;                            // the ISBNs, with thirteen digits
     this.isRetracted = false;                     // whether a title had the remark that the article was retracted
+    this.pmc = '';                                // the number of PMC, without letters
+    // What lookup.js knows by the services:
+    this.notices = NONE;                          // the notices about the article, as notices.js has them
+    this.about = NONE;                            // what the request is a notice about, if it is for one
+    this.freeCopy = null;                         // the free copy, as copies.js has it
     // What completion.js knows by the index:
     this.kind = '';                               // the kind of title that the request wants: `j`, `b`, '' for either
     this.byTitle = null;                          // the title that gave the request its number

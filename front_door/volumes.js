@@ -103,10 +103,12 @@ function pagesUnder(q, key) {
     return is(PLAIN_PAGE, value) ? [value, ''] : pagesIn(numbers.ascii(value));
 }
 // The first page is that of `rft.spage`, of `rft.pages`, or the number of an article; the last one is that of
-// `rft.epage`, or the last of the range under `rft.spage`.
+// `rft.epage`, or the last of the range under `rft.spage`. The number of the article is no range there.
 function page(q) {
-    const first = pagesUnder(q, 'rft.spage');
-    const found = first[0] || pagesUnder(q, 'rft.pages')[0] || articleIn(q.first('rft.artnum'));
+    const article = articleIn(q.first('rft.artnum'));
+    const isArticle = article !== '' && q.first('rft.spage') === article;
+    const first = isArticle ? [article, ''] : pagesUnder(q, 'rft.spage');
+    const found = first[0] || pagesUnder(q, 'rft.pages')[0] || article;
     if (found !== '') q.lead('rft.spage', found);
     const pages = q.first('rft.pages');
     if (pages !== '' && is(FOREIGN, pages)) q.lead('rft.pages', numbers.ascii(pages));

@@ -6,6 +6,7 @@ import addresses from './addresses.js';
 import browser from './browser.js';
 import completion from './completion.js';
 import contact from './contact.js';
+import copies from './copies.js';
 import door from './find.js';
 import folding from './fold.js';
 import identifying from './identifiers.js';
@@ -16,13 +17,16 @@ import lists from './lists.js';
 import log from './log.js';
 import lookup from './lookup.js';
 import menus from './menu.js';
+import notices from './notices.js';
 import numbers from './numbers.js';
 import openurl from './openurl.js';
 import pages from './pages.js';
 import query from './query.js';
 import references from './references.js';
+import replies from './replies.js';
 import retractions from './retractions.js';
 import search from './search.js';
+import titlePages from './title_pages.js';
 
 globalThis.fold = folding;
 globalThis.words_en = { issn: '{}', byDoi: 'by {}' };
@@ -114,35 +118,99 @@ async function testCompletion() {
 
 // A service that replies after that many milliseconds, on a clock of its own.
 let end = null;
-function replyAfter(milliseconds, work) {
+function replyAfter(milliseconds, work, data) {
     globalThis.setTimeout = function (late, most) {
         end = milliseconds < most ? null : late;
         return 1;
     };
     globalThis.clearTimeout = function () {};
-    const reply = { status: 200, text: function () { return JSON.stringify({ message: work }); } };
+    const reply = { status: 200, text: function () { return JSON.stringify(data || { message: work }); } };
     globalThis.ngx = { fetch: function () {
         if (end === null) return Promise.resolve(reply);
         end();
         return new Promise(function () {});
     } };
 }
-async function testLookup() {
-    const ask = async function () {
-        const q = openurl.begun('id=doi:10.5555/a');
-        await lookup.complete({ variables: { openlink_lookup: 'http://127.0.0.1:8078' }, rawVariables: {} }, q);
-        return q;
-    };
+// A request of a site with the look-up, and what it is after a reply to a number that came alone.
+function requestOfLookup() { return { variables: { openlink_lookup: 'http://127.0.0.1:8078' }, rawVariables: {} }; }
+async function lookedUp(args) {
+    const q = openurl.begun(args || 'id=doi:10.5555/a');
+    await lookup.complete(requestOfLookup(), q);
+    return q;
+}
+async function testReplies() {
     replyAfter(2999, { title: ['Tides'] });
-    const early = await ask();
-    expect('lookup', 'within 3 seconds', early.first('rft.atitle'), 'Tides');
+    const early = await lookedUp();
+    expect('replies', 'within 3 seconds', early.first('rft.atitle'), 'Tides');
     replyAfter(3000, { title: ['Tides'] });
-    const late = await ask();
-    expect('lookup', 'after 3 seconds', late.first('rft.atitle'), '');
+    const late = await lookedUp();
+    expect('replies', 'after 3 seconds', late.first('rft.atitle'), '');
     replyAfter(0, { title: [repeated('a', 999) + 'b'], volume: repeated('1', 1000) + '2' });
-    const long = await ask();
-    expect('lookup', '1000 characters', long.first('rft.atitle'), repeated('a', 999) + 'b');
-    expect('lookup', '1001 characters', long.first('rft.volume'), repeated('1', 1000));
+    const long = await lookedUp();
+    expect('replies', '1000 characters', long.first('rft.atitle'), repeated('a', 999) + 'b');
+    expect('replies', '1001 characters', long.first('rft.volume'), repeated('1', 1000));
+    const doi = (length) => '10.5555/' + repeated('a', length - 8);
+    expect('replies', 'a DOI of 300 characters', replies.doiOf(doi(300)), doi(300));
+    expect('replies', 'a DOI of 301 characters', replies.doiOf(doi(301)), '');
+    await testTimeOfAll(2999, 'a second look-up within 3 seconds', 'Tides');
+    await testTimeOfAll(3000, 'a second look-up after 3 seconds', '');
+}
+// Two look-ups of one request, the second one that many milliseconds after the first.
+async function testTimeOfAll(milliseconds, name, expected) {
+    const r = requestOfLookup();
+    const now = Date.now;
+    const clock = { time: 1000 };
+    Date.now = () => clock.time;
+    replyAfter(0, { title: ['Tides'] });
+    await lookup.complete(r, openurl.begun('id=doi:10.5555/a'));
+    clock.time += milliseconds;
+    const q = openurl.begun('id=doi:10.5555/a');
+    await lookup.complete(r, q);
+    Date.now = now;
+    expect('replies', name, q.first('rft.atitle'), expected);
+}
+async function testLookup() {
+    const last = { idtype: 'doi', value: '10.5555/a' };
+    for (let before = 19; before <= 20; before++) {
+        const summary = { title: 'Tides', articleids: counted(before, () => ({ idtype: 'pii' })).concat([last]) };
+        replyAfter(0, {}, { result: { uids: ['7'], 7: summary } });
+        const q = await lookedUp('id=pmid:7');
+        expect('lookup', `a DOI after ${before} other numbers`, q.first('x.doi'), before === 19 ? '10.5555/a' : '');
+    }
+}
+function testCopies() {
+    const address = (length) => 'https://a.example.org/' + repeated('a', length - 22);
+    expect('copies', '2000 characters', copies.hostOf(address(2000)), 'a.example.org');
+    expect('copies', '2001 characters', copies.hostOf(address(2001)), '');
+    const host = (length) => repeated(repeated('a', 49) + '.', 4) + repeated('a', length - 212) + '.example.org';
+    expect('copies', 'a host of 253 characters', copies.hostOf('https://' + host(253)), host(253));
+    expect('copies', 'a host of 254 characters', copies.hostOf('https://' + host(254)), '');
+    for (let before = 19; before <= 20; before++) {
+        const all = counted(before, () => ({ url: 'http://a.example.org/' })).concat([{ url: address(30) }]);
+        const found = copies.copyIn({ best_oa_location: null, oa_locations: all });
+        expect('copies', `a place after ${before} others`, foundOrNone(found), before === 19 ? 'found' : 'none');
+    }
+}
+function testNotices() {
+    const notice = (i) => ({ type: 'correction', DOI: '10.5555/' + i, source: repeated('a', 59) + i });
+    const work = (most) => ({ 'updated-by': counted(most, notice) });
+    expect('notices', '10 notices', notices.ofCrossref(work(10)).notices.length, 10);
+    expect('notices', '11 notices', notices.ofCrossref(work(11)).notices.length, 10);
+    const sources = notices.ofCrossref(work(10)).notices.map((it) => it.source.length).join();
+    expect('notices', 'a source of 60 and 61 characters', sources, counted(10, () => 60).join());
+    const retraction = { reftype: 'Retraction in', refsource: 'doi: 10.5555/a' };
+    const doi = function (others) {
+        const all = counted(others, () => ({ reftype: 'Comment in' })).concat([retraction]);
+        return notices.ofPubmed({ pubtype: ['Retracted Publication'], references: all }).notices[0].doi;
+    };
+    expect('notices', '200 references', doi(199), '10.5555/a');
+    expect('notices', '201 references', doi(200), '');
+    const kinds = function (others) {
+        const all = counted(others, notice).concat([{ type: 'retraction', DOI: '10.5555/a' }]);
+        return notices.ofCrossref({ 'updated-by': all }).notices.map((it) => it.kind).join(' ').slice(0, 10);
+    };
+    expect('notices', 'a retraction after 199 corrections', kinds(199), 'retraction');
+    expect('notices', 'a retraction after 200 corrections', kinds(200), 'correction');
 }
 
 // ---------------------------------------------------------------- Texts of a request
@@ -267,6 +335,15 @@ function testLists() {
         expect('lists', most + ' rows', listed, 12);
     });
 }
+function testTitlePages() {
+    const q = new query.Query('rft.issn=1000-0010');
+    [4, 5].forEach((most) => {
+        const rows = counted(most, (i) => 't ' + i + ' 200' + i + ' 200' + i);
+        q.titles = [{ kind: 'j', pages: [{ target: 't', url: 'https://e.org/' }], rows }];
+        const found = titlePages.pagesOf(q, [], languages.siteIn({}, ''));
+        expect('title_pages', most + ' rows', found[0].covered, '2001; 2002; 2003; 2004');
+    });
+}
 function testPages() {
     const site = languages.siteIn({ languages: ['en', 'de'] }, '');
     site.path = '/find';
@@ -326,12 +403,16 @@ testLog();
 testContact();
 testLanguages();
 testLists();
+testTitlePages();
 testPages();
 testMenu();
 testBrowser();
 async function testAll() {
     await testCompletion();
+    await testReplies();
     await testLookup();
+    testNotices();
+    testCopies();
     await testFind(200, 'b');
     await testFind(201, 'a');
     await testSearch('ab bc cd de ef fg');

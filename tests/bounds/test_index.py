@@ -102,6 +102,15 @@ class OfTitles(Case):
         found.add("n", 0, True, "b 201")
         self.expect("201", (found.coverage_text().count(";") + 1, " b" in found.coverage_text()), (199, False))
 
+    def test_addresses(self) -> None:
+        """Of twenty targets, one of each."""
+        for count in (20, 21):
+            one = title("Title")
+            one.add_addresses("\t".join(f"target{at} https://e.org/{at}" for at in range(count)))
+            one.add_addresses("target0 https://e.org/other")
+            entries = one.addresses.split("\t")
+            self.expect(f"{count} targets", (len(entries), entries[0]), (20, "target0 https://e.org/0"))
+
     def test_related(self) -> None:
         """Five earlier titles, and five later ones."""
         header = (

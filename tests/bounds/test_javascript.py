@@ -39,6 +39,9 @@ class Scripts(Case):
     def test_addresses(self) -> None:
         self.check("addresses", 3)
 
+    def test_title_pages(self) -> None:
+        self.check("title_pages")
+
     def test_browser(self) -> None:
         self.check("browser")
 
@@ -47,6 +50,9 @@ class Scripts(Case):
 
     def test_contact(self) -> None:
         self.check("contact")
+
+    def test_copies(self) -> None:
+        self.check("copies", 6)
 
     def test_find(self) -> None:
         self.check("find")
@@ -70,7 +76,10 @@ class Scripts(Case):
         self.check("log")
 
     def test_lookup(self) -> None:
-        self.check("lookup", 4)
+        self.check("lookup")
+
+    def test_notices(self) -> None:
+        self.check("notices", 7)
 
     def test_numbers(self) -> None:
         self.check("numbers", 4)
@@ -86,6 +95,9 @@ class Scripts(Case):
 
     def test_references(self) -> None:
         self.check("references")
+
+    def test_replies(self) -> None:
+        self.check("replies", 8)
 
     def test_retractions(self) -> None:
         self.check("retractions")

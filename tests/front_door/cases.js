@@ -196,7 +196,10 @@ const ARTICLES = [
     ['and no page', 'rft_val_fmt=x&rft.artnum=e55&rft.spage=N.PAG', 'rft.spage=e55'],
     ['and a page', 'rft_val_fmt=x&rft.artnum=e55&rft.spage=101', ''],
     ['and pages', 'rft_val_fmt=x&rft.artnum=e55&rft.pages=1-12', 'rft.spage=1'],
-    ['other words', 'rft_val_fmt=x&rft.artnum=in+press', '']
+    ['other words', 'rft_val_fmt=x&rft.artnum=in+press', ''],
+    ['of two numbers', 'rft_val_fmt=x&rft.artnum=2901-0012', 'rft.spage=2901-0012'],
+    ['of two numbers, read again', 'rft_val_fmt=x&rft.artnum=2901-0012&rft.spage=2901-0012', ''],
+    ['of two numbers, and a range', 'rft_val_fmt=x&rft.artnum=29-31&rft.spage=30-31', 'rft.spage=30 rft.epage=31']
 ];
 
 const ENCODINGS = [

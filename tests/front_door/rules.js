@@ -426,6 +426,21 @@ function testWords() {
         return group.name + ' ' + group.label + ': '
             + group.links.map(function (it) { return it.label + ' ' + it.note; }).join(', ');
     };
+    // As nginx reads a targets.json with `01` in these places.
+    const places = [{ groups: 1 }, { targets: 1 }, { words: 1 }, { folder: 1 }, { languages: 1 }, { languages: [1] },
+        { targets: { a: 1 } }, { targets: { a: { label: 1, group: 1, note: 1 } } },
+        { groups: [{ name: 'G' }], targets: { a: 1, b: {} } }];
+    const without = [{}, {}, {}, {}, {}, {}, { targets: {} }, { targets: { a: {} } },
+        { groups: [{ name: 'G' }], targets: { b: {} } }];
+    const shown = (it) => {
+        const read = site(it, 'en');
+        return JSON.stringify([read, menus.shownGroups(menus.groupsOf(found, read))].map((each) => {
+            return each.targets ? [each.words, each.groups, each.folder, each.language] : each;
+        }));
+    };
+    places.forEach((it, i) => {
+        expect('a number in ' + JSON.stringify(it), shown(it), shown(without[i]));
+    });
     expect('labels', listed('en'), 'G undefined: A undefined, C undefined, c undefined');
     expect('labels in another language', listed('de'), 'G H: B n, C undefined, c undefined');
 }

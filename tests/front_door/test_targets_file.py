@@ -10,6 +10,9 @@ from openlink_update.site import targets_file as targets
 SLIPS = [
     (b'{"groups": [{"name": "A"}],\n "targets": {"a": {"label": "x",}}}', "line 2, column"),
     (b'{"groups": [{"name": "A"}]\n', "line 2, column 1"),
+    (b'{"groups": [{"name": 01}]}', "line 1, column 23"),
+    (b'{"groups": [{"name": "A\\ud800"}]}', '"groups": 1: "name": half of a character'),
+    (b'{"groups": [{"name": "A", "\\udfff": "B"}]}', '"groups": 1: "\\udfff": half of a character'),
     (b'\xef\xbb\xbf{"groups": [{"name": "A"}]}', "line 1: begins with a byte order mark"),
     (b'{"groups": [{"name": "A"}],\n"words": {"library": "B\xfccher"}}', "line 2: not UTF-8"),
     (b"[]", "not an object"),

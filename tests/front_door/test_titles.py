@@ -39,7 +39,7 @@ NOT_KNOWN = [
 
 # Requests of titles that the lists have, without a link for the year or volume; and others.
 WITHOUT_LINK = [
-    "rft.genre=journal&rft.issn=2901-0012",
+    "rft.genre=journal&rft.issn=2901-0012&rft.volume=2",
     "issn=2915-0272&date=2003",
     "issn=2915-0272&volume=99",
     "issn=2943-081X&volume=15",
@@ -344,7 +344,7 @@ class Titles(TitlesCase):
                     (True, False, 1),
                 )
             self.tidy(f"held, without a link: {query}", reply.text)
-        held = shown_in(main_of(self.site.get("/find?rft.genre=journal&rft.issn=2901-0012")))
+        held = shown_in(main_of(self.site.get(f"/find?{WITHOUT_LINK[0]}")))
         shown = [
             "Tidal Press: since 1995",
             "North Sea Archive: 1992 to 1999",

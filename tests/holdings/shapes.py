@@ -102,6 +102,11 @@ FILES: dict[str, tuple[str | bytes, str, list[str]]] = {
         of_rows(row('Annals of "Tidal" Studies'), row('"Race" and "Class"')),
         ["quotes around a cell removed: 3 cells"],
     ),
+    "quotes within quotes around cells": (
+        of_rows(row('"""Annals of Tidal Studies"""', '"=""2901-0012"""', '" ""2908-0142"" "')),
+        PLAIN,
+        ["quotes around a cell removed: 3 cells"],
+    ),
     "spaces at the ends": (
         of_rows(row("  Annals of Tidal Studies\xa0", " 2901-0012"), row('" Tides "'), "| ||  ||"),
         of_rows(row(), row("Tides")),

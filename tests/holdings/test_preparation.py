@@ -70,6 +70,8 @@ DATES = {
     "38412": "38412",
     "-": "-",
     "unknown": "unknown",
+    "12 T10:00": "12 T10:00",
+    "1995-1998 00:00": "1995-1998 00:00",
 }
 
 REFUSED: dict[str, tuple[str | bytes, str]] = {

@@ -1,6 +1,7 @@
 """A copy of the script test, of its modules and of what tests share, in which its tests are others."""
 from __future__ import annotations
 
+import ast
 import os
 import re
 import shutil
@@ -37,6 +38,18 @@ class B(Case):
 '''
 
 
+# The dictionary of the script test that says which modules start first, and how each is divided.
+LONG = re.compile(r"^LONG = (\{[^}]*\})$", re.M)
+
+
+def long_modules(text: str = "") -> dict[str, int]:
+    if not text:
+        with open("test", encoding="utf-8") as file:
+            text = file.read()
+    found: dict[str, int] = ast.literal_eval(LONG.findall(text)[0])
+    return found
+
+
 class RunnerCase(Case):
     """A copy of the runner and of what tests share."""
 
@@ -56,6 +69,12 @@ class RunnerCase(Case):
         with open(f"{self.top}/{path}", "w", encoding="utf-8") as file:
             file.write(text)
         os.chmod(f"{self.top}/{path}", mode)
+
+    def long(self, modules: dict[str, int]) -> None:
+        """From now on these modules are divided."""
+        with open(f"{self.top}/test", encoding="utf-8") as file:
+            text = LONG.sub(f"LONG = {modules}", file.read())
+        self.write("test", text, 0o755)
 
     def module(self, name: str, text: str) -> None:
         self.write(f"tests/sources/test_{name}.py", IMPORTS + text)

@@ -5,12 +5,19 @@ from __future__ import annotations
 import os
 import re
 import signal
+import sys
 
+from fixtures import TOP
+from fixtures.cases import Case
 from fixtures.patience import wait_until
 from sources.runner_copy import GOOD
 from sources.runner_copy import IMPORTS
 from sources.runner_copy import RunnerCase
 from sources.runner_copy import SKIPPED
+from sources.runner_copy import long_modules
+
+sys.path.insert(0, f"{TOP}/tools/run_tests")
+import catalogue
 
 # Modules with something that is wrong, and a pattern of what is said of them.
 BAD = {
@@ -49,6 +56,20 @@ class Reports(RunnerCase):
         status, lines = self.given()
         self.expect("the lines", lines, ["sources.test_sums: passed: 3 tests, 4 comparisons", "3 passed, 0 failed"])
         self.expect("the status", status, 0)
+
+    def test_a_module_in_parts(self) -> None:
+        """Each test runs in one of the processes."""
+        self.module("sums", GOOD)
+        self.long({"sources.test_sums": 2})
+        status, lines = self.given()
+        self.expect("the lines", sorted(lines), [
+            "3 passed, 0 failed", "sources.test_sums (1 of 2): passed: 2 tests, 2 comparisons",
+            "sources.test_sums (2 of 2): passed: 1 test, 2 comparisons"])
+        self.expect("the status", status, 0)
+        found = self.given("sources.Words")[1][0]
+        self.expect("a chosen class", found, "sources.test_sums: passed: 1 test, 1 comparison")
+        self.long({"sources.test_sums": 4})
+        self.expect("a part without a test", self.given()[1][-1], "3 passed, 1 failed")
 
     def test_what_fails(self) -> None:
         for name, (text, _) in BAD.items():
@@ -136,6 +157,14 @@ def is_running(process: int) -> bool:
             return file.read().rpartition(")")[2].split()[0] not in "ZX"
     except OSError:
         return False
+
+
+class Order(Case):
+    def test_names(self) -> None:
+        """Which tests start first, and are divided: all are there, with a test for each process."""
+        tests = {it.name: it for it in catalogue.everything()}
+        for name, count in long_modules().items():
+            self.expect(f"{name} in {count} parts", name in tests and len(tests[name].methods) >= count)
 
 
 class Interrupts(RunnerCase):

@@ -7,11 +7,11 @@ import os
 import shutil
 import stat
 import subprocess
-import sys
 import tempfile
 import threading
 from pathlib import Path
 
+from fixtures import PYTHON
 from fixtures import needs
 from fixtures.cases import Case
 from fixtures.patience import patience
@@ -43,6 +43,7 @@ class Machine(Case):
     def setUp(self) -> None:
         place = tempfile.TemporaryDirectory()
         self.addCleanup(place.cleanup)
+        os.chmod(place.name, 0o755)
         self.top = Path(place.name, "openlink")
         self.east, self.west = (self.library(name) for name in ("east", "west"))
         self.secrets = self.write(self.west / "secrets.tsv", SECRET, 0o600)
@@ -65,7 +66,7 @@ class Machine(Case):
 
     def run_of(self, command: str, *words: str | Path) -> tuple[int, list[str]]:
         """The status of a command, and the lines that it prints. It has to end."""
-        words = (sys.executable, "-S", "-B", f"update/{command}", *words)
+        words = (*PYTHON, f"update/{command}", *words)
         done = subprocess.run(words, capture_output=True, text=True, timeout=patience(60))
         return done.returncode, (done.stdout + done.stderr).splitlines()
 
@@ -264,7 +265,8 @@ class Fetches(Machine):
         self.expect("it is due", self.fetch("law.txt")[1][-1], "1 file asked for, 0 new or changed, 0 not fetched")
         self.expect("where it was", (self.east / ".fetch").exists(), False)
         self.expect("where it is", sorted(os.listdir(own)), ["lock", "state.json"])
-        self.expect("for its owner alone", stat.S_IMODE(own.stat().st_mode), 0o700)
+        modes = [stat.S_IMODE(path.stat().st_mode) for path in (own, own / "state.json")]
+        self.expect("nobody else reads what is remembered", modes, [0o711, 0o600])
         self.write(self.east / ".fetch/state.json", "{}")
         self.fetch("law.txt")
         self.expect("once", "law.txt" in (own / "state.json").read_text(), True)

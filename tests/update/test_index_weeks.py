@@ -56,7 +56,10 @@ class IndexWeeks(Case):
             first = library.current()
             with open(library.path("current", "index", "format")) as file:
                 text = file.read()
-            self.expect("the format", text, "4 list\n")
+            self.expect("the format", text, "5 list\n")
+            with open(library.path("current", "index", "named")) as file:
+                named = dict(line.rstrip("\n").split("\t") for line in file)
+            self.expect("what the rules name", named.get("coastal-law"), "date")
             with open(library.path("current", "index", "format"), "w") as file:
                 file.write("0 list\n")
             status, printed = library.run()
@@ -77,9 +80,9 @@ class IndexWeeks(Case):
             with open(path) as file:
                 site = file.read()
             assert site.count(LIST.format("on")) == 1, "openlink.conf has no switch of the list"
-            folders = ["format", "keys", "list", "words"]
+            folders = ["format", "keys", "list", "named", "words"]
             self.expect("with the list", (names_of(library), names_of(library, "list")), (folders, ["b", "j"]))
-            for state, expected in (("off", folders[:2]), ("on", folders)):
+            for state, expected in (("off", ["format", "keys", "named"]), ("on", folders)):
                 with open(path, "w") as file:
                     file.write(site.replace(LIST.format("on"), LIST.format(state)))
                 before = library.current()
@@ -88,6 +91,26 @@ class IndexWeeks(Case):
                             (0, True, expected))
                 self.expect(f"titles are found, {state}", targets(library), ["coastal-law"])
                 self.expect(f"nothing new, {state}", library.run()[0], 0)
+
+    def test_title_pages(self) -> None:
+        """Rules without a link for a title alone are said, and readers get the addresses of their rows, which go back
+        with the version."""
+        query = "/find.json?rft.genre=journal&rft.issn=3030-0009"
+
+        def pages(library: Library) -> list[str]:
+            return [page["url"] for page in json.loads(library.site.get(query).text).get("pages", [])]
+
+        with Library() as library:
+            self.expect("a rule has a link", (targets(library, query), pages(library)), (["coastal-law"], []))
+            rules = library.input.read("coastal-law.rules").decode()
+            library.input.write("coastal-law.rules", rules[:rules.rindex("rule\n")].encode())
+            status, printed = library.run()
+            self.expect(f"none has: {printed}", (status, targets(library, query), pages(library)),
+                        (0, [], ["https://press.example.com/pp"]))
+            said = 'coastal-law: no link without a date for journals, such as "Review of Coastal Law"'
+            self.expect_lines("none has", printed, said)
+            self.expect("back", (library.run("--back")[0], targets(library, query), pages(library)),
+                        (0, ["coastal-law"], []))
 
     def test_many_titles(self) -> None:
         """As many titles as make a file in most places of keys/: all are there once the version is in use."""

@@ -24,12 +24,26 @@ class Test:
     folder: str = "."
     methods: list[str] = dataclasses.field(default_factory=list)  # of a module: CLASS.METHOD
     chosen: list[str] = dataclasses.field(default_factory=list)  # these alone, or all
+    part: tuple[int, int] = (1, 1)  # which of how many processes, that share the tests of a module
+
+    def title(self) -> str:
+        number, count = self.part
+        return f"{self.name} ({number} of {count})" if count > 1 else self.name
+
+    def what(self) -> str:
+        """What module.py runs, beside that of which a part is chosen."""
+        number, count = self.part
+        return f"{self.name}:{number}/{count}" if count > 1 else self.name
 
     def group(self) -> str:
         package = self.name.split(".")[0] if self.kind == "module" else ""
         if package == EARLY:
             return "--early"
         return "--crates" if package == UNPROVED or self.kind == "crate" else "--program"
+
+    def halves(self) -> int:
+        """What it takes of a processor, in halves: a test that runs the program waits as long as it works."""
+        return 1 if self.group() == "--program" else 2
 
 
 def modules() -> list[Test]:
@@ -60,6 +74,13 @@ def crates() -> list[Test]:
 
 def everything() -> list[Test]:
     return [*crates(), *modules()]
+
+
+def divided(test: Test, count: int) -> list[Test]:
+    """The module as this many processes, of which each runs some of its tests. Where a part is chosen, it stays one."""
+    if test.chosen or test.kind != "module":
+        return [test]
+    return [dataclasses.replace(test, part=(number, count)) for number in range(1, count + 1)]
 
 
 def _methods_of(test: Test, name: str) -> list[str] | None:

@@ -45,9 +45,9 @@ class Run:
     """A test that has been started, with a file for its output."""
 
     def __init__(self, test: Test, folder: str) -> None:
-        self.test, self.log, self.started = test, f"{folder}/{test.kind}.{test.name}", time.monotonic()
+        self.test, self.log, self.started = test, f"{folder}/{test.kind}.{test.title()}", time.monotonic()
         self.told = f"{self.log}.json"
-        more = [self.told, test.name, *test.chosen] if test.kind == "module" else []
+        more = [self.told, test.what(), *test.chosen] if test.kind == "module" else []
         self.process = machine.start([*test.command, *more], test.folder, self.log)
         self.is_late = False
 
@@ -84,7 +84,7 @@ class Run:
         end = "failed" if result["failed"] else "passed" if result["passed"] else "skipped"
         numbers = [counted(result["passed"], "test") + " passed"] * (end == "failed" and result["passed"] > 0)
         numbers += [counted(result[end], "test")] if end != "failed" else [f"{result['failed']} failed"]
-        line = f"{self.test.name}: {end} in {self.seconds():.0f} s: {', '.join(reversed(numbers))}{result['said']}"
+        line = f"{self.test.title()}: {end} in {self.seconds():.0f} s: {', '.join(reversed(numbers))}{result['said']}"
         if end == "passed" and result["skipped"]:
             line += f"; {result['skipped']} skipped"
         line += "".join(f"; {it}" for it in result["reasons"])
@@ -106,14 +106,18 @@ def stop(processes: list[Any]) -> None:
     machine.end(processes)
 
 
+def has_room(test: Test, running: list[Run], jobs: int) -> bool:
+    return sum(it.test.halves() for it in running) + test.halves() <= 2 * jobs
+
+
 def run_all(tests: list[Test], jobs: int, totals: Totals) -> None:
-    """Runs these tests, at most this many at once, in this order."""
+    """Runs these tests in this order, as many at once as that many processors have work for."""
     waiting = [*tests]
     running: list[Run] = []
     with tempfile.TemporaryDirectory() as folder:
         try:
             while waiting or running:
-                while waiting and len(running) < jobs:
+                while waiting and (not running or has_room(waiting[0], running, jobs)):
                     running.append(Run(waiting.pop(0), folder))
                 time.sleep(0.05)
                 for run in [it for it in running if it.has_ended()]:

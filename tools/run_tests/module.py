@@ -1,6 +1,7 @@
-"""Runs the tests of one module: module.py RESULT MODULE [CLASS[.METHOD]..]. Prints each failure, and writes to the file
-RESULT, as JSON, how many tests passed, failed and were skipped, the reasons of skips, and the number of comparisons.
-What is not run, or cannot be, fails. `module.py --reasons` prints the reasons of all skips of all modules."""
+"""Runs the tests of one module: module.py RESULT MODULE[:PART/PARTS] [CLASS[.METHOD]..]. With :2/3 it runs every third
+test from the second on. Prints each failure, and writes to the file RESULT, as JSON, how many tests passed, failed and
+were skipped, the reasons of skips, and the number of comparisons. What is not run, or cannot be, fails.
+`module.py --reasons` prints the reasons of all skips of all modules."""
 from __future__ import annotations
 
 import ast
@@ -116,8 +117,8 @@ def account(tests: list[unittest.TestCase], outcomes: Outcomes) -> collections.C
     return counts
 
 
-def run(name: str, chosen: list[str]) -> dict[str, Any]:
-    """Runs a module, or only these classes and methods of it."""
+def run(name: str, chosen: list[str], part: tuple[int, int]) -> dict[str, Any]:
+    """Runs a module, only these classes and methods of it, or one part of several."""
     module = importlib.import_module(name)
     loader = unittest.defaultTestLoader
     tests = each_test(loader.loadTestsFromModule(module))
@@ -126,6 +127,8 @@ def run(name: str, chosen: list[str]) -> dict[str, Any]:
         print(f"{name}: {fault}")
     if chosen:
         tests = each_test(loader.loadTestsFromNames([f"{name}.{it}" for it in dict.fromkeys(chosen)]))
+    number, count = part
+    tests = tests[number - 1 :: count]
     outcomes = Outcomes()
     unittest.TestSuite(loader.suiteClass(tests)).run(outcomes)
     counts = account(tests, outcomes)
@@ -143,9 +146,11 @@ def main(arguments: list[str]) -> int:
     if arguments == ["--reasons"]:
         print(json.dumps(reasons()))
         return 0
-    path, name, *chosen = arguments
+    path, what, *chosen = arguments
     path = os.path.abspath(path)
-    result = run(name, chosen)
+    name, _, part = what.partition(":")
+    number, _, count = part.partition("/")
+    result = run(name, chosen, (int(number or 1), int(count or 1)))
     with open(path, "w", encoding="utf-8") as file:
         json.dump(result, file)
     return 1 if result["failed"] else 0

@@ -1,5 +1,6 @@
 """Processes that end with this one, even if it is killed; and free ports for them."""
 import ctypes
+import itertools
 import os
 import random
 import resource
@@ -92,7 +93,8 @@ def is_open(port: int) -> bool:
 def free_port() -> int:
     """A port at which nothing listens. No process gets it from here again until this one ends: for so long it holds the
     name openlink-port-N of an abstract socket. A Failure says that there is none: any user can take these names."""
-    for port in random.sample(_PORTS, len(_PORTS)):
+    first = random.randrange(len(_PORTS))
+    for port in itertools.chain(_PORTS[first:], _PORTS[:first]):
         claim = socket.socket(socket.AF_UNIX)
         try:
             claim.bind(f"\0openlink-port-{port}")

@@ -8,7 +8,7 @@ lists of a version are read by the same function."""
 import dataclasses
 import errno
 import os
-from collections.abc import Iterable, Iterator
+from collections.abc import Callable, Iterable, Iterator, Sequence
 from pathlib import Path
 from typing import BinaryIO
 
@@ -50,11 +50,12 @@ class InputFile:
     path: Path
     data: bytes
     mark: os.stat_result
+    status: Callable[[], os.stat_result]  # what it says now
 
     def is_changed(self) -> bool:
         """Whether the file was written to since, and not replaced by another."""
         try:
-            now = os.lstat(self.path)
+            now = self.status()
         except OSError:
             return False
         times = [(status.st_size, status.st_mtime_ns) for status in (self.mark, now)]
@@ -67,6 +68,16 @@ class InputFolder:
         self.path = Path(os.path.abspath(path))
         self._own = RootFolder(self.path)
         self._roots = [self._own, *map(RootFolder, others)]
+
+    def folders(self) -> Sequence[RootFolder]:
+        """The folder itself, and the others."""
+        return self._roots
+
+    def by(self, folders: Sequence[RootFolder]) -> "InputFolder":
+        """The same, whose files are opened by these in place of its own ones."""
+        other = InputFolder(self.path)
+        other._own, other._roots = folders[0], [*folders]
+        return other
 
     def place(self, *names: str | Path) -> Path:
         return self.path.joinpath(*names)
@@ -95,7 +106,8 @@ class InputFolder:
 
     def file(self, name: str) -> InputFile:
         with self.open(name) as file:
-            return InputFile(self.place(name), mark=os.fstat(file.fileno()), data=file.read(MOST_BYTES))
+            mark, data = os.fstat(file.fileno()), file.read(MOST_BYTES)
+        return InputFile(self.place(name), data, mark, lambda: self.status(name))
 
     def lines(self, name: str, encoding: str = "utf-8-sig") -> Iterator[Line]:
         return lines_in(self.read(name), encoding)

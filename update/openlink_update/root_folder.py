@@ -7,16 +7,18 @@ import fnmatch
 import glob
 import os
 import stat
-from collections.abc import Iterator, Sequence
+from collections.abc import Callable, Iterator, Sequence
 from pathlib import Path
-from typing import BinaryIO
+from typing import BinaryIO, TypeVar
 
+_T = TypeVar("_T")
 _MOST_MB = 256
 MOST_BYTES = _MOST_MB * 2**20  # of a file
 _UNFINISHED = ".openlink.new"  # a file that gets its name by a rename
 _FOLDER = os.O_RDONLY | os.O_DIRECTORY | os.O_NOFOLLOW
 # A pipe that nobody writes to is opened at once, and then refused.
 _FILE = os.O_RDONLY | os.O_NOFOLLOW | os.O_NONBLOCK | os.O_NOCTTY
+_ENTRY = os.O_PATH | os.O_NOFOLLOW
 _NEW = os.O_WRONLY | os.O_CREAT | os.O_EXCL | os.O_NOFOLLOW
 
 
@@ -41,6 +43,14 @@ def _fault_in(file: int, path: Path) -> OSError | None:
     if status.st_size > MOST_BYTES:
         return Unusable(errno.EFBIG, f"more than {_MOST_MB} MB", str(path))
     return None
+
+
+def _used(descriptor: int, use: Callable[[int], _T]) -> _T:
+    """What an open descriptor tells, which is closed then."""
+    try:
+        return use(descriptor)
+    finally:
+        os.close(descriptor)
 
 
 class RootFolder:
@@ -89,19 +99,36 @@ class RootFolder:
             finally:
                 os.close(folder)
 
-    def open(self, parts: Sequence[str]) -> BinaryIO:
+    def file(self, parts: Sequence[str]) -> int:
+        """A descriptor of a file to read. Unusable if it is not regular, or too large."""
         with self._parent(parts) as folder:
             file = self._opened(parts or ["."], _FILE, folder)
         fault = _fault_in(file, self.place(parts))
         if fault:
             os.close(file)
             raise fault
-        return open(file, "rb")
+        return file
+
+    def entry(self, parts: Sequence[str]) -> int:
+        """A descriptor of a file, or of a link itself, which tells what the system says of it, and nothing else."""
+        with self._parent(parts) as folder:
+            return os.open(parts[-1] if parts else ".", _ENTRY, dir_fd=folder)
+
+    def listing(self, parts: Sequence[str]) -> int:
+        """A descriptor of a folder, which tells the names in it."""
+        with self._parent((*parts, "")) as folder:
+            return os.dup(folder)
+
+    def open(self, parts: Sequence[str]) -> BinaryIO:
+        return open(self.file(parts), "rb")
 
     def status(self, parts: Sequence[str]) -> os.stat_result:
         """What the system says of a file, or of a link itself."""
-        with self._parent(parts) as folder:
-            return os.lstat(parts[-1] if parts else ".", dir_fd=folder)
+        return _used(self.entry(parts), os.fstat)
+
+    def names(self, parts: Sequence[str] = ()) -> list[str]:
+        """The names in a folder."""
+        return _used(self.listing(parts), os.listdir)
 
     def matches(self, parts: Sequence[str]) -> list[Path]:
         """The paths that a path with * names: those of files, and of links, which cannot be read."""
@@ -123,8 +150,8 @@ class RootFolder:
 
     def _fitting(self, above: Sequence[str], pattern: str) -> list[str]:
         """The names in a folder that fit a component with *; hidden ones, only if it begins with a dot."""
-        with self._parent((*above, pattern)) as folder:
-            names = os.listdir(folder)
+        with self._faults((*above, pattern)):
+            names = self.names(above)
         escaped = "*".join(map(glob.escape, pattern.split("*")))
         return [
             name for name in names if fnmatch.fnmatchcase(name, escaped) and name.startswith(".") <= (pattern[0] == ".")

@@ -3,9 +3,11 @@ import argparse
 import dataclasses
 from pathlib import Path
 
+from openlink_update.rights import limits
 from openlink_update.versions.library import is_stamp
 
 LIBRARY = Path("/etc/openlink")
+_LEAST_MB = 256  # in which a small library is prepared
 SITE = Path("/etc/nginx/conf.d/openlink.conf")
 # The key is named, since the units may not read the home of root.
 _SHELL = (
@@ -31,6 +33,8 @@ class Options:
     reload: str
     seconds: float
     keep: int
+    minutes: float
+    memory: int
     to: list[str]
     shell: str
     there: str
@@ -47,6 +51,8 @@ class Options:
         """What is wrong with them, or None."""
         if self.keep < 2 or not self.seconds > 0:
             return "--keep is at least 2, and --seconds above 0"
+        if not self.minutes > 0 or self.memory < _LEAST_MB:
+            return f"--minutes is above 0, and --memory at least {_LEAST_MB}"
         if (self.back or self.walls) and self.fetch:
             return "--back and --walls fetch nothing"
         if self.input and (self.names or self.all):
@@ -62,7 +68,7 @@ class Options:
     def words(self) -> list[str]:
         """The arguments of the run for each of several libraries."""
         flags = [f"--{name.replace('_', '-')}" for name in ("dry_run", "walls", "back", "fetch") if getattr(self, name)]
-        names = ("program", "restart", "reload", "seconds", "keep", "receive")
+        names = ("program", "restart", "reload", "seconds", "keep", "minutes", "memory", "receive")
         values = [(f"--{name}", str(getattr(self, name))) for name in names if getattr(self, name) is not None]
         return [*flags, *(word for pair in values for word in pair)]
 
@@ -75,6 +81,7 @@ def parse(words: list[str] | None = None) -> Options:
     parser.add_argument("--fetch", action="store_true", help="fetch the files of sources.tsv first")
     _add_places(parser)
     _add_processes(parser)
+    _add_limits(parser)
     _add_machines(parser, mode)
     several = parser.add_mutually_exclusive_group()
     several.add_argument("--all", action="store_true", help="update all libraries of a machine that has several")
@@ -133,6 +140,23 @@ def _add_processes(parser: argparse.ArgumentParser) -> None:
     parser.add_argument("--seconds", type=float, default=60, metavar="N", help="for a process to listen again (60)")
     parser.add_argument(
         "--keep", type=int, default=4, metavar="N", help="versions that are kept, the one in use counted (4)"
+    )
+
+
+def _add_limits(parser: argparse.ArgumentParser) -> None:
+    parser.add_argument(
+        "--minutes",
+        type=float,
+        default=limits.MINUTES,
+        metavar="N",
+        help=f"for the fetch of a library, for making its version, and for trying it ({limits.MINUTES})",
+    )
+    parser.add_argument(
+        "--memory",
+        type=int,
+        default=limits.MEMORY_MB,
+        metavar="MB",
+        help=f"that a process may have which reads files of providers ({limits.MEMORY_MB})",
     )
 
 

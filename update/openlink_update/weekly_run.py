@@ -10,21 +10,28 @@ from openlink_update import children
 from openlink_update.exports import export_files
 from openlink_update.fetch import sources
 from openlink_update.input_files import InputFolder
-from openlink_update.outcome import ALL_NEW, KEPT, Failure, ignore_signals
+from openlink_update.outcome import ALL_NEW, DEVICE, KEPT, Failure, ignore_signals
 from openlink_update.received import archives
+from openlink_update.rights import handover
+from openlink_update.rights.lent_files import Lent
+from openlink_update.rights.sandbox import Job, Parent, Sandbox, input_by
 from openlink_update.shown_text import report
+from openlink_update.site import targets_file
 from openlink_update.site.front_door import FrontDoor, Site
 from openlink_update.site.names_file import NAME, NamesFile
 from openlink_update.site.probing import Difference, Probes, Trial
 from openlink_update.site.processes import Processes
-from openlink_update.tables import coverage
+from openlink_update.tables import coverage, parts
 from openlink_update.update_options import Options
-from openlink_update.versions import making, same_files, target_list
+from openlink_update.versions import making, same_files, shared_tables, target_list
 from openlink_update.versions.library import Library
 from openlink_update.versions.making import Maker
 from openlink_update.versions.program import Program
 from openlink_update.versions.served import names_in, path_of
 from openlink_update.versions.target_list import Target
+
+
+_NEW, _SAME, _NO_WALLS = "new", "same", "no walls of months or days"
 
 
 @dataclasses.dataclass(frozen=True)
@@ -35,27 +42,56 @@ class _Trials:
     links: list[dict[str, str]]
 
 
+@dataclasses.dataclass(frozen=True)
+class _Plan:
+    """How a version is made of an input, and what is removed once it is in use. A trial puts none in use. If it does
+    not try all probes, it tries those that hold in the version in use."""
+
+    folder: InputFolder
+    make: Callable[[Maker, InputFolder], str]
+    remove: Callable[[], None]
+    is_trial: bool
+    tries_all: bool
+
+
+@dataclasses.dataclass(frozen=True)
+class Attempt:
+    """A version that is tried with the probes of a file in a folder, the stamp of the one in use, and what puts the new
+    one in its place."""
+
+    folder: InputFolder
+    probes: str
+    version: Path
+    old: str | None
+    tries_all: bool
+    is_trial: bool
+    put_in_use: Callable[[], None]
+
+
 class Run:
-    def __init__(self, library: Library, site: Site, options: Options, others: Sequence[Path] | None = None) -> None:
-        """`others` has the versions in use of the machine's other libraries, if it has several."""
-        self.library, self.others = library, others
+    def __init__(
+        self, library: Library, site: Site, options: Options, sandbox: Sandbox, others: Sequence[Path] | None = None
+    ) -> None:
+        """`sandbox` is that of the library's user; `others` has the versions in use of the machine's other libraries,
+        if it has several."""
+        self.library, self.sandbox, self.others = library, sandbox, others
+        self._of_all: Sandbox | None = None  # that of the user who prepares what is shared
         self.processes = Processes(site.ports, options.restart, options.reload, options.seconds)
         self._program, self._site = options.program, site
         self.names_file = NamesFile(site, library.path("current"))
 
     def update(self, folder: InputFolder, most: int, is_trial: bool) -> int:
         """Makes a version from a folder and, unless it is only a trial, puts it in use. Returns the exit status."""
-        targets = target_list.read(folder)
-        names = [target.name for target in targets]
-        for line in (*self.names_file.differences(names, folder), *_unused(folder, targets)):
-            report(line)
-        return self._next_version(
-            folder,
-            lambda maker: maker.make(targets, self._site.has_list),
-            lambda: self.library.remove_old(most),
-            is_trial,
-            tries_all=True,
-        )
+
+        def make(maker: Maker, folder: InputFolder) -> str:
+            targets = target_list.read(folder)
+            names = [target.name for target in targets]
+            for line in (*self.names_file.differences(names, folder), *_unused(folder, targets)):
+                report(line)
+            maker.make(targets, self._site.has_list)
+            return _NEW
+
+        return self._next_version(_Plan(folder, make, lambda: self.library.remove_old(most), is_trial, tries_all=True))
 
     def move_walls(self, folder: InputFolder) -> int:
         """Makes a version from the files of the one in use, whose walls have moved, and puts it in its place, or four
@@ -64,58 +100,116 @@ class Run:
         old = self.library.current()
         if old is None:
             raise Failure("there is no version in use")
-        if not self._has_walls(self.library.version(old)):
-            report(f"no walls of months or days: {old} stays in use")
-            return ALL_NEW
-        return self._next_version(
-            folder,
-            lambda maker: maker.move_walls(self._site.has_list),
-            functools.partial(self.library.remove, old),
-            is_trial=False,
-            tries_all=False,
-        )
+        in_use = self.library.version(old)
+
+        def make(maker: Maker, _: InputFolder) -> str:
+            if not self._has_walls(in_use):
+                return _NO_WALLS
+            maker.move_walls(self._site.has_list)
+            return _NEW
+
+        remove = functools.partial(self.library.remove, old)
+        return self._next_version(_Plan(folder, make, remove, is_trial=False, tries_all=False))
 
     @staticmethod
     def _has_walls(version: Path) -> bool:
         return any(coverage.has_walls((version / path_of(name)).read_bytes()) for name in names_in(version))
 
-    def _next_version(
-        self,
-        folder: InputFolder,
-        make: Callable[[Maker], object],
-        remove: Callable[[], None],
-        is_trial: bool,
-        tries_all: bool,
-    ) -> int:
-        """Makes a version, tries the probes of a folder, and puts it in use. Then it calls `remove`. If it does not try
-        all probes, it tries those that hold in the version in use. Returns the exit status."""
+    def _next_version(self, plan: "_Plan") -> int:
+        """Makes a version, tries the probes, and puts it in use. Then it removes what the plan says. Returns the exit
+        status."""
         library = self.library
         old = library.current()
-        probes = Probes(folder, "probes.tsv")
         new = library.begin()
         unfinished, older = library.version(f"{new}.new"), library.version(old) if old else None
+        outcome, bad, rest = self._made(plan, unfinished, older).partition(";")
+        status, end = KEPT if bad else ALL_NEW, bad + rest
+        if outcome in (_NO_WALLS, _SAME):
+            what = "nothing new" if outcome == _SAME else _NO_WALLS
+            report(f"{what}: {old} stays in use{end}")
+            return status
+        if self.others is not None:
+            same_files.link(unfinished, older, self.others)
+
+        def complete() -> None:
+            library.complete(new)
+            self.put_in_use(new, old)
+
+        input_probes = plan.folder, "probes.tsv"
+        self.try_and_use(Attempt(*input_probes, unfinished, old, plan.tries_all, plan.is_trial, complete))
+        if plan.is_trial:
+            report(f"a trial: nothing was put in use{end}")
+            return status
+        ignore_signals()
+        library.settle()
+        plan.remove()
+        report(f"{new} is in use{end}")
+        return status
+
+    def _made(self, plan: "_Plan", unfinished: Path, older: Path | None) -> str:
+        """Makes a version as the library's user. Returns a word, and what became of targets whose files were bad."""
+        received = [Lent(making.received_in(older))] if older else []
+        inputs = [Lent(root, frozenset({sources.SECRETS})) for root in plan.folder.folders()]
+        self.sandbox.own(unfinished)
+
+        def work(parent: Parent) -> str:
+            return self._make(plan, unfinished, older, parent)
+
+        lent = (*received, *inputs)
+        text = self.sandbox.run(Job(work, (unfinished,), lent, has_network=False, shared=self._shared_table))
+        if self.sandbox.number is not None and text.startswith(_NEW):
+            handover.take(unfinished, self.sandbox.number)
+            _check_sizes(unfinished)
+        return text
+
+    def _shared_table(self, files: shared_tables.Files) -> int | None:
+        """A descriptor of what is prepared of a table that several libraries serve."""
+        if shared_tables.folder is None:
+            return None
+        if self._of_all is None:
+            self._of_all = self.sandbox.other(self.library.folder.parent, "shared")
+        return shared_tables.for_library(files, self._of_all)
+
+    def _make(self, plan: "_Plan", unfinished: Path, older: Path | None, parent: Parent) -> str:
+        folder, received = input_by(parent, plan.folder), None
+        if self.sandbox.number is not None:
+            shared_tables.asked = parent.prepared
+        Probes(folder, "probes.tsv")  # a line that is wrong is said before the work begins
+        if older:
+            received = parent.lent(making.received_in(older))
         program = Program(self._program, unfinished)
-        maker = Maker(unfinished, older, program, datetime.date.today(), report)
-        make(maker)
-        self._add_names(maker, folder if tries_all else None, unfinished, older)
-        if older and making.is_same(unfinished, older) and self.names_file.is_same(unfinished, older):
-            return self._say_end(maker, f"nothing new: {old} stays in use")
+        maker = Maker(unfinished, older, program, datetime.date.today(), report, received)
+        word = plan.make(maker, folder)
+        if word == _NO_WALLS:
+            return word
+        self._add_names(maker, folder if plan.tries_all else None, unfinished, older)
+        is_same = older and making.is_same(unfinished, older, received)
+        if older and is_same and self.names_file.is_same(unfinished, older):
+            return _SAME + _bad_files(maker)
         maker.make_index(self._site.has_list)
         self._export(maker, unfinished)
         maker.remove_prepared()
-        if self.others is not None:
-            same_files.link(unfinished, older, self.others)
-        with self.front_door(probes) as door:
-            trials = self.try_version(probes, door, unfinished, old, tries_all)
-            if is_trial:
-                return self._say_end(maker, "a trial: nothing was put in use")
-            library.complete(new)
-            self.put_in_use(new, old)
-            self.try_again(probes, trials)
-        ignore_signals()
-        library.settle()
-        remove()
-        return self._say_end(maker, f"{new} is in use")
+        return word + _bad_files(maker)
+
+    def try_and_use(self, attempt: "Attempt") -> None:
+        """Tries a version with the probes as the library's user, puts it in use, and tries it again. A Failure says
+        what differs."""
+        trial = self.library.path("trial")
+        if self.sandbox.number is not None:
+            trial.mkdir()
+            self.sandbox.own(trial)
+
+        def work(parent: Parent) -> str:
+            probes = Probes(input_by(parent, attempt.folder), attempt.probes)
+            with self.front_door(probes) as door:
+                trials = self.try_version(probes, door, attempt.version, attempt.old, attempt.tries_all)
+                if not attempt.is_trial:
+                    parent.pause()
+                    self.try_again(probes, trials)
+            return ""
+
+        lent = [Lent(root, frozenset({sources.SECRETS})) for root in attempt.folder.folders()]
+        self.sandbox.run(Job(work, (trial,), tuple(lent), attempt.put_in_use))
 
     def put_in_use(self, new: str, old: str | None) -> None:
         """Moves the link from the old version to a complete one, and restarts the processes."""
@@ -221,16 +315,6 @@ class Run:
             raise Failure("the processes at the ports have other links than the new version")
         report(f"{len(probes.list)} probes hold" if len(probes.list) != 1 else "1 probe holds")
 
-    @staticmethod
-    def _say_end(maker: Maker, text: str) -> int:
-        parts = [text]
-        if maker.kept:
-            parts.append(f"old files of {', '.join(maker.kept)} kept")
-        if maker.left_out:
-            parts.append(f"{', '.join(maker.left_out)} left out")
-        report("; ".join(parts))
-        return KEPT if maker.kept or maker.left_out else ALL_NEW
-
     def go_back(self, ports: list[int]) -> None:
         """Serves the version that `before` names, at these ports, and then at the others: a process that has ended in
         the meantime may have started with the new version. What fails is said, and does not stop it, nor do signals."""
@@ -262,6 +346,19 @@ class Run:
                 is_well = False
                 report(f"{stamp} again: {failure}")
         return is_well
+
+
+def _check_sizes(version: Path) -> None:
+    """A Failure if root or nginx would have to read too much of what a library's user has made."""
+    for name, most in (("registry.tsv", parts.MOST_REGISTRY_BYTES), (NAME, targets_file.MOST_BYTES)):
+        if (version / name).exists() and (version / name).stat().st_size > most:
+            raise Failure(f"{version / name}: more than {most:,} bytes", DEVICE)
+
+
+def _bad_files(maker: Maker) -> str:
+    """What became of targets whose files were bad, after a semicolon; nothing if all were good."""
+    kept = f"; old files of {', '.join(maker.kept)} kept" if maker.kept else ""
+    return kept + (f"; {', '.join(maker.left_out)} left out" if maker.left_out else "")
 
 
 def _unused(folder: InputFolder, targets: list[Target]) -> list[str]:

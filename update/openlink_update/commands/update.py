@@ -5,6 +5,7 @@ from pathlib import Path
 from openlink_update import allowed_folders, update_options
 from openlink_update.fetch import fetching, sources
 from openlink_update.input_files import ALLOWED, InputFolder
+from openlink_update.library_sandbox import sandbox_of
 from openlink_update.machines.libraries import SHARED, Libraries
 from openlink_update.machines.library_updates import ALONE, Updates
 from openlink_update.machines.machines import deliver
@@ -21,6 +22,8 @@ from openlink_update.outcome import (
     ignore_signals,
     raise_signals,
 )
+from openlink_update.rights.limits import Exceeded
+from openlink_update.rights.sandbox import Sandbox
 from openlink_update.shown_text import prepare_streams, report
 from openlink_update.site.front_door import Site
 from openlink_update.update_options import LIBRARY, Options
@@ -78,7 +81,8 @@ def _update_one(options: Options) -> int:
     )
     shared_tables.folder = options.prepared
     lock = library.lock()
-    run = (Receiver if options.receive else Run)(library, site, options, others)
+    user = sandbox_of(options, library, site, options.input or library.path("input"))
+    run = (Receiver if options.receive else Run)(library, site, options, user, others)
     status, fault = _end_of(run, options)
     if fault:
         status = _settle(run, options, status, fault)
@@ -143,7 +147,7 @@ def _work(run: Run, options: Options) -> int:
     folder = _input_of(options, library)
     if options.walls:
         return run.move_walls(folder)
-    are_fetched = not options.fetch or _fetch(folder)
+    are_fetched = not options.fetch or _fetch(folder, run.sandbox)
     status = run.update(folder, options.keep, options.dry_run)
     if not options.dry_run:
         library.note_update()
@@ -167,12 +171,14 @@ def _version_before(library: Library) -> str:
     return older[-1]
 
 
-def _fetch(folder: InputFolder) -> bool:
+def _fetch(folder: InputFolder, user: Sandbox) -> bool:
     """Whether all files of sources.tsv were fetched, if there is one. The update is made in any case."""
     if not folder.exists(sources.LIST):
         return True
     try:
-        return fetching.fetch(folder.path, report, fetching.SECONDS, fetching.PAUSE) == ALL_NEW
+        return fetching.fetch(folder.path, report, fetching.SECONDS, fetching.PAUSE, (), user) == ALL_NEW
+    except Exceeded as failure:
+        report(f"the fetch was ended: {failure}")
     except Failure as failure:
         report(f"nothing was fetched: {failure}")
     except OSError as fault:

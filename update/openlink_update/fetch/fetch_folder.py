@@ -2,29 +2,31 @@
 /etc/openlink/input it is
 
     /etc/openlink/input.fetch/state.json   what is remembered of each file
-    /etc/openlink/input.fetch/N            the body of a reply; the next run removes it
+    /etc/openlink/input.fetch/bodies/N     the body of a reply; the next run removes it
     /etc/openlink/input.fetch/lock         locked by a run as long as it lives
 """
 import contextlib
 import fcntl
 import os
+import shutil
 import stat
 from collections.abc import Iterator
 from pathlib import Path
 
-from openlink_update.disk import sync
 from openlink_update.input_files import InputFolder
 from openlink_update.outcome import DEVICE, Failure
+from openlink_update.root_folder import RootFolder
 
-_SUFFIX = ".fetch"
-_LOCK, _STATE = "lock", "state.json"
+FETCH = ".fetch"
+_LOCK, STATE, _BODIES = "lock", "state.json", "bodies"
 _BEFORE = ".fetch"  # where it was, below the input
 
 
 class FetchFolder:
     def __init__(self, folder: InputFolder) -> None:
         """That of an input, which is made unless it exists."""
-        self._path, self._input = folder.beside(_SUFFIX), folder
+        self._path, self._input = folder.beside(FETCH), folder
+        self.root, self.bodies = RootFolder(self._path), self._path / _BODIES
         try:
             os.mkdir(self._path, 0o700)
         except FileExistsError as fault:
@@ -32,18 +34,21 @@ class FetchFolder:
                 raise Failure(f"{self._path}: not a folder: remove it", DEVICE) from fault
         else:
             self._take_over()
+        with contextlib.suppress(FileNotFoundError):
+            os.chmod(self._path / STATE, 0o600)  # an earlier release left it to the folder to be closed
+        os.chmod(self._path, 0o711)  # the user who fetches finds the bodies
 
     def body(self, number: int) -> Path:
         """Where the body of a reply comes."""
-        return self._path / str(number)
+        return self.bodies / str(number)
 
     def _take_over(self) -> None:
         """Takes what an earlier release has remembered below the input."""
         with contextlib.suppress(OSError):
-            self.write_state(self._input.read(f"{_BEFORE}/{_STATE}"))
+            self.write_state(self._input.read(f"{_BEFORE}/{STATE}"))
         with contextlib.suppress(OSError):
             for path in map(Path, self._input.matches(f"{_BEFORE}/*")):
-                if path.name in (_STATE, _LOCK) or path.name.isdigit():
+                if path.name in (STATE, _LOCK) or path.name.isdigit():
                     self._input.remove(path)
             self._input.remove(_BEFORE)
 
@@ -56,22 +61,28 @@ class FetchFolder:
                 fcntl.flock(lock, fcntl.LOCK_EX | fcntl.LOCK_NB)
             except BlockingIOError as fault:
                 raise Failure(f"{path}: another run has not ended", DEVICE) from fault
-            for name in os.listdir(self._path):
-                if name not in (_LOCK, _STATE):
-                    (self._path / name).unlink()
-            yield
+            self._remove_others()
+            self.bodies.mkdir(0o700)
+            try:
+                yield
+            finally:
+                self._remove_others()
+
+    def _remove_others(self) -> None:
+        """Removes all that is not for the next run."""
+        for path in self._path.iterdir():
+            if path.is_dir() and not path.is_symlink():
+                shutil.rmtree(path)
+            elif path.name not in (_LOCK, STATE):
+                path.unlink()
 
     def state(self) -> bytes:
         """What is remembered; nothing if it cannot be read."""
         try:
-            return (self._path / _STATE).read_bytes()
+            with self.root.open((STATE,)) as file:
+                return file.read()
         except OSError:
             return b""
 
     def write_state(self, data: bytes) -> None:
-        new = self._path / f"{_STATE}.new"
-        new.write_bytes(data)
-        os.chmod(new, 0o644)
-        sync(new)
-        os.rename(new, self._path / _STATE)
-        sync(self._path)
+        self.root.replace((STATE,), data, 0o600)

@@ -11,12 +11,17 @@ from pathlib import Path
 
 from openlink_update.fetch import downloads, sources
 from openlink_update.fetch.downloads import Download
-from openlink_update.fetch.fetch_folder import FetchFolder
+from openlink_update.fetch.fetch_folder import STATE, FetchFolder
 from openlink_update.fetch.fetch_state import State
 from openlink_update.fetch.sources import Source
 from openlink_update.input_files import InputFolder
 from openlink_update.outcome import ALL_NEW, DEVICE, KEPT, USAGE, Failure, Interrupted, Unreadable, raise_signals
-from openlink_update.root_folder import Unusable
+from openlink_update.places import COMMANDS
+from openlink_update.rights import sandbox
+from openlink_update.rights.lent_files import Lent
+from openlink_update.rights.limits import Limits
+from openlink_update.rights.sandbox import Job, Parent, Sandbox, input_by
+from openlink_update.root_folder import RootFolder, Unusable
 from openlink_update.shown_text import amount, prepare_streams, report
 
 _INPUT = "/etc/openlink/input"
@@ -57,12 +62,40 @@ def main(words: list[str] | None = None) -> int:
 
 
 def fetch(
-    folder: str | Path, report: Callable[[str], None], seconds: float, pause: float, files: Sequence[str] = ()
+    path: str | Path,
+    report: Callable[[str], None],
+    seconds: float,
+    pause: float,
+    files: Sequence[str] = (),
+    user: Sandbox | None = None,
 ) -> int:
-    """Fetches the files of a folder's list. Returns the exit status; a Failure or OSError ends it early."""
+    """Fetches the files of a folder's list, as the user of a library. Returns the exit status; a Failure or OSError
+    ends it early."""
     if shutil.which("curl") is None:
         raise Failure("no curl on this machine", DEVICE)
-    return _Fetch(InputFolder(os.path.abspath(folder)), report, seconds, pause).fetch(files)
+    folder = InputFolder(os.path.abspath(path))
+    listed = sources.read(folder)[0]
+    unknown = [file for file in files if file not in [source.file for source in listed]]
+    if unknown:
+        raise Failure(f"{folder.place(sources.LIST)} has no {', '.join(unknown)}", USAGE)
+    own, box = FetchFolder(folder), user or _sandbox_of(folder)
+    with own.locked():
+        box.own(own.bodies)
+
+        def work(parent: Parent) -> str:
+            own.root = parent.lent(own.root)
+            return str(_Fetch(input_by(parent, folder), own, report, seconds, pause).fetch(files))
+
+        replaced = frozenset(tuple(source.file.split("/")) for source in listed)
+        lent = (Lent(RootFolder(folder.path), replaced=replaced), Lent(own.root, replaced=frozenset({(STATE,)})))
+        status = box.run(Job(work, (own.bodies,), lent))
+    return next((number for number in (ALL_NEW, KEPT) if status == str(number)), DEVICE)
+
+
+def _sandbox_of(folder: InputFolder) -> Sandbox:
+    """That of the user who fetches into a folder."""
+    library = folder.path.parent
+    return sandbox.of(library, library, Limits(), [library, COMMANDS])
 
 
 def _rows_in(text: str) -> int:
@@ -93,8 +126,10 @@ def table_in(data: bytes, source: Source) -> bytes:
 class _Fetch:
     """One run, in the folder of the list. `report` prints a line."""
 
-    def __init__(self, folder: InputFolder, report: Callable[[str], None], seconds: float, pause: float) -> None:
-        self._folder, self._report, self._seconds, self._pause = folder, report, seconds, pause
+    def __init__(
+        self, folder: InputFolder, own: FetchFolder, report: Callable[[str], None], seconds: float, pause: float
+    ) -> None:
+        self._folder, self._own, self._report, self._seconds, self._pause = folder, own, report, seconds, pause
         self._faults: list[tuple[str | None, str]] = []  # pairs of a file and a line
         self._changes: list[tuple[str | None, str]] = []
         self._has_failed = False  # whether a file could not be written
@@ -103,14 +138,9 @@ class _Fetch:
         """Fetches the files that are due, or those that are named. Returns the exit status."""
         listed, wrong = sources.read(self._folder)
         self._faults = [(None, line) for line in wrong]
-        unknown = [file for file in files if file not in [source.file for source in listed]]
-        if unknown:
-            raise Failure(f"{self._folder.place(sources.LIST)} has no {', '.join(unknown)}", USAGE)
-        self._own = FetchFolder(self._folder)
-        with self._own.locked():
-            self._state = State(self._folder, self._own, self._time_of_secrets(), datetime.date.today())
-            chosen = [source for source in listed if source.file in files or not files and self._state.is_due(source)]
-            self._run(chosen)
+        self._state = State(self._folder, self._own, self._time_of_secrets(), datetime.date.today())
+        chosen = [source for source in listed if source.file in files or not files and self._state.is_due(source)]
+        self._run(chosen)
         self._say(listed, len(chosen))
         return DEVICE if self._has_failed else KEPT if self._faults else ALL_NEW
 

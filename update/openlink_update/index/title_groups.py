@@ -4,6 +4,7 @@ import dataclasses
 import functools
 from collections.abc import Iterable
 
+from openlink_update.index.title_addresses import NO_OFFER, Offer
 from openlink_update.index.title_rows import ONLINE, PRINT, Row, rows_of
 from openlink_update.index.titles import article_and_key
 from openlink_update.tables.identifiers import standard
@@ -13,18 +14,31 @@ from openlink_update.tables.table import Table
 _MOST_NUMBERS = 40
 _MOST_ROWS = 200
 _MOST_RELATED = 5  # earlier titles, and later ones
+_MOST_ADDRESSES = 20  # one of each target
 _parts_of = functools.lru_cache(maxsize=1024)(article_and_key)  # the next row often has the same title
 
 
 class Title:
-    """Its forms of numbers and its coverage are texts, since lists of a quarter of a million titles are large."""
+    """Its forms of numbers, its coverage and its addresses are texts, since lists of a quarter of a million titles are
+    large."""
 
-    __slots__ = ("name", "article", "key", "is_journal", "columns", "forms", "coverage", "left_out", "into")
+    __slots__ = (
+        "name",
+        "article",
+        "key",
+        "is_journal",
+        "columns",
+        "forms",
+        "coverage",
+        "addresses",
+        "left_out",
+        "into",
+    )
 
     def __init__(self, name: str) -> None:
         self.name = name
         self.article, self.key = _parts_of(name)
-        self.is_journal, self.columns, self.forms, self.coverage = False, 0, "", ""
+        self.is_journal, self.columns, self.forms, self.coverage, self.addresses = False, 0, "", "", ""
         self.left_out: frozenset[str] = frozenset()  # targets with too many rows
         self.into: Title | None = None  # the title that this one was joined to
 
@@ -55,10 +69,19 @@ class Title:
         if len(entries) > _MOST_ROWS:
             self.left_out |= {entry.partition(" ")[0] for entry in entries[_MOST_ROWS:]}
 
+    def add_addresses(self, text: str) -> None:
+        """Adds addresses, each after its target, with tabs between them. Of each target the first one counts."""
+        known = {entry.partition(" ")[0]: entry for entry in filter(None, self.addresses.split("\t"))}
+        for entry in filter(None, text.split("\t")):
+            if len(known) < _MOST_ADDRESSES:
+                known.setdefault(entry.partition(" ")[0], entry)
+        self.addresses = "\t".join(known.values())
+
     def take(self, other: "Title") -> None:
         """Joins another title to this one."""
         other.into = self
         self.add(other.forms, other.columns, other.is_journal, other.coverage)
+        self.add_addresses(other.addresses)
         self.left_out |= other.left_out
 
     def coverage_text(self) -> str:
@@ -112,13 +135,15 @@ class Titles:
         self._ids: dict[str, Title] = {}
         self._later: list[tuple[str, Title]] = []
 
-    def add_table(self, target: str, table: Table) -> None:
+    def add_table(self, target: str, table: Table, offer: Offer = NO_OFFER) -> None:
         """Adds the table of a target, or the next part of it."""
         if base_of(target) != self._target:
             self._follow(base_of(target))
-        for row in rows_of(target, table):
+        for row in rows_of(target, table, offer):
             title = self._title_of(row)
             title.add(" ".join(row.numbers), row.columns, row.is_journal, row.coverage)
+            if row.address:
+                title.add_addresses(row.address)
             if row.title_id:
                 self._ids.setdefault(row.title_id, title)
             if row.preceding_id:

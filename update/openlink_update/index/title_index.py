@@ -3,29 +3,32 @@ of the files. Run as a program it makes the index of the tables that a registry 
 
 A line of keys/ has these cells, the last ones only if KEY is a number:
 
-    KEY  KIND  TITLE  NUMBERS  COVERAGE  RELATED  RELATED..
+    KEY  KIND  TITLE  NUMBERS  COVERAGE  ADDRESS..  RELATED..
 
 KEY is a number: an ISSN with hyphen and capital X, or an ISBN of thirteen digits; the first three digits of its MD5 sum
 name the file. Or it denotes the key of a title (`=`), or one that is like it (`~`): the key of the title without its
 subtitle, and of this with its umlauts as two letters. Then the MD5 sum is that of the sign and the key: its first three
-digits name the file, and KEY is the sign and the next thirteen. RELATED is `<` or `>`, a number, a space and a title:
-an earlier (`<`) or later title by preceding_publication_title_id, at most five of each. A key has at most _MOST_LINES,
-and after the first one at most _MOST_BYTES of them.
+digits name the file, and KEY is the sign and the next thirteen. ADDRESS is `@`, a target, a space and the address of
+its page of the title, at most twenty (title_addresses.py says which targets have some). RELATED is `<` or `>`, a
+number, a space and a title: an earlier (`<`) or later title by preceding_publication_title_id, at most five of each. A
+key has at most _MOST_LINES, and after the first one at most _MOST_BYTES of them.
 """
 import collections
 import os
 import sys
-from collections.abc import Iterable, Iterator
+from collections.abc import Iterable, Iterator, Mapping
 from pathlib import Path
 
 from openlink_update.index import title_list, word_sets
 from openlink_update.index.index_files import digest, write_lines
+from openlink_update.index.title_addresses import NO_OFFER, Offer
 from openlink_update.index.title_groups import Related, Title, Titles
 from openlink_update.index.titles import short_key, written_key, written_out
+from openlink_update.tables.parts import base_of
 from openlink_update.tables.registry import entries_of
 from openlink_update.tables.table import Table
 
-_FORMAT = 4  # another number makes a new version, although its tables are the same
+_FORMAT = 5  # another number makes a new version, although its tables are the same
 _DIGITS, _KEY_DIGITS = 3, 16  # of an MD5 sum: in the names of keys/, and before the end of the key of a title
 _MOST_LINES = 50  # of a key
 _MOST_BYTES = 1 << 14  # of its lines after the first
@@ -37,12 +40,17 @@ def begin(folder: str | os.PathLike[str], has_list: bool) -> None:
     Path(folder, "format").write_text(f"{_FORMAT} {'list' if has_list else 'no list'}\n", encoding="ascii")
 
 
-def make(folder: str | os.PathLike[str], has_list: bool, tables: Iterable[tuple[str, Table]]) -> list[Title]:
-    """Makes the index of tables, pairs of a target's name and its table without walls, in its folder. Returns the
-    titles."""
+def make(
+    folder: str | os.PathLike[str],
+    has_list: bool,
+    tables: Iterable[tuple[str, Table]],
+    offers: Mapping[str, Offer] | None = None,
+) -> list[Title]:
+    """Makes the index of tables, pairs of a target's name and its table without walls, in its folder. `offers` says by
+    target which addresses it has. Returns the titles."""
     titles = Titles()
     for target, table in tables:
-        titles.add_table(target, table)
+        titles.add_table(target, table, (offers or {}).get(base_of(target), NO_OFFER))
     found = titles.finish()
     del titles
     _write_keys(Path(folder, "keys"), found.titles, found.related)
@@ -77,7 +85,7 @@ def _lines_of(title: Title, related: Related | None) -> Iterator[tuple[str, str]
     for name in [f"={title.key}"] * (title.key != "") + [f"~{key}" for key in _similar_keys(title)]:
         digits = digest(name)
         yield digits[:_DIGITS], f"{name[0]}{digits[_DIGITS:_KEY_DIGITS]}\t{cells}"
-    cells += f"\t{title.coverage_text()}{_text_of(related) if related else ''}"
+    cells += f"\t{title.coverage_text()}{_addresses_of(title)}{_text_of(related) if related else ''}"
     for number in title.numbers():
         yield digest(number)[:_DIGITS], f"{number}\t{cells}"
 
@@ -87,6 +95,10 @@ def _similar_keys(title: Title) -> list[str]:
     written = written_key(title.name)
     keys = [short_key(title.name), written and (short_key(written_out(title.name)) or written)]
     return [key for key in dict.fromkeys(keys) if key not in ("", title.key)]
+
+
+def _addresses_of(title: Title) -> str:
+    return "".join(f"\t@{entry}" for entry in title.addresses.split("\t") if entry)
 
 
 def _text_of(related: Related) -> str:

@@ -1,13 +1,16 @@
 """The rows of a holdings table that have a title and a number, as the index has them. An entry of the coverage is, with
 spaces between: target or part, the row as the report counts it (`link R`), first date, last date, embargo. A date is
 YYYY, YYYY-MM or YYYY-MM-DD, an embargo one or two parts such as P1Y, with a comma between them. `-` is a missing part;
-at the end of an entry, missing parts are left out."""
+at the end of an entry, missing parts are left out. An address is that of the title's page, as title_addresses.py has
+it, after the target and a space."""
 import dataclasses
 from collections.abc import Iterator
 
+from openlink_update.index.title_addresses import NO_OFFER, Offer
 from openlink_update.index.titles import MOST_CHARACTERS, plain
 from openlink_update.tables.embargo import Embargo
 from openlink_update.tables.identifiers import form_of, is_issn
+from openlink_update.tables.parts import base_of
 from openlink_update.tables.row_dates import NONE, date_in
 from openlink_update.tables.table import Table, cell
 
@@ -22,6 +25,7 @@ _COLUMNS = (
     "publication_type",
     "title_id",
     "preceding_publication_title_id",
+    "title_url",
 )
 
 
@@ -34,19 +38,20 @@ class Row:
     coverage: str  # an entry of the index
     title_id: str
     preceding_id: str
+    address: str  # that of the title's page, after the target; '' if the index has none
 
 
-def rows_of(target: str, table: Table) -> Iterator[Row]:
+def rows_of(target: str, table: Table, offer: Offer = NO_OFFER) -> Iterator[Row]:
     """Yields the rows of a target's table that belong in the index."""
     places = table.places(_COLUMNS)
     for number, cells in enumerate(table.rows):
-        row = _row_of(target, number, [cell(cells, place) for place in places])
+        row = _row_of(target, number, [cell(cells, place) for place in places], offer)
         if row is not None:
             yield row
 
 
-def _row_of(target: str, number: int, cells: list[str]) -> Row | None:
-    title, printed, online, first, last, embargo, kind, title_id, preceding_id = cells
+def _row_of(target: str, number: int, cells: list[str], offer: Offer) -> Row | None:
+    title, printed, online, first, last, embargo, kind, title_id, preceding_id, page = cells
     forms: list[str] = []
     columns = 0
     for form, column in ((form_of(printed), PRINT), (form_of(online), ONLINE)):
@@ -59,7 +64,10 @@ def _row_of(target: str, number: int, cells: list[str]) -> Row | None:
     coverage = f"{target} {number} {date_in(first)} {date_in(last)} {_embargo_in(embargo)}"
     while coverage.endswith(f" {NONE}"):
         coverage = coverage[:-2]
-    return Row(title, forms, columns, _is_journal(kind, forms), coverage, title_id, preceding_id)
+    is_journal = _is_journal(kind, forms)
+    address = offer.address("j" if is_journal else "b", page) if offer.kinds else ""
+    named = f"{base_of(target)} {address}" if address else ""
+    return Row(title, forms, columns, is_journal, coverage, title_id, preceding_id, named)
 
 
 def _is_journal(kind: str, forms: list[str]) -> bool:

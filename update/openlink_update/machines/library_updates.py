@@ -52,6 +52,7 @@ class Updates:
         """Those by which the updates share what they prepare; none if there is no room for it."""
         try:
             folder = stack.enter_context(tempfile.TemporaryDirectory(prefix="openlink."))
+            os.chmod(folder, 0o711)  # a user prepares tables in a folder below it
             shared_tables.mark(folder, self._libraries.path(SHARED), self._libraries.versions())
             return ["--prepared", folder]
         except OSError as fault:

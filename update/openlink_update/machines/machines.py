@@ -26,7 +26,7 @@ import shlex
 import shutil
 import subprocess
 import time
-from collections.abc import Callable, Sequence
+from collections.abc import Callable, Iterator, Sequence
 from pathlib import Path
 from typing import IO
 
@@ -34,8 +34,12 @@ from openlink_update import children
 from openlink_update.disk import sync
 from openlink_update.fetch.sources import SECRETS
 from openlink_update.input_files import InputFolder
+from openlink_update.library_sandbox import sandbox_of
 from openlink_update.machines.libraries import SHARED, SITE, Libraries
 from openlink_update.outcome import ALL_NEW, KEPT, Failure, reset_signals
+from openlink_update.rights.lent_files import Lent
+from openlink_update.rights.sandbox import Job, Parent, input_by
+from openlink_update.root_folder import RootFolder
 from openlink_update.shown_text import line_of, report
 from openlink_update.site.front_door import FrontDoor, Site
 from openlink_update.site.names_file import NamesFile
@@ -129,18 +133,31 @@ class _Sendable:
         path, head = self.library.path(PROBES), f"{_OF}{self.stamp}\n"
         if text_in(path).startswith(head):
             return
-        current = self.library.path("current")
-        names_file = NamesFile(self.site, current)
-        probes = Probes(InputFolder(self.input), PROBES)
+        folder, found = self.library.path("sending"), InputFolder(self.input)
+        shutil.rmtree(folder, ignore_errors=True)
+        folder.mkdir()
+        box = sandbox_of(options, self.library, self.site, self.input)
+        box.own(folder)
+
+        def work(parent: Parent) -> str:
+            lines = self._probes_that_hold(input_by(parent, found), folder / "door")
+            (folder / PROBES).write_text(head + "".join(lines), encoding="utf-8")
+            return ""
+
+        box.run(Job(work, (folder,), tuple(Lent(root, frozenset({SECRETS})) for root in found.folders())))
+        with RootFolder(folder).open((PROBES,)) as file:
+            write(path, file.read().decode("utf-8", "replace"))
+        shutil.rmtree(folder)
+
+    def _probes_that_hold(self, found: InputFolder, folder: Path) -> Iterator[str]:
+        """Yields the lines of the probes of an input that hold in the version in use."""
+        current, probes = self.library.path("current"), Probes(found, PROBES)
         if probes.list:
-            folder = self.library.path("sending")
-            shutil.rmtree(folder, ignore_errors=True)
             with FrontDoor(self.site, folder) as door:
-                running = door.add_door(self.site.ports, current, names_file.path_in(current))
+                running = door.add_door(self.site.ports, current, NamesFile(self.site, current).path_in(current))
                 door.start()
                 probes.keep_those_that_hold(probes.links(running))
-        lines = (f"{probe.query}\t{' '.join(probe.targets) or 'none'}\n" for probe in probes.list)
-        write(path, head + "".join(lines))
+        return (f"{probe.query}\t{' '.join(probe.targets) or 'none'}\n" for probe in probes.list)
 
 
 def _sendable(options: Options) -> list[_Sendable]:

@@ -8,9 +8,8 @@ from openlink_update.input_files import InputFolder
 from openlink_update.machines.machines import PROBES, text_in
 from openlink_update.outcome import ALL_NEW, Failure, ignore_signals
 from openlink_update.shown_text import report
-from openlink_update.site.probing import Probes
 from openlink_update.versions import same_files
-from openlink_update.weekly_run import Run
+from openlink_update.weekly_run import Attempt, Run
 
 
 class Receiver(Run):
@@ -27,13 +26,13 @@ class Receiver(Run):
             return ALL_NEW
         path = self._place_of(stamp)
         name = sent.name if "\t" in text_in(sent) else "no probes"
-        probes = Probes(InputFolder(sent.parent), name)
-        with self.front_door(probes) as door:
-            trials = self.try_version(probes, door, path, old, tries_all=True)
+
+        def complete() -> None:
             if path != library.version(stamp):
                 library.complete(stamp)
             self.put_in_use(stamp, old)
-            self.try_again(probes, trials)
+
+        self.try_and_use(Attempt(InputFolder(sent.parent), name, path, old, True, False, complete))
         ignore_signals()
         library.settle()
         if sent.exists():

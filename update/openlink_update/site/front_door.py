@@ -15,6 +15,9 @@ from openlink_update.outcome import DEVICE, Failure
 
 _SECONDS = 30  # until nginx listens
 _TARGETS = r"js_preload_object\s+targets(?:__\w+)?\s"  # each door has its own
+# The most that a library may have on the disk, as 500m, 20g or 1t.
+_DISK = re.compile(r"^\s*(?:js_var|set)\s+\$openlink_disk\s+[\"']?(\d{1,9})([mgt])b?[\"']?\s*;", re.M | re.I)
+_UNITS = {"m": 2**20, "g": 2**30, "t": 2**40}
 _CONFIGURATION = """load_module {module};
 pid {folder}/nginx.pid;
 daemon off;
@@ -58,6 +61,11 @@ def _text_with_includes(path: str | Path) -> str:
     return text
 
 
+def _bytes_of(match: "re.Match[str] | None") -> int | None:
+    """The bytes that a line about the disk allows, or None if there is no line."""
+    return int(match[1]) * _UNITS[match[2].lower()] if match else None
+
+
 class Site:
     """What the site of the front door (openlink.conf) and the files that it includes say: the module, its texts and its
     languages, how nginx asks the processes, targets.json, the ports of the processes, the base URL, and whether there
@@ -75,9 +83,15 @@ class Site:
         words = re.findall(r"^\s*js_preload_object\s+words_(\w+)\s", every, re.M)
         self.languages = [word.partition("__")[0].replace("_", "-") for word in words]
         self.has_list = not re.search(r"^\s*(?:js_var|set)\s+\$openlink_list\s+off\s*;", text, re.M)
+        self.most_disk = _bytes_of(_DISK.search(text) or _DISK.search(every))
         name = re.search(r"^\s*server_name\s+([^\s;]+)", text, re.M)
         has_tls = re.search(r"^\s*listen\s[^;#]*\bssl\b", text, re.M)
         self.base = f"{'https' if has_tls else 'http'}://{name[1] if name else 'localhost'}"
+
+    def files(self) -> list[Path]:
+        """The files and folders that nginx reads for a door."""
+        names = [match for line in self.module_lines for match in re.findall(r"[\s\"'](/[^\s\"';]+)", line)]
+        return [Path(name) for name in (*names, *filter(None, [self.processes])) if os.path.exists(name)]
 
     def targets_path(self) -> str:
         """The targets.json that readers see; '' if the site names none."""
@@ -145,7 +159,7 @@ class FrontDoor:
         return f"http://127.0.0.1:{port}"
 
     def start(self) -> None:
-        os.mkdir(self._folder)
+        self._folder.mkdir(0o755, exist_ok=True)  # root makes it for a user who may make none beside it
         os.chmod(self._folder, 0o755)
         path, log = self._folder / "nginx.conf", self._folder / "start.log"
         doors = "".join(_DOOR.format(**vars(door)) for door in self._doors)

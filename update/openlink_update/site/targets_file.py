@@ -89,13 +89,21 @@ def _values(value: object) -> Iterator[str]:
         value, place, depth = stack.pop()
         if isinstance(value, _Constant):
             yield f"{place}{value} is no value of JSON"
+        elif isinstance(value, str) and not _is_whole(value):
+            yield f"{place}half of a character"
         elif isinstance(value, (dict, list)) and depth > _MOST_DEPTH:
             yield f"{place[:_MOST_CHARACTERS]}..: more than {_MOST_DEPTH} objects and lists in each other"
         elif isinstance(value, _Members):
             yield from (f"{place}{_quoted(name)} occurs more than once" for name in value.repeated)
+            yield from (f"{place}{_quoted(name)}: half of a character" for name in value if not _is_whole(name))
             stack += [(member, f"{place}{_quoted(name)}: ", depth + 1) for name, member in reversed(value.items())]
         elif isinstance(value, list):
             stack += [(member, f"{place}{number}: ", depth + 1) for number, member in reversed([*enumerate(value, 1)])]
+
+
+def _is_whole(text: str) -> bool:
+    """Whether a text has no escape of half a character, which cannot be written and which njs reads as another."""
+    return not any("\ud800" <= character <= "\udfff" for character in text)
 
 
 def _quoted(name: str) -> str:

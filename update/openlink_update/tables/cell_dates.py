@@ -22,9 +22,9 @@ def standard(text: str) -> str:
     """A date as the standard writes it; the text itself if it has no year, or two."""
     if _STANDARD.fullmatch(text) and _is_date(text):
         return text
-    text = _TIME.sub("", text)
-    years: set[str] = set(_YEAR.findall(text))
-    readings = {it for it in _readings_of(text) if it}
+    day = _TIME.sub("", text)
+    years: set[str] = set(_YEAR.findall(day))
+    readings = {it for it in _readings_of(day) if it}
     if len(readings) == 1:
         return readings.pop()
     years |= {reading[:4] for reading in readings}

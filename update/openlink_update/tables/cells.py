@@ -36,16 +36,16 @@ def _change_cells(header: list[str], rows: _Rows, names: tuple[str, ...], change
 
 
 def _without_quotes(header: list[str], rows: _Rows) -> tuple[_Rows, list[str]]:
-    """Without the quotes that a spreadsheet puts around a whole cell."""
+    """Without the quotes that a spreadsheet puts around a whole cell, however often it was saved."""
     count = 0
     for row in rows:
         if '"' not in "".join(row):
             continue
         for place, cell in enumerate(row):
-            match = _QUOTED.fullmatch(cell.strip()) if '"' in cell else None
-            if match:
-                row[place] = match[1].replace('""', '"')
-                count += 1
+            while '"' in cell and (match := _QUOTED.fullmatch(cell.strip())):
+                cell = match[1].replace('""', '"')
+            count += cell != row[place]
+            row[place] = cell
     return rows, lines_of_counts(Count("quotes around a cell removed", count, "cell"))
 
 

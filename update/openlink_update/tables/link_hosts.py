@@ -14,6 +14,8 @@ _EXPRESSION = re.compile(r"\{[+#./;?&]?([^}]*)\}")
 # A browser skips more slashes than two, and reads \ as a slash.
 _ADDRESS = re.compile(r"https?://[/\\]*([^/\\?#]*)", re.I)
 _HOST = re.compile(r"[/\\]*([^/\\?#]*)")
+# What a template has before the address of a title's page, as links through a proxy do.
+_BEFORE = re.compile(r"(https?://[^{}]*?=)(?:(\{title_url\}|https?%3A)|\{\+title_url\}|https?://)", re.I)
 _TITLE = "publication_title"
 
 
@@ -47,6 +49,12 @@ class Templates:
 
 
 OF_CODE = Templates(None, frozenset(), frozenset())
+
+
+def texts_before_addresses(rules: bytes) -> set[tuple[str, bool]]:
+    """The texts that rules have before the address of a title's page, each with whether this is encoded there."""
+    matches = map(_BEFORE.match, _LINK.findall(rules.decode("utf-8", "replace")))
+    return {(match[1], match[2] is not None) for match in matches if match}
 
 
 @dataclasses.dataclass(frozen=True)

@@ -4,18 +4,23 @@ that nearly all rows have. A table that somebody else controls is seen by them i
     hosts.tsv    a target, a host that is allowed for its links, and the day on which it was first; '' is no host, and
                  says that the target was judged
 
-The hosts of the table in use are allowed, and so are those that the rules have as text."""
+The hosts of the table in use are allowed, and so are those that the rules have as text. The addresses of titles' pages
+are judged too, if readers get them: see undated_links.py."""
+import dataclasses
 import datetime
 from collections.abc import Callable, Collection, Sequence
 from pathlib import Path
 
 from openlink_update import shown_text
+from openlink_update.index.title_addresses import NO_OFFER, Offer, Proxy
 from openlink_update.input_files import cells_in
 from openlink_update.tables import link_hosts
 from openlink_update.tables.link_hosts import Links, Templates
 from openlink_update.tables.table import Table
+from openlink_update.versions.undated_links import UndatedLinks
 
 NAME = "hosts.tsv"
+_PAGE = "title_url"
 _WORD, _ANY = "hosts", "*"
 SAME, _MOST_SAME = "same address", 90  # in 100 rows
 _FEW_ROWS = 3  # that have a host, which another address of the same provider may have, or a slip
@@ -101,8 +106,8 @@ def _line_of(links: Links) -> list[str]:
 class HostJudge:
     """Judges the targets of a version that is made in a folder, by the version before (None: there is none)."""
 
-    def __init__(self, folder: Path, older: Path | None, today: datetime.date) -> None:
-        self._folder, self._today = folder, today.isoformat()
+    def __init__(self, folder: Path, older: Path | None, today: datetime.date, undated: UndatedLinks) -> None:
+        self._folder, self._today, self._undated = folder, today.isoformat(), undated
         self._before: dict[str, _Days] = {}  # by target
         self._now: dict[str, _Days] = {}
         self._lines: dict[str, list[str]] = {}
@@ -130,7 +135,7 @@ class HostJudge:
 
     def keep(self, name: str, tables: Callable[[], Sequence[Table]]) -> None:
         """Keeps what is allowed for a target whose old table is used again."""
-        if name in self._before:
+        if name in self._before and not self._undated.is_new(name):
             self._now[name], self._lines[name] = self._before[name], []
         else:
             links = link_hosts.links_of(tables(), self._templates(name))
@@ -152,11 +157,30 @@ class HostJudge:
             for host, day in sorted(self._now.get(target, {}).items())
         )
 
+    def offer(self, name: str) -> Offer:
+        """Which addresses of titles' pages readers get: those on hosts that are allowed."""
+        kinds = self._undated.kinds(name)
+        if not kinds:
+            return NO_OFFER
+        texts = sorted(link_hosts.texts_before_addresses(self._rules(name)))
+        is_known = not texts or len(texts) == 1 and texts[0][0].lower().startswith("https:")
+        proxy = Proxy(*texts[0]) if texts else Proxy()
+        return Offer(kinds, frozenset(self._now.get(name, {})) - {""}, proxy if is_known else None)
+
+    def _rules(self, name: str) -> bytes:
+        """The rules that the version has for a target."""
+        return (self._folder / f"received/{name}.rules").read_bytes()
+
     def _templates(self, name: str) -> Templates:
         """Those of the rules that the version has for a target."""
-        path = self._folder / f"received/{name}.rules"
-        return Templates.parse(path.read_bytes()) if path.exists() else link_hosts.OF_CODE
+        if not (self._folder / f"received/{name}.rules").exists():
+            return link_hosts.OF_CODE
+        templates = Templates.parse(self._rules(name))
+        if templates.names is None or not self._undated.kinds(name):
+            return templates
+        return dataclasses.replace(templates, names=templates.names | {_PAGE})
 
     def _remember(self, name: str, hosts: Collection[str], links: Links) -> None:
         self._now[name] = {**dict.fromkeys(["", *hosts], self._today), **self._before.get(name, {})}
-        self._lines[name] = [] if name in self._before else _line_of(links)
+        is_known = name in self._before and not self._undated.is_new(name)
+        self._lines[name] = [] if is_known else _line_of(links)

@@ -21,6 +21,7 @@ from openlink_update.tables.table import Table, cell
 from openlink_update.versions.program import Program
 from openlink_update.versions.served import names_in, path_of, tables_in
 from openlink_update.versions.target_list import Target
+from openlink_update.versions.undated_links import UndatedLinks
 
 _ANY_OF_LINT, _GONE, _MOST_GONE = "rule", "gone", 10  # in 100
 _CAME, _MOST_CAME, _FEW_CAME = "came", 50, 20  # in 100; as many titles are always allowed
@@ -190,7 +191,8 @@ class Judge:
         # By target: the number for each of its words without one, in the version before and in this one.
         self.before = _allowed_in(older) if older else {}
         self.allowed: dict[str, dict[str, int]] = {}
-        self.hosts = HostJudge(folder, older, today)
+        self.undated = UndatedLinks(folder, older, program, today)
+        self.hosts = HostJudge(folder, older, today, self.undated)
         self._changes: dict[str, tuple[list[_Change], list[_Change]]] = {}  # by target: the rows that came and went
 
     def reasons(self, target: Target, parts: dict[str, Table], has_rules: bool, was_served: bool) -> list[str]:
@@ -261,6 +263,7 @@ class Judge:
     def keep_all(self) -> None:
         """Keeps all that is allowed in the version before."""
         self.allowed = self.before
+        self.undated.keep_all()
         self.hosts.keep_all()
 
     def text(self, targets: Iterable[str]) -> str:

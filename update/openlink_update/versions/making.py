@@ -11,6 +11,7 @@
     earlier.tsv            see earlier_files.py
     allowed.tsv            a target, words of its line that allow warnings, and the number up to which they do
     hosts.tsv              see host_judge.py
+    undated.tsv            see undated_links.py
     index/                 the index of titles, for the front door
     prepared/              only until the index and the exports are made: see prepared_tables.py
 
@@ -23,19 +24,20 @@ import functools
 import os
 import re
 import shutil
-from collections.abc import Callable, Iterator
+from collections.abc import Callable, Iterable, Iterator
 from pathlib import Path
 
-from openlink_update.index import title_index
+from openlink_update.index import named_parts, title_index
 from openlink_update.index.title_groups import Title
 from openlink_update.input_files import InputFile
 from openlink_update.outcome import Failure, Refused
 from openlink_update.received import patterns
+from openlink_update.root_folder import RootFolder
 from openlink_update.shown_text import amount
 from openlink_update.tables import date_order, dropped_rows, row_changes
 from openlink_update.tables.preparation import Prepared
 from openlink_update.tables.table import Table
-from openlink_update.versions import earlier_files, host_judge, shared_tables
+from openlink_update.versions import earlier_files, host_judge, shared_tables, undated_links
 from openlink_update.versions.earlier_files import EarlierFiles
 from openlink_update.versions.judging import Judge
 from openlink_update.versions.prepared_tables import PreparedTables
@@ -44,6 +46,8 @@ from openlink_update.versions.served import Tables, targets_in
 from openlink_update.versions.target_list import Target
 
 _FEWER = "less than half of the rows"
+_RECEIVED = "received"
+_PART = 2**20  # bytes that are compared at a time
 _OF_THE_OWNER = 0o600  # nginx needs no table as it came: what a library has received is its own
 
 
@@ -96,20 +100,33 @@ def _files_of(target: Target) -> _Files:
 
 def _received_names(version: Path, name: str) -> list[str]:
     """The names of the files of a target's table in `received` of a version, in their order."""
+    return _tables_among(os.listdir(version / "received"), name)
+
+
+def _tables_among(files: Iterable[str], name: str) -> list[str]:
     pattern = re.compile(rf"{re.escape(name)}\.txt(\.\d+)?")
-    return sorted(filter(pattern.fullmatch, os.listdir(version / "received")), key=lambda file: (len(file), file))
+    return sorted(filter(pattern.fullmatch, files), key=lambda file: (len(file), file))
 
 
-def files_in(version: Path, name: str) -> _Files | None:
-    """The files of a target in a version, or None if it has none."""
-    received = version / "received"
+def received_in(version: Path) -> RootFolder:
+    """The folder of a version's files as they came."""
+    return RootFolder(version / _RECEIVED)
+
+
+def files_in(received: RootFolder, name: str) -> _Files | None:
+    """The files of a target among those that a version has received, or None if it has none."""
+    names = received.names()
+    tables = _tables_among(names, name)
     for suffix, has_code in ((".rules", False), (".olk", True)):
-        rules = received / f"{name}{suffix}"
-        tables = [received / file for file in _received_names(version, name)]
-        if rules.is_file() and tables:
-            data = tuple(path.read_bytes() for path in tables)
-            return _Files(rules.read_bytes(), data, has_code, tuple(map(str, tables)))
+        if f"{name}{suffix}" in names and tables:
+            rules, *data = [_content(received, file) for file in (f"{name}{suffix}", *tables)]
+            return _Files(rules, tuple(data), has_code, tuple(str(received.place((file,))) for file in tables))
     return None
+
+
+def _content(received: RootFolder, name: str) -> bytes:
+    with received.open((name,)) as file:
+        return file.read()
 
 
 class Maker:
@@ -122,7 +139,10 @@ class Maker:
         program: Program,
         today: datetime.date,
         report: Callable[[str], object],
+        received: RootFolder | None = None,
     ) -> None:
+        """`received` opens the files that the older version has received, if this process may not."""
+        self._received = received or (received_in(Path(older)) if older is not None else None)
         self._folder, self._older = Path(folder), None if older is None else Path(older)
         self._program, self._today, self._report = program, today, report
         self.names: list[str] = []
@@ -163,12 +183,16 @@ class Maker:
         self._write("registry.tsv", self._tables.registry(self.names))
         self._write("allowed.tsv", self._judge.text(self.names).encode())
         self._write(host_judge.NAME, self._judge.hosts.text(self.names).encode())
+        self._write(undated_links.NAME, self._judge.undated.text(self.names).encode())
         self._write(earlier_files.NAME, self._earlier.text(self.names, self._today).encode())
-        title_index.begin(self._folder / "index", has_list)
+        index = self._folder / "index"
+        title_index.begin(index, has_list)
+        named_parts.write(index, ((name, (self._folder / f"code/{name}.olk").read_bytes()) for name in self.names))
 
     def make_index(self, has_list: bool) -> None:
         """Makes the index, which takes longest."""
-        self.titles = title_index.make(self._folder / "index", has_list, self.prepared_parts())
+        offers = {name: self._judge.hosts.offer(name) for name in self.names}
+        self.titles = title_index.make(self._folder / "index", has_list, self.prepared_parts(), offers)
 
     def remove_prepared(self) -> None:
         """Removes what only the index and the exports need."""
@@ -186,7 +210,7 @@ class Maker:
         return targets_in(self._older) if self._older else []
 
     def _files_before(self, name: str) -> _Files | None:
-        return files_in(self._older, name) if self._older else None
+        return files_in(self._received, name) if self._received else None
 
     def _add(self, target: Target) -> None:
         """Adds a target with its new files, or its old ones, or leaves it out."""
@@ -204,12 +228,15 @@ class Maker:
         elif old is not None:
             self.names.append(target.name)
             self._put_again(target, old)
+            self._judge.undated.find(target.name, old.prepared.table, not old.has_code)
             parts = self._tables.parts_of(target.name)
             self._judge.keep(target, parts, not old.has_code, is_used=not reasons)
         else:
             self._discard(target.name)
             return
-        for line in self._judge.hosts.lines(target.name):
+        is_changed = new is not None and not reasons and new != old
+        lines = self._judge.undated.lines(target.name, is_changed)
+        for line in [*self._judge.hosts.lines(target.name), *lines]:
             self._report(f"{target.name}: {line}")
 
     def _put_again(self, target: Target, old: _Files) -> None:
@@ -272,6 +299,7 @@ class Maker:
         reasons = self._put(target, new)
         if self._tables.parts_of(target.name):
             parts = dict(self._tables.divided(target.name, prepared.table))
+            self._judge.undated.find(target.name, prepared.table, not new.has_code and not reasons)
             reasons += self._judge.reasons(target, parts, not new.has_code and not reasons, old is not None)
         lines = (
             *dropped_rows.reasons_against(prepared.dropped, prepared.count, target.allowed),
@@ -309,15 +337,29 @@ class Maker:
             self._report(f"  {reason}")
 
 
-def is_same(one: str | Path, other: str | Path) -> bool:
-    """Whether two versions serve the same. The first may have no index yet, but its format."""
-    versions, folders = (Path(one), Path(other)), ("code", "tables", "received")
+def is_same(one: str | Path, other: str | Path, received: RootFolder | None = None) -> bool:
+    """Whether two versions serve the same. The first may have no index yet, but its format. `received` opens the files
+    that the other has received, if this process may not."""
+    versions, folders = (Path(one), Path(other)), ("code", "tables", _RECEIVED)
     names = [
         [f"{folder}/{name}" for folder in folders for name in sorted(os.listdir(version / folder))]
         for version in versions
     ]
-    files = ["registry.tsv", "allowed.tsv", host_judge.NAME, "index/format", *names[0]]
+    files = ["registry.tsv", "allowed.tsv", host_judge.NAME, undated_links.NAME, "index/format", *names[0]]
+    opened = received or received_in(versions[1])
     return names[0] == names[1] and all(
-        (versions[1] / file).is_file() and filecmp.cmp(versions[0] / file, versions[1] / file, shallow=False)
+        (
+            _has_bytes_of(versions[0] / file, opened, Path(file).name)
+            if file.startswith(f"{_RECEIVED}/")
+            else (versions[1] / file).is_file() and filecmp.cmp(versions[0] / file, versions[1] / file, shallow=False)
+        )
         for file in files
     )
+
+
+def _has_bytes_of(path: Path, received: RootFolder, name: str) -> bool:
+    with open(path, "rb") as one, received.open((name,)) as other:
+        while part := one.read(_PART):
+            if part != other.read(_PART):
+                return False
+        return not other.read(1)

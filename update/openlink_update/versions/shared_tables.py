@@ -2,23 +2,33 @@
 take what it has made. Only the bytes of a table count, so no update can tell the difference, except by the time.
 
 The run for several libraries makes a folder for this, and marks what is shared: the files of the folder `shared`, and
-what more than one library has received as one file. Without such a folder each table is prepared when it is needed."""
+what more than one library has received as one file. Without such a folder each table is prepared when it is needed.
+
+If each library has a user of its own, none of them may write what another takes. Then root is asked for a table, and
+has it prepared by a user of its own for all that is shared, and only if its bytes are marked."""
 import collections
 import contextlib
 import hashlib
 import json
 import os
-from collections.abc import Iterable, Iterator, Sequence
+import shutil
+from collections.abc import Callable, Iterable, Iterator, Sequence
 from pathlib import Path
 from typing import TypedDict
 
 from openlink_update.input_files import InputFolder
+from openlink_update.outcome import Failure, Refused
+from openlink_update.rights import handover
+from openlink_update.rights.sandbox import Job, Sandbox
 from openlink_update.tables import preparation
 from openlink_update.tables.preparation import Prepared
 from openlink_update.tables.table import Table
 
+Files = Sequence[tuple[str, bytes]]  # of a target: a path, and bytes
 _MARKS = "marks"
+_WORK = "work"
 folder: str | Path | None = None  # that of this run
+asked: Callable[[Files], bytes | None] | None = None  # asks root for the stored form of a table
 
 
 class _Stored(TypedDict):
@@ -56,8 +66,11 @@ def _sums_below(folder: InputFolder) -> Iterator[str]:
                 yield _sum_of(folder.read(os.path.join(below, name)))
 
 
-def prepare(files: Sequence[tuple[str, bytes]]) -> Prepared:
+def prepare(files: Files) -> Prepared:
     """Prepares the files of a target, pairs of a path and bytes, as preparation does."""
+    if asked is not None:
+        data = asked(files)
+        return preparation.prepare(files) if data is None else _of_stored(json.loads(data))
     path = _path_of(files)
     if path is None:
         return preparation.prepare(files)
@@ -66,14 +79,46 @@ def prepare(files: Sequence[tuple[str, bytes]]) -> Prepared:
     except FileNotFoundError:
         pass
     prepared = preparation.prepare(files)
-    try:
+    with contextlib.suppress(OSError):  # no room: the next update prepares it again
         new = path.with_suffix(".new")
-        with new.open("w", encoding="utf-8") as file:
-            json.dump(_stored(prepared), file)
+        _write(new, prepared)
         new.replace(path)
-    except OSError:
-        pass  # no room: the next update prepares it again
     return prepared
+
+
+def _write(path: Path, prepared: Prepared) -> None:
+    with path.open("w", encoding="utf-8") as file:
+        json.dump(_stored(prepared), file)
+
+
+def for_library(files: Files, user: Sandbox) -> int | None:
+    """For root: a descriptor of the stored form of a table that this user prepares, unless it is there already. None
+    if it is not shared, or cannot be prepared."""
+    path = _path_of(files)
+    if path is None:
+        return None
+    if not path.exists():
+        work = path.with_name(_WORK)
+        shutil.rmtree(work, ignore_errors=True)
+        work.mkdir()
+        user.own(work)
+        try:
+            new = work / path.name
+            user.run(Job(lambda _: _written(new, files), (work,), has_network=False))
+            if user.number is not None:
+                handover.take(work, user.number)
+            new.replace(path)
+        except (Failure, OSError):
+            return None  # the library prepares it itself, and says what is wrong
+        finally:
+            shutil.rmtree(work, ignore_errors=True)
+    return os.open(path, os.O_RDONLY | os.O_NOFOLLOW)
+
+
+def _written(path: Path, files: Files) -> str:
+    with contextlib.suppress(Refused):
+        _write(path, preparation.prepare(files))
+    return ""
 
 
 def _stored(prepared: Prepared) -> _Stored:
@@ -93,7 +138,7 @@ def _of_stored(stored: _Stored) -> Prepared:
     return Prepared(table, stored["lines"], stored["dropped"], stored["count"], pairs)
 
 
-def _path_of(files: Sequence[tuple[str, bytes]]) -> Path | None:
+def _path_of(files: Files) -> Path | None:
     """Where the run keeps what is made of these files; None if they are not shared."""
     if folder is None:
         return None

@@ -1,0 +1,67 @@
+"""The limits of what a library's user may take: time, memory, processes, and bytes on the disk. So a library that takes
+too much ends alone, and the next one of the machine has its turn."""
+import dataclasses
+import resource
+from pathlib import Path
+
+from openlink_update.outcome import DEVICE, Failure
+from openlink_update.rights import disk_use
+
+MINUTES = 45  # for each of its steps: the fetch, making a version, and trying it
+MEMORY_MB = 3584  # of a process, below what the units allow all processes
+_MOST_PROCESSES = 256
+_MB = 2**20
+_MOST_ADDED = 20 * 2**30  # bytes that a step may add, if the site has no line for the library
+
+
+class Exceeded(Failure):
+    """A step has ended because it went beyond one of its limits."""
+
+    def __init__(self, text: str) -> None:
+        super().__init__(text, DEVICE)
+
+
+@dataclasses.dataclass(frozen=True)
+class Limits:
+    seconds: float = MINUTES * 60
+    memory: int = MEMORY_MB * _MB
+    disk: int | None = None  # bytes of the library's folders, if its site has a line
+    folders: tuple[Path, ...] = ()  # that these are in
+    line: str = "$openlink_disk"  # where the site says so
+
+    def apply(self) -> None:
+        """Sets those that the system keeps, for this process and its children."""
+        for number, most in (
+            (resource.RLIMIT_AS, self.memory),
+            (resource.RLIMIT_NPROC, _MOST_PROCESSES),
+            (resource.RLIMIT_CORE, 0),
+        ):
+            hard = resource.getrlimit(number)[1]
+            most = most if hard == resource.RLIM_INFINITY else min(most, hard)
+            resource.setrlimit(number, (most, most))
+
+    def out_of_time(self) -> Exceeded:
+        return Exceeded(f"no end within {self.seconds / 60:g} minutes, so it was ended")
+
+    def out_of_memory(self) -> Exceeded:
+        return Exceeded(f"it needs more than {self.memory // _MB:,} MB of memory: --memory allows more")
+
+
+class DiskLimit:
+    """The limit of the disk, while a step writes to some folders."""
+
+    def __init__(self, limits: Limits, written: tuple[Path, ...]) -> None:
+        self._limits, self._written = limits, written
+        begun = disk_use.bytes_in(written)
+        others = max(disk_use.bytes_in(limits.folders) - begun, 0)
+        self._most = begun + _MOST_ADDED if limits.disk is None else limits.disk - others
+
+    def fault(self) -> Exceeded | None:
+        """What is wrong now, or None."""
+        if disk_use.bytes_in(self._written) <= self._most:
+            return None
+        if self._limits.disk is None:
+            text = f"it writes more than {_MOST_ADDED // _MB:,} MB"
+        else:
+            text = f"the library has more than {self._limits.disk // _MB:,} MB on the disk"
+        return Exceeded(f"{text}, so it was ended: {self._limits.line} allows more")
