@@ -41,7 +41,9 @@ function rowsHtml(it, site, isShown) {
 }
 function numberText(number, site) { return filled(site, numbers.isIssn(number) ? 'issn' : 'isbn', number); }
 function titleHtml(it, site, args) {
-    const listed = words.listed(site, it.standard.slice(0, MOST_NUMBERS).map((number) => numberText(number, site)));
+    const listed = words.listed(site, it.standard.slice(0, MOST_NUMBERS).map((number) => {
+        return pages.isolatedText(numberText(number, site), site);
+    }));
     const anchor = pages.anchorOf(titleAddress(it, args, site), pages.isolated(it.title, site));
     return `<li>${anchor}<p>${escape(listed)}</p>${rowsHtml(it, site)}</li>`;
 }

@@ -190,7 +190,7 @@ function headingOf(q, groups, cited, site) {
         const title = cited.title || cited.journal || word(site, 'heading');
         return title.length > MOST_HEADING ? `${title.slice(0, MOST_HEADING - 1)}\u2026` : title;
     }
-    const listed = words.listed(site, names.slice(0, MOST_NAMES));
+    const listed = words.listed(site, names.slice(0, MOST_NAMES).map((name) => pages.isolatedText(name, site)));
     const shown = names.length > MOST_NAMES ? filled(site, 'others', listed) : listed;
     return filled(site, 'fullText', shown) || shown;
 }

@@ -20,6 +20,8 @@ function anchor(url, text) { return anchorOf(url, escape(text)); }
 // A text that may have another direction than the page: a title, or the name of a target.
 const RIGHT_TO_LEFT = /[\u0590-\u08ff\ufb1d-\ufdff\ufe70-\ufefc]/;
 function isolated(text, site) { return site.dir === 'rtl' ? `<bdi>${escape(text)}</bdi>` : escape(text); }
+// The same as text, by characters that no reader sees.
+function isolatedText(text, site) { return site.dir === 'rtl' ? `\u2068${text}\u2069` : text; }
 function headingHtml(text, site) {
     return site.dir !== 'rtl' && is(RIGHT_TO_LEFT, text) ? `<bdi>${escape(text)}</bdi>` : isolated(text, site);
 }
@@ -135,5 +137,5 @@ function faultOf(status, site, doi) {
 }
 
 export default {
-    MOST_ARGS, anchor, anchorOf, isolated, notice, addressOf, documentOf, doiLink, faultHtml, faultOf
+    MOST_ARGS, anchor, anchorOf, isolated, isolatedText, notice, addressOf, documentOf, doiLink, faultHtml, faultOf
 };

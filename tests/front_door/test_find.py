@@ -94,6 +94,19 @@ def problem_link(query: str) -> str:
     )
 
 
+# Requests, and the heading of the page that each gets.
+OF_PAGES = [
+    (ARTICLE, "Full text from Tidal Press, AggregateNet"),
+    ("issn=2943-081X&date=2012", "Full text from Estuary Online"),
+    ("issn=3006-1962&atitle=Notes+on+tar&date=1921", "Notes on tar"),
+    ("jtitle=Soundings&atitle=Depths+of+the+strait&date=1970&volume=5", "Depths of the strait"),
+    ("rft.genre=journal&rft.issn=2901-0012", "Annals of Tidal Studies"),
+    ("au=Smith", "Find this item"),
+    ("atitle=%D7%9B%D7%95%D7%AA%D7%A8+(%D7%90)", "<bdi>כותר (א)</bdi>"),
+    ("atitle=1+%3C+2+%26+3", "1 &lt; 2 &amp; 3"),
+]
+
+
 def order_of(text: str) -> list[str]:
     """The headings, citation, notices and links of a page before its end, in the order of the text."""
     return re.findall(r'<(h1|h2|p class="\w+"|a href="[^"]*")>', text[: text.index("</main>")])
@@ -154,6 +167,25 @@ class Find(SiteCase):
                 f'a href="{problem_link(ARTICLE)}"',
             ],
         )
+
+    def test_heading(self) -> None:
+        """What was found: whose full text, or else what is sought."""
+        for query, heading in OF_PAGES:
+            text = self.site.get(f"/find?{query}").text
+            self.expect(f"the heading of {query}", re.findall("<h1>(.*)</h1>", text), [heading])
+
+    def test_home(self) -> None:
+        """The library's name and its logo lead home, in the language that the reader has chosen."""
+        for path, home in ((f"/find?{ARTICLE}&lang=de", "/find?lang=de"), ("/journals", "/find"), ("/none", "/find")):
+            links = re.findall('<header><p><a href="([^"]*)">([^<]*)</a></p></header>', self.site.get(path).text)
+            name = "Bibliothek der Beispieluniversität" if "lang" in home else "Example University Library"
+            self.expect(f"home from {path}", links, [(home, name)])
+        data = json.loads(self.site.read("openlink/targets.json"))
+        data["words"] = {"logo": "logo.svg"}
+        self.site.write_targets(data)
+        text = self.site.get("/find").text
+        self.expect("a logo alone", '<a href="/find"><img src="/logo.svg" alt="Find by citation"></a>' in text)
+        self.tidy("a logo alone", text)
 
     def test_page_without_full_text(self) -> None:
         tar = "issn=3006-1962&atitle=Notes+on+tar&date=1921"

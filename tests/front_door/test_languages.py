@@ -136,6 +136,11 @@ class Languages(SiteCase):
                 self.expect(f"{header}: {target}", got, (language, [(language, direction)]))
                 self.expect(f"{header}: {target} has {name}", words[name] in html.unescape(reply.text))
                 self.tidy(f"{header}: {target}", reply.text)
+        form = self.reply_in("ar", "/find").text
+        directions = re.findall(r'<input id="(\w+)" [^>]* dir="(\w+)">', form)
+        of_words = [name for name, it in directions if it == "auto"]
+        self.expect("fields of words", of_words, ["title", "atitle", "au"])
+        self.expect("fields from left to right", len([name for name, it in directions if it == "ltr"]), 6)
         data = json.loads(self.reply_in("uk-UA", f"/find.json?{ARTICLE}").text)
         self.expect("JSON in Ukrainian", [it["name"] for it in data["groups"]][:1], ["Full text"])
 
@@ -150,7 +155,11 @@ class Languages(SiteCase):
         self.add_hebrew()
         reply = self.reply_in("he-IL, fr")
         self.tidy("a page from right to left, reader", reply.text)
-        parts = ('<html lang="he" dir="rtl">', "<h1><bdi>חיפוש Tidal Press, AggregateNet</bdi></h1>", "Bd. 12")
+        parts = (
+            '<html lang="he" dir="rtl">',
+            "<h1><bdi>חיפוש \u2068Tidal Press\u2069, \u2068AggregateNet\u2069</bdi></h1>",
+            "Bd. 12",
+        )
         self.expect("Hebrew", [part in reply.text for part in parts], [True] * 3)
         other = self.reply_in("en, fr", "/find")
         self.expect("another default", other.headers["Content-Language"], "de")

@@ -14,6 +14,19 @@ from fixtures.titles_case import shown_in
 
 
 HOSTILE = "</title><script>alert(1)</script>\"'><img src=x onerror=alert(1)>&amp;\r\nTY  - X\u202e\u0000\ufffe\u2028é"
+FIELD = re.compile(r'<input id="(\w+)" name="\w+" maxlength="\d+" value=""([^>]*)>')
+NAMES, PART = 'autocapitalize="words" spellcheck="false"', 'autocapitalize="none" spellcheck="false"'
+OF_FIELDS = {
+    "title": 'autocapitalize="sentences" spellcheck="true"',
+    "atitle": 'autocapitalize="sentences" spellcheck="true"',
+    "au": NAMES,
+    "date": 'inputmode="numeric" spellcheck="false"',
+    "volume": PART,
+    "issue": PART,
+    "spage": PART,
+    "number": 'autocapitalize="characters" spellcheck="false"',
+    "identifier": f'inputmode="url" {PART}',
+}
 
 
 class Lists(TitlesCase):
@@ -41,6 +54,14 @@ class Lists(TitlesCase):
         self.expect("a form with a title", self.targets(sent), "aggregate-net catalogue")
         sent = empty.replace("number=", "number=2943-081X").replace("date=", "date=2012")
         self.expect("a form with a number", self.targets(sent), "estuary-online")
+
+    def test_fields(self) -> None:
+        """How keyboards and spelling checkers treat each field; in a page from right to left, its direction too."""
+        found = {name: rest.strip() for name, rest in FIELD.findall(self.site.get("/find").text)}
+        self.expect("the fields of the form", found, OF_FIELDS)
+        found = {name: rest.strip() for name, rest in FIELD.findall(self.site.get("/journals").text)}
+        wanted = {"q": 'inputmode="search" autocapitalize="none" spellcheck="false"'}
+        self.expect("the field of a search", found, wanted)
 
     def test_form_of_a_request(self) -> None:
         filled = self.site.get(f"/cite?issn=2901-0012&{ARTICLE}&au=O%27Neill&id=doi:10.5555/a%22b")

@@ -87,7 +87,7 @@ class Browser:
         self.wait_for_page()
 
     def show(self, width, scheme, language):
-        """How pages are shown from now on: `light`, `dark`, `forced` (few colours, which the reader chooses), `print`."""
+        """How pages are shown from now on: `light`, `dark`, `forced` (the reader's few colours), `print`."""
         self.call("Emulation.setDeviceMetricsOverride", width=width, height=800, deviceScaleFactor=1, mobile=False)
         features = {"prefers-color-scheme": "dark" if scheme == "dark" else "light",
                     "forced-colors": "active" if scheme == "forced" else "none"}
