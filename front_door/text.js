@@ -33,7 +33,7 @@ function lazy(source, flags) {
 
 // The target that a name of the registry is a part of: NAME.2, NAME.3 and so on are parts of NAME.
 const PART = /^.+(?=\.(?:[2-9]|[1-9]\d\d?)$)/;
-function targetOf(name) { return name.indexOf('.') > 0 && is(PART, name) ? PART.exec(name)[0] : name; }
+function targetOf(name) { return name.lastIndexOf('.') > 0 && is(PART, name) ? PART.exec(name)[0] : name; }
 
 // Text without control characters and noncharacters, which neither HTML nor a header field may hold.
 const CONTROLS = /[\u0000-\u001f\u007f-\u009f\u2028\u2029\ufdd0-\ufdef\ufffe\uffff]/g;

@@ -4,14 +4,20 @@ from __future__ import annotations
 import ast
 import dataclasses
 import fnmatch
+import functools
 import glob
+import importlib.util
 import os
 import re
+import subprocess
 import sys
 
 # Tests in this package of tests/ need neither proofs nor the program; those of this one compile without proofs.
 EARLY, UNPROVED = "sources", "unproved"
 MODULE = "tools/run_tests/module.py"
+# A package whose modules import one of Debian's, which another Python than Debian's may lack.
+WITH_MODULE = {"properties": "hypothesis"}
+_DEBIANS = "/usr/bin/python3"
 
 
 @dataclasses.dataclass
@@ -46,6 +52,16 @@ class Test:
         return 1 if self.group() == "--program" else 2
 
 
+@functools.cache
+def python_of(package: str) -> str:
+    """The Python that runs a package of tests: this one, unless only Debian's has the module that it imports."""
+    module = WITH_MODULE.get(package)
+    if module is None or importlib.util.find_spec(module) or not os.path.exists(_DEBIANS):
+        return sys.executable
+    words = [_DEBIANS, "-c", f"import importlib.util, sys; sys.exit(importlib.util.find_spec({module!r}) is None)"]
+    return sys.executable if subprocess.run(words).returncode else _DEBIANS
+
+
 def modules() -> list[Test]:
     """The modules tests/PACKAGE/../test_NAME.py."""
     found = []
@@ -56,7 +72,8 @@ def modules() -> list[Test]:
             methods = [f"{it.name}.{each.name}" for it in tree.body if isinstance(it, ast.ClassDef)
                        for each in it.body if isinstance(each, ast.FunctionDef) and each.name.startswith("test_")]
             name = path[len("tests/") : -len(".py")].replace("/", ".")
-            found.append(Test(name, "module", [sys.executable, "-B", MODULE], methods=methods))
+            python = python_of(name.split(".")[0])
+            found.append(Test(name, "module", [python, "-B", MODULE], methods=methods))
     return found
 
 
