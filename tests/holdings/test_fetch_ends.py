@@ -38,16 +38,19 @@ class Unexpected(downloads.Download):
 
 
 def curls_of(parent: int) -> set[str]:
-    """The numbers of the curl processes that a process has started and that run."""
-    return {number for number in filter(str.isdigit, os.listdir("/proc")) if is_curl_of(parent, number)}
+    """The numbers of the curl processes that a process has started, or its child, which is another user, and that
+    run."""
+    parents = {number: parent_of(number) for number in filter(str.isdigit, os.listdir("/proc"))}
+    found = {it for it, above in parents.items() if str(parent) in (above, parents.get(above))}
+    return {number for number in found if is_curl(number)}
 
 
-def is_curl_of(parent: int, number: str) -> bool:
+def parent_of(number: str) -> str:
     try:
         with open(f"/proc/{number}/stat", encoding="ascii") as file:
-            return file.read().rpartition(")")[2].split()[1] == str(parent) and is_curl(number)
+            return file.read().rpartition(")")[2].split()[1]
     except OSError:  # it has ended
-        return False
+        return ""
 
 
 def is_curl(number: str) -> bool:

@@ -265,7 +265,8 @@ class Fetches(Machine):
         self.expect("it is due", self.fetch("law.txt")[1][-1], "1 file asked for, 0 new or changed, 0 not fetched")
         self.expect("where it was", (self.east / ".fetch").exists(), False)
         self.expect("where it is", sorted(os.listdir(own)), ["lock", "state.json"])
-        self.expect("for its owner alone", stat.S_IMODE(own.stat().st_mode), 0o700)
+        modes = [stat.S_IMODE(path.stat().st_mode) for path in (own, own / "state.json")]
+        self.expect("nobody else reads what is remembered", modes, [0o711, 0o600])
         self.write(self.east / ".fetch/state.json", "{}")
         self.fetch("law.txt")
         self.expect("once", "law.txt" in (own / "state.json").read_text(), True)

@@ -78,7 +78,8 @@ class FetchedModes(Case):
             self.expect(f"umask {umask}: {printed}", status, 0)
             self.expect(f"umask {umask}: tables", [mode_of(folder.path(name)) for name in names], [0o644] * 3)
             self.expect(f"umask {umask}: folders", modes_below(folder.path("below")), PUBLIC)
-            self.expect(f"umask {umask}: the state", mode_of(f"{folder.folder}.fetch"), 0o700)
+            self.expect(f"umask {umask}: its folder", mode_of(f"{folder.folder}.fetch"), 0o711)
+            self.expect(f"umask {umask}: the state", mode_of(f"{folder.folder}.fetch/state.json"), 0o600)
 
     def test_secrets(self) -> None:
         """Secrets that others may read are not used."""

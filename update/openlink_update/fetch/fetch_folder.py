@@ -34,6 +34,8 @@ class FetchFolder:
                 raise Failure(f"{self._path}: not a folder: remove it", DEVICE) from fault
         else:
             self._take_over()
+        with contextlib.suppress(FileNotFoundError):
+            os.chmod(self._path / STATE, 0o600)  # an earlier release left it to the folder to be closed
         os.chmod(self._path, 0o711)  # the user who fetches finds the bodies
 
     def body(self, number: int) -> Path:

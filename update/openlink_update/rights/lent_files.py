@@ -49,6 +49,7 @@ class Lender:
         if any(part in ("", ".", "..") or "/" in part for part in parts):
             raise ValueError(parts)
         if parts and parts[-1] in lent.closed:
+            os.close(lent.root.entry(parts))  # what is wrong with the path is said first
             raise PermissionError(errno.EACCES, os.strerror(errno.EACCES), str(lent.root.place(parts)))
         match request[0]:
             case kind if kind == _FILE:

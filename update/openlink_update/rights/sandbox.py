@@ -287,9 +287,10 @@ def of(folder: Path, library: Path, limits: Limits, paths: Sequence[Path]) -> Sa
     user = library_user.claim(folder, str(library))
     given = filter(None, [os.environ.get("CURL_CA_BUNDLE"), os.environ.get("SSL_CERT_FILE")])
     needed = [*paths, *map(Path, (sys.executable, os.path.dirname(os.__file__), *given))]
-    fault = (
-        user.fault(filter(Path.exists, needed)) if user else f"no user is free, or {folder / 'lock'} cannot be written"
-    )
+    if user is None:
+        fault = f"no user is free, or {folder / 'lock'} cannot be written"
+    else:
+        fault = user.fault([path for path in needed if path.exists()])
     if fault:
         report(f"files of providers are read with the rights of root: {fault}")
     return Sandbox(None if fault else user, limits)

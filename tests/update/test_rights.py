@@ -1,0 +1,443 @@
+"""What an update of root does as the user of a library: that user, its limits, and what it gets from root."""
+from __future__ import annotations
+
+import contextlib
+import os
+import socket
+import stat
+import subprocess
+import tempfile
+import time
+from collections.abc import Callable, Iterator
+from pathlib import Path
+from unittest import mock
+
+from fixtures import PYTHON
+from fixtures import needs
+from fixtures.cases import Case
+from fixtures.patience import patience
+from openlink_update.outcome import Failure
+from openlink_update.rights import handover
+from openlink_update.rights import lent_files
+from openlink_update.rights import library_user
+from openlink_update.rights import limits
+from openlink_update.rights import sandbox
+from openlink_update.rights.lent_files import Lent
+from openlink_update.rights.limits import DiskLimit
+from openlink_update.rights.limits import Limits
+from openlink_update.rights.sandbox import Job
+from openlink_update.rights.sandbox import Parent
+from openlink_update.rights.sandbox import Sandbox
+from openlink_update.root_folder import RootFolder
+from openlink_update.root_folder import Unusable
+
+MB = 2**20
+
+
+def fault_of(call: Callable[[], object]) -> str:
+    """What a call raises, or nothing."""
+    try:
+        call()
+        return ""
+    except (OSError, Failure, MemoryError) as fault:
+        return f"{type(fault).__name__}: {getattr(fault, 'strerror', None) or fault}"
+
+
+def processes_of(number: int) -> list[str]:
+    """The processes of a user that live."""
+    found = []
+    for name in filter(str.isdigit, os.listdir("/proc")):
+        with contextlib.suppress(OSError):
+            text = Path(f"/proc/{name}/stat").read_text()
+            if os.stat(f"/proc/{name}").st_uid == number and ") Z" not in text:
+                found.append(text)
+    return found
+
+
+@needs.root()
+class Rights(Case):
+    """A folder with an input that only root can read, one to write in, and a sandbox."""
+
+    def setUp(self) -> None:
+        super().setUp()
+        place = tempfile.TemporaryDirectory()
+        self.addCleanup(place.cleanup)
+        self.top = Path(place.name)
+        self.top.chmod(0o755)
+        self.input, self.written = self.top / "input", self.top / "written"
+        for folder in (self.input, self.written):
+            folder.mkdir()
+        self.file("table.txt", "rows")
+        self.file("secrets.tsv", "s3cr3t")
+        self.file("below/it.txt", "more")
+        self.input.chmod(0o700)
+        user = library_user.claim(self.top, self.id())  # processes of another test may not be reaped yet
+        assert user, "a user is free"
+        self.user = user
+        self.box = self.box_of(Limits(seconds=patience(60)))
+
+    def file(self, name: str, text: str) -> Path:
+        path = self.input / name
+        path.parent.mkdir(exist_ok=True)
+        path.write_text(text)
+        path.chmod(0o600)
+        return path
+
+    def box_of(self, most: Limits) -> Sandbox:
+        box = Sandbox(self.user, most)
+        box.own(self.written)
+        return box
+
+    def run_of(self, work: Callable[[Parent], str], box: Sandbox | None = None, **how: object) -> str:
+        """The result of a function, or what ended it."""
+        lent = Lent(RootFolder(self.input), frozenset({"secrets.tsv"}), frozenset({("new.txt",)}))
+        job = Job(work, (self.written,), (lent,), **how)  # type: ignore[arg-type]
+        try:
+            return (box or self.box).run(job)
+        except Failure as failure:
+            return f"{type(failure).__name__} {failure.status}: {failure}"
+
+
+class Users(Rights):
+    def test_who_it_is(self) -> None:
+        """The process has the number of the user, no groups, and no way back."""
+
+        def work(_: Parent) -> str:
+            tries = [fault_of(lambda: os.setuid(0)), fault_of(lambda: os.setgroups([0]))]
+            return "\n".join([str(os.getresuid()), str(os.getresgid()), str(os.getgroups()), *tries])
+
+        number = self.user.number
+        lines = self.run_of(work).splitlines()
+        self.expect("its numbers", lines[:3], [str((number,) * 3), str((number,) * 3), "[]"])
+        self.expect("no way back", lines[3:], ["PermissionError: Operation not permitted"] * 2)
+        words = ["sh", "-c", "id -u; id -G; grep NoNewPrivs /proc/self/status; grep CapEff /proc/self/status"]
+        shown = self.run_of(lambda _: subprocess.run(words, capture_output=True, text=True).stdout).split()
+        wanted = [str(number), str(number), "NoNewPrivs:", "1", "CapEff:", "0" * 16]
+        self.expect("a command that it runs", shown, wanted)
+
+    def test_what_it_reads_and_writes(self) -> None:
+        """By its own rights it has neither the input nor a file of another library, and writes in its folder alone."""
+        other = self.file("below/it.txt", "more")
+        (self.top / "public.txt").write_text("public")
+
+        def work(_: Parent) -> str:
+            paths = (self.input / "table.txt", other, Path("/etc/shadow"))
+            found = [fault_of(path.read_text) for path in paths]
+            found.append(fault_of(lambda: (self.top / "public.txt").write_text("changed")))
+            found.append(fault_of(lambda: (self.top / "new").mkdir()))
+            found.append(fault_of(lambda: (self.written / "table").write_text("mine")))
+            return "\n".join([*found, (self.top / "public.txt").read_text(), f"files {os.listdir('/proc/self/fd')}"])
+
+        lines = self.run_of(work).split("\n")
+        self.expect("what is closed", lines[:5], ["PermissionError: Permission denied"] * 5)
+        self.expect("what is open", lines[5:7], ["", "public"])
+        self.expect("no file of its parent is open", len(eval(lines[7].removeprefix("files "))) <= 5)
+        self.expect("its file", os.stat(self.written / "table").st_uid, self.user.number)
+
+    def test_numbers(self) -> None:
+        """Two runs have two numbers, whatever their names; neither is that of an account, or of a process."""
+        script = (
+            "import sys; sys.path.insert(0, 'update'); from pathlib import Path\n"
+            "from openlink_update.rights import library_user\n"
+            "user = library_user.claim(Path(sys.argv[1]), sys.argv[2]); print(user.number, flush=True)\n"
+            "sys.stdin.read()"
+        )
+        words = [*PYTHON, "-c", script, str(self.top), self.id()]
+        with subprocess.Popen(words, stdin=subprocess.PIPE, stdout=subprocess.PIPE, text=True) as child:
+            assert child.stdin and child.stdout
+            other = int(child.stdout.readline())
+            self.expect("another run of the same library", other != self.user.number)
+            child.stdin.close()
+        with mock.patch("openlink_update.rights.library_user._is_known", lambda number: number % 2 == 0):
+            found = library_user.claim(self.top, "other")
+            self.expect("no number of an account", found is not None and found.number % 2, 1)
+        names = {name: library_user.claim(self.top, name) for name in ("a", "b", "c")}
+        numbers = [user.number for user in names.values() if user]
+        self.expect("numbers of libraries", len({*numbers, self.user.number}), 4)
+        with mock.patch("os.geteuid", lambda: 1000):
+            self.expect("not root", library_user.claim(self.top, "east"), None)
+        with mock.patch("openlink_update.rights.library_user._is_known", lambda _: True):
+            self.expect("none is free", library_user.claim(self.top, "east"), None)
+
+    def test_paths_that_it_cannot_read(self) -> None:
+        """Where the user could not do the work, the run keeps its rights, and says so."""
+        self.expect("all is well", self.user.fault([self.top, self.top / "written"]), "")
+        closed = f"its user cannot read {self.input}: chmod a+rX, also the folders above"
+        self.expect("a folder", self.user.fault([self.top, self.input]), closed)
+        self.expect("below it", self.user.fault([self.input / "table.txt"]) != "")
+        with mock.patch("os.setresuid", side_effect=OSError(22, "Invalid argument")):
+            fault = "this process cannot become another user: Invalid argument"
+            self.expect("no such number", self.user.fault([self.top]), fault)
+        with mock.patch("os.access", side_effect=ValueError):
+            self.expect("anything else", self.user.fault([self.top]), "no process of its user can be started")
+
+    def test_ends(self) -> None:
+        """No process of the user outlives its work, whatever it has done."""
+        script = "trap '' TERM HUP; setsid sleep 100 & setsid sleep 100 & wait"
+
+        def work(_: Parent) -> str:
+            subprocess.Popen(["sh", "-c", script], start_new_session=True)
+            while len(processes_of(os.getuid())) < 4:
+                time.sleep(0.01)
+            return "begun"
+
+        self.expect("its result", self.run_of(work), "begun")
+        self.expect("no process is left", processes_of(self.user.number), [])
+
+    def test_without_root(self) -> None:
+        """Without another user, the function is called as it is, and so is what comes at its pause."""
+        seen: list[object] = []
+
+        def work(parent: Parent) -> str:
+            seen.append((os.getpid(), parent.lent(RootFolder(self.input)).open(("table.txt",)).read()))
+            parent.pause()
+            return "done"
+
+        box = Sandbox(None, Limits())
+        job = Job(work, at_pause=lambda: seen.append("paused"))
+        self.expect("the result", (box.run(job), seen), ("done", [(os.getpid(), b"rows"), "paused"]))
+        self.expect("no user", box.number, None)
+
+
+class LentFiles(Rights):
+    def test_files_that_are_lent(self) -> None:
+        """Files below the folder are read, named and found; those that are closed, outside or no files are not."""
+        os.mkfifo(self.input / "pipe")
+        (self.input / "link").symlink_to("/etc/shadow")
+
+        def work(parent: Parent) -> str:
+            root = parent.lent(RootFolder(self.input))
+            lines = [root.open(("below", "it.txt")).read().decode(), str(root.status(("table.txt",)).st_size)]
+            lines.append(" ".join(sorted(path.name for path in root.matches(("*t*.txt",)))))
+            lines += [fault_of(lambda: root.open(parts)) for parts in WRONG]
+            return "\n".join(lines)
+
+        lines = self.run_of(work).split("\n")
+        self.expect("what it reads", lines[:3], ["more", "4", "table.txt"])
+        self.expect("what it does not", [line.partition(":")[0] for line in lines[3:]], list(WRONG.values()))
+
+    def test_files_that_are_replaced(self) -> None:
+        """One file may get other bytes, and no other."""
+
+        def work(parent: Parent) -> str:
+            root = parent.lent(RootFolder(self.input))
+            root.replace(("new.txt",), b"new rows", 0o600)
+            return "\n".join(
+                fault_of(call)
+                for call in (
+                    lambda: root.replace(("table.txt",), b"other", 0o644),
+                    lambda: root.replace(("..", "new.txt"), b"other", 0o644),
+                    lambda: root.remove(("table.txt",)),
+                )
+            )
+
+        self.expect("refused", self.run_of(work).split("\n")[0], "PermissionError: Operation not permitted")
+        path = self.input / "new.txt"
+        self.expect("its bytes", (path.read_text(), stat.S_IMODE(path.stat().st_mode)), ("new rows", 0o600))
+        self.expect(
+            "the others", ((self.input / "table.txt").read_text(), (self.top / "new.txt").exists()), ("rows", False)
+        )
+
+    def test_requests_that_nobody_sends(self) -> None:
+        """Whatever is asked for, root answers with a refusal, and reads nothing but regular files."""
+        lender = lent_files.Lender([Lent(RootFolder(self.input), replaced=frozenset({("new.txt",)}))])
+        requests = (
+            b"",
+            b"f",
+            b"fx",
+            b"f9\0table.txt",
+            b"f0\0..\0a",
+            b"f0\0/etc/shadow",
+            b"f0\0\0",
+            b"z0\0a",
+            b"r0\0new.txt",
+        )
+        for request in requests:
+            reply, lent = lender.answer(request, [])
+            self.expect(f"{request!r}", (reply != b"lent", list(lent)), (True, []))
+        reads, writes = os.pipe()
+        self.expect("bytes of a pipe", lender.answer(b"r0\0new.txt", [reads])[0].startswith(b"unusable"))
+        os.close(reads)
+        os.close(writes)
+        self.expect("nothing new", (self.input / "new.txt").exists(), False)
+
+    def test_pause(self) -> None:
+        """Root does its part while the function waits; what goes wrong there ends the function."""
+        seen: list[str] = []
+
+        def work(parent: Parent) -> str:
+            (self.written / "before").touch()
+            parent.pause()
+            return f"after {os.path.exists(self.written / 'between')}"
+
+        def between() -> None:
+            seen.append(f"{os.getuid()} {os.path.exists(self.written / 'before')}")
+            (self.written / "between").touch()
+
+        self.expect("one after the other", (self.run_of(work, at_pause=between), seen), ("after True", ["0 True"]))
+
+        def fail() -> None:
+            raise Failure("no restart")
+
+        self.expect("a failure", self.run_of(work, at_pause=fail), "Failure 3: no restart")
+        self.expect("no process is left", processes_of(self.user.number), [])
+
+
+WRONG = {
+    ("secrets.tsv",): "PermissionError",
+    ("..", "table.txt"): "OSError",
+    ("pipe",): "Unusable",
+    ("link",): "Unusable",
+    ("none.txt",): "FileNotFoundError",
+    ("below",): "IsADirectoryError",
+}
+
+
+class MostTaken(Rights):
+    def test_time(self) -> None:
+        """A function that does not end is ended, and so are its processes."""
+        begun = time.monotonic()
+        words = ["sh", "-c", "trap '' TERM; sleep 1000"]
+        got = self.run_of(lambda _: str(subprocess.run(words)), self.box_of(Limits(seconds=1.2)))
+        self.expect("what is said", got, "Exceeded 4: no end within 0.02 minutes, so it was ended")
+        self.expect("in time", time.monotonic() - begun < patience(20))
+        self.expect("no process is left", processes_of(self.user.number), [])
+
+    def test_memory(self) -> None:
+        """A function may have the memory of its limit, and not more; the limit holds for what it runs too."""
+        box = self.box_of(Limits(memory=600 * MB, seconds=patience(60)))
+        self.expect("within", self.run_of(lambda _: str(len(bytearray(400 * MB))), box), str(400 * MB))
+        beyond = "Exceeded 4: it needs more than 600 MB of memory: --memory allows more"
+        self.expect("beyond", self.run_of(lambda _: str(len(bytearray(600 * MB))), box), beyond)
+        words = [*PYTHON, "-c", "bytearray(600 * 2**20)"]
+        got = self.run_of(lambda _: subprocess.run(words, capture_output=True, text=True).stderr.strip()[-11:], box)
+        self.expect("a command", got, "MemoryError")
+
+    def test_processes(self) -> None:
+        """It can start only so many."""
+
+        def work(_: Parent) -> str:
+            count = 1
+            with contextlib.suppress(OSError):
+                while count < 1000:
+                    if os.fork() == 0:
+                        time.sleep(1000)
+                    count += 1
+            return str(count)
+
+        self.expect("how many", self.run_of(work), "256")
+        self.expect("no process is left", processes_of(self.user.number), [])
+
+    def test_disk(self) -> None:
+        """What the library has counts, and what is written comes to it."""
+        (self.input / "large").write_bytes(b"x" * 3 * MB)
+        most = Limits(patience(60), disk=8 * MB, folders=(self.input, self.written), line="LINE")
+
+        def write(count: int) -> str:
+            for number in range(count):
+                (self.written / f"{number}").write_bytes(b"x" * MB)
+            time.sleep(patience(1.5))
+            return "written"
+
+        self.expect("within", self.run_of(lambda _: write(4), self.box_of(most)), "written")
+        beyond = "Exceeded 4: the library has more than 8 MB on the disk, so it was ended: LINE allows more"
+        self.expect("beyond", self.run_of(lambda _: write(6), self.box_of(most)), beyond)
+
+    def test_disk_without_a_line(self) -> None:
+        """Without a line, it is what is written that is bounded."""
+        with mock.patch("openlink_update.rights.limits._MOST_ADDED", 2 * MB):
+            disk = DiskLimit(Limits(folders=(self.input,)), (self.written,))
+            for size, wanted in ((2 * MB, ""), (2 * MB + 1, f"it writes more than 2 MB, so it was ended: ")):
+                (self.written / "file").write_bytes(b"x" * size)
+                self.expect(
+                    f"{size} bytes", str(disk.fault() or "").startswith(wanted) and bool(disk.fault()), bool(wanted)
+                )
+
+    def test_network(self) -> None:
+        """Without the network, neither the function nor a command has a socket; with it, both do."""
+        script = "import socket; socket.socket(); print('open')"
+
+        def work(_: Parent) -> str:
+            made = [fault_of(lambda: socket.socket(family)) for family in (socket.AF_INET, socket.AF_UNIX)]
+            shown = subprocess.run([*PYTHON, "-c", script], capture_output=True, text=True).stdout.strip()
+            return f"{made} {shown}"
+
+        closed = "PermissionError: Permission denied"
+        self.expect("without", self.run_of(work, has_network=False), f"{[closed, closed]} ")
+        self.expect("with", self.run_of(work), "['', ''] open")
+
+    def test_ends_of_the_child(self) -> None:
+        """However it ends, there is one line."""
+        cases: dict[str, Callable[[Parent], str]] = {
+            "Failure 4: it was ended by the signal SIGKILL": lambda _: str(os.kill(os.getpid(), 9)),
+            "Failure 4: it was ended by status 0": lambda _: os._exit(0),
+            "Failure 4: ZeroDivisionError: division by zero": lambda _: str(1 / 0),
+            "Failure 4: /none: No such file or directory": lambda _: open("/none").read(),
+        }
+        for wanted, work in cases.items():
+            self.expect(wanted, self.run_of(work), wanted)
+
+        def refuse(_: Parent) -> str:
+            raise Failure("a line\nand \x1b[2J one more", 3)
+
+        self.expect("its own failure", self.run_of(refuse), "Failure 3: a line\nand ?[2J one more")
+        self.expect("a long text", len(self.run_of(lambda _: "x" * 10**6)), 30_000)
+
+
+class Handover(Rights):
+    def made(self, make: Callable[[], object]) -> str:
+        """Has the user make something in the folder, and returns why it is not taken."""
+        self.run_of(lambda _: str(make()))
+        return fault_of(lambda: handover.take(self.written, self.user.number))
+
+    def test_what_is_taken(self) -> None:
+        """Files and folders get root as their owner, and modes that let nobody write."""
+
+        def make() -> None:
+            os.umask(0)
+            (self.written / "below").mkdir(0o777)
+            for name, mode in (("below/open", 0o666), ("private", 0o600), ("run", 0o4777)):
+                (self.written / name).write_text("x")
+                (self.written / name).chmod(mode)
+
+        self.expect("all is taken", self.made(make), "")
+        found = {path.name: path.stat() for path in (self.written, *self.written.rglob("*"))}
+        wanted = {"written": 0o755, "below": 0o755, "open": 0o644, "private": 0o600, "run": 0o644}
+        self.expect("modes", {name: stat.S_IMODE(it.st_mode) for name, it in found.items()}, wanted)
+        self.expect("owners", {(it.st_uid, it.st_gid) for it in found.values()}, {(0, 0)})
+
+    def test_what_is_not(self) -> None:
+        """Links, pipes, files with a second name and those of others are not taken."""
+        other = self.top / "other"
+        other.write_text("root's")
+
+        def link() -> None:
+            (self.written / "a").write_text("x")
+            os.link(self.written / "a", self.written / "b")
+
+        cases: dict[str, Callable[[], object]] = {
+            "link": lambda: (self.written / "link").symlink_to(other),
+            "folder": lambda: (self.written / "folder").symlink_to(self.input),
+            "pipe": lambda: os.mkfifo(self.written / "pipe"),
+            "names": link,
+        }
+        for name, make in cases.items():
+            got = self.made(make)
+            self.expect(
+                name, got.startswith("Failure: ") and got.endswith("not a file or folder that this run has made")
+            )
+            for path in self.written.iterdir():
+                path.unlink()
+            self.box.own(self.written)
+        self.run_of(lambda _: "")
+        (self.written / "planted").write_text("x")
+        self.expect("of another", fault_of(lambda: handover.take(self.written, self.user.number)) != "")
+        self.expect("the file of root", (other.read_text(), other.stat().st_uid), ("root's", 0))
+
+
+class Fallbacks(Case):
+    def test_of(self) -> None:
+        """Without root there is no other user, and nothing is said."""
+        with mock.patch("os.geteuid", lambda: 1000):
+            self.expect("not root", sandbox.of(Path("/"), Path("/"), limits.Limits(), []).number, None)
+        self.expect("an unusable file is one of the system", issubclass(Unusable, OSError))
