@@ -20,7 +20,7 @@ NAMES = [
 ]
 PATHS = [f"{FOLDER}/{name}" for name in NAMES]
 # Tenths of the exposure that `systemd-analyze security` of systemd 252 computes.
-MOST_EXPOSURE = {"openlink@.service": 14, "openlink-update.service": 35, "openlink-walls.service": 35}
+MOST_EXPOSURE = {"openlink@.service": 14, "openlink-update.service": 30, "openlink-walls.service": 30}
 
 
 class Units(Case):

@@ -7,7 +7,8 @@ from pathlib import Path
 from openlink_update.outcome import DEVICE, Failure
 from openlink_update.rights import disk_use
 
-MINUTES, MEMORY_MB = 45, 4096  # for each of its steps: the fetch, making a version, and trying it; of each process
+MINUTES = 45  # for each of its steps: the fetch, making a version, and trying it
+MEMORY_MB = 3584  # of a process, below what the units allow all processes
 _MOST_PROCESSES = 256
 _MB = 2**20
 _MOST_ADDED = 20 * 2**30  # bytes that a step may add, if the site has no line for the library
