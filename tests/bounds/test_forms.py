@@ -95,7 +95,11 @@ class Options(Case):
         self.expect("without options", (found.seconds, found.keep, found.drained), (60, 4, 3))
         found = update_options.parse(["--keep", "2", "--seconds", "0.1"])
         self.expect("the least", (found.keep, found.seconds), (2, 0.1))
-        for words in (("--keep", "1"), ("--seconds", "0"), ("--seconds", "nan")):
+        self.expect("of a library's user", (found.minutes, found.memory), (45, 3584))
+        found = update_options.parse(["--minutes", "0.1", "--memory", "256"])
+        self.expect("the least of these", (found.minutes, found.memory), (0.1, 256))
+        wrong = (("--keep", "1"), ("--seconds", "0"), ("--seconds", "nan"), ("--minutes", "0"), ("--memory", "255"))
+        for words in wrong:
             with open(os.devnull, "w") as null, mock.patch("sys.stderr", null), self.assertRaises(SystemExit) as ending:
                 update_options.parse([*words])
             self.expect(f"{words}", ending.exception.code, 2)

@@ -8,7 +8,7 @@ import stat
 import subprocess
 import tempfile
 import time
-from collections.abc import Callable, Iterator
+from collections.abc import Callable
 from pathlib import Path
 from unittest import mock
 
@@ -30,6 +30,7 @@ from openlink_update.rights.sandbox import Parent
 from openlink_update.rights.sandbox import Sandbox
 from openlink_update.root_folder import RootFolder
 from openlink_update.root_folder import Unusable
+from openlink_update.site.front_door import Site
 
 MB = 2**20
 
@@ -159,6 +160,13 @@ class Users(Rights):
         with mock.patch("openlink_update.rights.library_user._is_known", lambda _: True):
             self.expect("none is free", library_user.claim(self.top, "east"), None)
 
+    def test_last_number(self) -> None:
+        """The numbers are those that systemd keeps for such users, 61184 to 65519."""
+        for number, wanted in ((61183, None), (61184, 61184), (65519, 65519), (65520, None)):
+            with mock.patch("openlink_update.rights.library_user._is_known", lambda it, free=number: it != free):
+                user = library_user.claim(self.top, "east")
+            self.expect(f"{number} alone is free", user and user.number, wanted)
+
     def test_paths_that_it_cannot_read(self) -> None:
         """Where the user could not do the work, the run keeps its rights, and says so."""
         self.expect("all is well", self.user.fault([self.top, self.top / "written"]), "")
@@ -237,6 +245,34 @@ class LentFiles(Rights):
         self.expect(
             "the others", ((self.input / "table.txt").read_text(), (self.top / "new.txt").exists()), ("rows", False)
         )
+
+    def test_long_names(self) -> None:
+        """A path that no file can have is refused before it is sent."""
+
+        def work(parent: Parent) -> str:
+            root = parent.lent(RootFolder(self.input))
+            return "\n".join(fault_of(lambda: root.open(("x" * count,))) for count in (255, 2**16 - 3, 2**16 - 2))
+
+        wanted = ["FileNotFoundError", "OSError: File name too long", "Unusable: not a name of a file"]
+        got = self.run_of(work).split("\n")
+        self.expect("names", [line[: len(start)] for line, start in zip(got, wanted)], wanted)
+
+    def test_shared_tables(self) -> None:
+        """Root gets the bytes of a table, and lends what is made of it; it is asked for 100 files at most."""
+        made, seen = self.file("made", "prepared"), list[list[tuple[str, bytes]]]()
+
+        def shared(files: list[tuple[str, bytes]]) -> int | None:
+            seen.append(files)
+            return os.open(made, os.O_RDONLY) if files[0][1] == b"rows" else None
+
+        def work(parent: Parent) -> str:
+            files = [(f"/input/{number}.txt", b"rows") for number in range(101)]
+            cases = (files[:2], files[:100], files, [("other", b"other")])
+            return " ".join(str(parent.prepared(case)) for case in cases)
+
+        self.expect("what is lent", self.run_of(work, shared=shared), "b'prepared' b'prepared' None None")
+        self.expect("what root gets", [len(files) for files in seen], [2, 100, 1])
+        self.expect("with their names", seen[0], [("/input/0.txt", b"rows"), ("/input/1.txt", b"rows")])
 
     def test_requests_that_nobody_sends(self) -> None:
         """Whatever is asked for, root answers with a refusal, and reads nothing but regular files."""
@@ -343,11 +379,24 @@ class MostTaken(Rights):
         beyond = "Exceeded 4: the library has more than 8 MB on the disk, so it was ended: LINE allows more"
         self.expect("beyond", self.run_of(lambda _: write(6), self.box_of(most)), beyond)
 
+    def test_lines_of_a_site(self) -> None:
+        """The line of a library, or of the machine, in any unit; a number has nine digits at most."""
+        site, machine = self.top / "site.conf", self.top / "openlink.conf"
+        machine.write_text("js_var $openlink_disk 3g;\n")
+        lines = {"set $openlink_disk 20m;": 20 * MB, 'set $openlink_disk "2T";': 2 * 2**40, "": 3 * 2**30}
+        lines |= {"#set $openlink_disk 20m;": 3 * 2**30, "set $openlink_disk 20;": 3 * 2**30}
+        lines |= {f"set $openlink_disk {'9' * 9}m;": 999_999_999 * MB, f"set $openlink_disk {'9' * 10}m;": 3 * 2**30}
+        for line, wanted in lines.items():
+            site.write_text(f"server {{\n    {line}\n}}\n")
+            self.expect(line, Site(site, machine).most_disk, wanted)
+        self.expect("no line", Site(site).most_disk, None)
+
     def test_disk_without_a_line(self) -> None:
         """Without a line, it is what is written that is bounded."""
+        self.expect("as it is", limits._MOST_ADDED, 20 * 2**30)
         with mock.patch("openlink_update.rights.limits._MOST_ADDED", 2 * MB):
             disk = DiskLimit(Limits(folders=(self.input,)), (self.written,))
-            for size, wanted in ((2 * MB, ""), (2 * MB + 1, f"it writes more than 2 MB, so it was ended: ")):
+            for size, wanted in ((2 * MB, ""), (2 * MB + 1, "it writes more than 2 MB, so it was ended: ")):
                 (self.written / "file").write_bytes(b"x" * size)
                 self.expect(
                     f"{size} bytes", str(disk.fault() or "").startswith(wanted) and bool(disk.fault()), bool(wanted)

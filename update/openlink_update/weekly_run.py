@@ -43,8 +43,8 @@ class _Trials:
 
 @dataclasses.dataclass(frozen=True)
 class _Plan:
-    """How a version is made of an input, and what is removed once it is in use. A trial puts none in use. If it does not
-    try all probes, it tries those that hold in the version in use."""
+    """How a version is made of an input, and what is removed once it is in use. A trial puts none in use. If it does
+    not try all probes, it tries those that hold in the version in use."""
 
     folder: InputFolder
     make: Callable[[Maker, InputFolder], str]

@@ -1,3 +1,3 @@
 """Fetching the tables of providers."""
 
-__all__ = ["fetching", "sources"]
+__all__ = ["fetch_folder", "fetching", "sources"]

@@ -43,7 +43,7 @@ class Parent(Protocol):
         """What that process has of a table that is shared."""
 
 
-Work = Callable[[Parent], str]
+_Work = Callable[[Parent], str]
 
 
 def input_by(parent: Parent, folder: InputFolder) -> InputFolder:
@@ -65,7 +65,7 @@ class Job:
     """What is run, the folders that it writes to, and those that are lent; what root does when the function pauses,
     whether it may use the network, and how root finds a shared table."""
 
-    work: Work
+    work: _Work
     written: tuple[Path, ...] = ()
     lent: tuple[Lent, ...] = ()
     at_pause: Callable[[], None] = _nothing
@@ -243,10 +243,15 @@ def _failure_of(message: bytes, limits: Limits) -> Failure:
     return Failure("\n".join(map(line_of, lines)), status)
 
 
+def _ignore(_: "sys.UnraisableHookArgs") -> None:
+    """Prints nothing."""
+
+
 def _be_child(user: LibraryUser, limits: Limits, job: Job, peer: socket.socket, parent: int) -> None:
     """What the child does, until it ends."""
     try:
         reset_signals()
+        sys.unraisablehook = _ignore  # out of memory, it would print parts of lines
         os.setsid()
         null = os.open(os.devnull, os.O_RDONLY)
         os.dup2(null, 0)
@@ -263,7 +268,7 @@ def _be_child(user: LibraryUser, limits: Limits, job: Job, peer: socket.socket, 
         os._exit(0)
 
 
-def _message_of(work: Work, root: _Root) -> bytes:
+def _message_of(work: _Work, root: _Root) -> bytes:
     """What the child says at its end."""
     try:
         return _RESULT + work(root)[:_MOST_RESULT].encode("utf-8", "replace")
