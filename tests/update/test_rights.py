@@ -3,6 +3,7 @@ from __future__ import annotations
 
 import contextlib
 import os
+import shutil
 import socket
 import stat
 import subprocess
@@ -15,7 +16,12 @@ from unittest import mock
 from fixtures import PYTHON
 from fixtures import needs
 from fixtures.cases import Case
+from fixtures.fetch_input import TABLE
 from fixtures.patience import patience
+from fixtures.program import PATH
+from fixtures.provider import Provider
+from fixtures.provider import reply
+from fixtures.updates import Library
 from openlink_update.outcome import Failure
 from openlink_update.rights import handover
 from openlink_update.rights import lent_files
@@ -490,3 +496,94 @@ class Fallbacks(Case):
         with mock.patch("os.geteuid", lambda: 1000):
             self.expect("not root", sandbox.of(Path("/"), Path("/"), limits.Limits(), []).number, None)
         self.expect("an unusable file is one of the system", issubclass(Unusable, OSError))
+
+
+# Notes who runs a command, and runs it.
+_NOTING = """#!/bin/sh
+echo "{name} $1 $(id -u) $(id -G)" >>{notes}
+exec {program} "$@"
+"""
+
+
+@needs.program()
+@needs.command("curl")
+class Runs(Case):
+    """Runs of the update and of the fetch."""
+
+    def setUp(self) -> None:
+        super().setUp()
+        self.library = self.enterContext(Library())
+        self.notes = Path(self.library.top, "notes")
+        self.bin = Path(self.library.top, "bin")
+        self.bin.mkdir()
+        self.notes.touch()
+        self.notes.chmod(0o666)
+        self.library.write("table.txt", TABLE)
+        self.library.targets["press"] = ("table.txt", "")
+        self.library.write_targets()
+        for name, program in (("openlink", os.path.abspath(PATH)), ("curl", shutil.which("curl"))):
+            path = self.bin / name
+            path.write_text(_NOTING.format(name=name, notes=self.notes, program=program))
+            path.chmod(0o755)
+        self.library.environment["PATH"] = f"{self.bin}:{os.environ['PATH']}"
+
+    def noted(self) -> list[list[str]]:
+        """What ran since the last time: a command, a word, a user and groups."""
+        lines = [line.split(" ", 3) for line in self.notes.read_text().splitlines()]
+        self.notes.write_text("")
+        return lines
+
+    def update(self, *words: str) -> tuple[int, str]:
+        return self.library.update("--program", str(self.bin / "openlink"), *words)
+
+    @needs.root()
+    def test_who_runs(self) -> None:
+        """All that reads a table runs as a user that is not root, of no group; what it makes is root's."""
+        provider = Provider(has_tls=False)
+        self.addCleanup(provider.stop)
+        provider.steps = {"/table?key=s3cr3t": [reply(200, TABLE)]}
+        self.library.write("sources.tsv", f"table.txt\t{provider.address('/table?key={key}')}\tplain http\n")
+        self.library.write("secrets.tsv", "key\ts3cr3t\n")
+        os.chmod(self.library.folder, 0o700)  # the input is for its staff alone
+        status, printed = self.update("--fetch")
+        self.expect(f"the run: {printed}", (status, "rights of root" in printed), (0, False))
+        noted = self.noted()
+        self.expect("what ran", {(name, word) for name, word, *_ in noted}, RAN)
+        users = {(user, groups) for _, _, user, groups in noted}
+        self.expect("one user, and its own group", [user == groups for user, groups in users], [True])
+        self.expect("not root", all(61184 <= int(user) < 65520 for user, _ in users))
+        version = Path(self.library.library, "current")
+        self.expect("owners", {path.stat().st_uid for path in version.rglob("*")}, {0})
+        self.expect("received", stat.S_IMODE((version / "received/press.txt").stat().st_mode), 0o600)
+        self.expect("the next run", self.update("--fetch")[0], 0)
+        self.library.write("table.txt", TABLE.replace(b"Harbour", b"Port"))
+        self.expect(
+            "another table", (self.update()[0], "Port" in (self.library.served("tables/press.txt") or "")), (0, True)
+        )
+
+    @needs.root()
+    def test_a_folder_that_is_closed(self) -> None:
+        """Where the user could not enter the library, the run goes on as before, and says why first."""
+        os.chmod(self.library.top, 0o700)
+        status, printed = self.update()
+        line = f"files of providers are read with the rights of root: its user cannot read {self.library.library}: "
+        self.expect(printed, (status, printed.startswith(line)), (0, True))
+        self.expect("who ran", {user for _, _, user, _ in self.noted()}, {"0"})
+
+    @needs.root()
+    def test_another_user(self) -> None:
+        """A run that is not root's does all as its own user."""
+        user = 65533
+        for path in (self.library.top, *map(str, Path(self.library.top).rglob("*"))):
+            os.chown(path, user, user)
+        words = [*PYTHON, "update/update", "--library", self.library.library, "--site", "/nonexistent"]
+        words += ["--restart", "true", "--program", str(self.bin / "openlink")]
+        done = subprocess.run(words, capture_output=True, text=True, user=user, group=user, extra_groups=[])
+        self.expect(
+            f"the run: {done.stdout}{done.stderr}", (done.returncode, "rights of root" in done.stdout), (0, False)
+        )
+        self.expect("who ran", {it for _, _, it, _ in self.noted()}, {str(user)})
+        self.expect("the owner", Path(self.library.library, "current/registry.tsv").stat().st_uid, user)
+
+
+RAN = {("curl", "-q"), *(("openlink", word) for word in ("compile", "inspect", "lint", "serve"))}

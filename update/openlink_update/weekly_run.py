@@ -10,17 +10,18 @@ from openlink_update import children
 from openlink_update.exports import export_files
 from openlink_update.fetch import sources
 from openlink_update.input_files import InputFolder
-from openlink_update.outcome import ALL_NEW, KEPT, Failure, ignore_signals
+from openlink_update.outcome import ALL_NEW, DEVICE, KEPT, Failure, ignore_signals
 from openlink_update.received import archives
 from openlink_update.rights import handover
 from openlink_update.rights.lent_files import Lent
 from openlink_update.rights.sandbox import Job, Parent, Sandbox, input_by
 from openlink_update.shown_text import report
+from openlink_update.site import targets_file
 from openlink_update.site.front_door import FrontDoor, Site
 from openlink_update.site.names_file import NAME, NamesFile
 from openlink_update.site.probing import Difference, Probes, Trial
 from openlink_update.site.processes import Processes
-from openlink_update.tables import coverage
+from openlink_update.tables import coverage, parts
 from openlink_update.update_options import Options
 from openlink_update.versions import making, same_files, shared_tables, target_list
 from openlink_update.versions.library import Library
@@ -158,6 +159,7 @@ class Run:
         text = self.sandbox.run(Job(work, (unfinished,), lent, has_network=False, shared=self._shared_table))
         if self.sandbox.number is not None and text.startswith(_NEW):
             handover.take(unfinished, self.sandbox.number)
+            _check_sizes(unfinished)
         return text
 
     def _shared_table(self, files: shared_tables.Files) -> int | None:
@@ -344,6 +346,13 @@ class Run:
                 is_well = False
                 report(f"{stamp} again: {failure}")
         return is_well
+
+
+def _check_sizes(version: Path) -> None:
+    """A Failure if root or nginx would have to read too much of what a library's user has made."""
+    for name, most in (("registry.tsv", parts.MOST_REGISTRY_BYTES), (NAME, targets_file.MOST_BYTES)):
+        if (version / name).exists() and (version / name).stat().st_size > most:
+            raise Failure(f"{version / name}: more than {most:,} bytes", DEVICE)
 
 
 def _bad_files(maker: Maker) -> str:

@@ -4,6 +4,7 @@ it lends files, watches the limits, and takes one text as the result.
 Where the update does not run as root there is no other user, and the function is called as it is."""
 import contextlib
 import dataclasses
+import gc
 import os
 import select
 import signal
@@ -107,7 +108,7 @@ class _Root:
             raise Failure("the run has ended", DEVICE)
 
     def prepared(self, files: Sequence[tuple[str, bytes]]) -> bytes | None:
-        if len(files) > _MOST_FILES:
+        if len(files) > _MOST_FILES or sum(len(data) for _, data in files) > MOST_BYTES:
             return None
         with contextlib.ExitStack() as stack:
             copies = [stack.enter_context(open(os.memfd_create("openlink"), "wb")) for _ in files]
@@ -165,9 +166,9 @@ class Sandbox:
 
     def _served(self, job: Job, peer: socket.socket, child: int) -> str:
         """Does what the child asks for until it has a result."""
-        lender, end = Lender(job.lent), time.monotonic() + self._limits.seconds
+        lender, clock = Lender(job.lent), _Clock(time.monotonic() + self._limits.seconds)
         disk = DiskLimit(self._limits, job.written)
-        for _ in _moments(peer, end, disk):
+        for _ in _moments(peer, clock, disk):
             message, sent, _, _ = socket.recv_fds(peer, MOST_MESSAGE, _MOST_FILES)
             try:
                 match message[:1]:
@@ -178,10 +179,13 @@ class Sandbox:
                     case kind if kind == _FAULT:
                         raise _failure_of(message[1:], self._limits)
                     case kind if kind == _PAUSE:
+                        begun = time.monotonic()
                         job.at_pause()
+                        clock.end += time.monotonic() - begun  # the restarts of processes have limits of their own
                         peer.send(_GO)
                     case kind if kind == _SHARED:
-                        found = job.shared(_files_of(message[1:], sent))
+                        files = _files_of(message[1:], sent)
+                        found = job.shared(files) if files else None
                         _send(peer, _GO, [] if found is None else [found])
                     case _:
                         _send(peer, *lender.answer(message, sent))
@@ -197,14 +201,16 @@ class Sandbox:
 
 
 def _files_of(names: bytes, descriptors: Sequence[int]) -> list[tuple[str, bytes]]:
-    """The files of a table that a child has sent. Their bytes are not looked at."""
+    """The files of a table that a child has sent; none if they are no files, or too large together. Their bytes are
+    not looked at."""
+    states = [os.fstat(descriptor) for descriptor in descriptors]
+    if not all(stat.S_ISREG(it.st_mode) for it in states) or sum(it.st_size for it in states) > MOST_BYTES:
+        return []
     found = []
-    for name, descriptor in zip(os.fsdecode(names).split("\0"), descriptors):
-        status = os.fstat(descriptor)
-        if stat.S_ISREG(status.st_mode) and status.st_size <= MOST_BYTES:
-            with open(os.dup(descriptor), "rb") as file:
-                file.seek(0)
-                found.append((name, file.read(MOST_BYTES)))
+    for name, descriptor, state in zip(os.fsdecode(names).split("\0"), descriptors, states):
+        with open(os.dup(descriptor), "rb") as file:
+            file.seek(0)
+            found.append((name, file.read(state.st_size)))
     return found
 
 
@@ -221,16 +227,23 @@ def _close(descriptors: Sequence[int]) -> None:
         os.close(descriptor)
 
 
-def _moments(peer: socket.socket, end: float, disk: DiskLimit) -> Iterator[None]:
+@dataclasses.dataclass
+class _Clock:
+    """When the time of a child is over."""
+
+    end: float
+
+
+def _moments(peer: socket.socket, clock: _Clock, disk: DiskLimit) -> Iterator[None]:
     """Yields when the child has sent something, until the time is over or the disk has too much."""
     look_at = time.monotonic()
-    while time.monotonic() < end:
+    while time.monotonic() < clock.end:
         if time.monotonic() >= look_at:
             started = time.monotonic()
             if disk.fault():
                 return
             look_at = time.monotonic() + max(1, (time.monotonic() - started) * _SHARE)
-        if select.select([peer], [], [], max(min(end, look_at) - time.monotonic(), 0))[0]:
+        if select.select([peer], [], [], max(min(clock.end, look_at) - time.monotonic(), 0))[0]:
             yield
 
 
@@ -252,6 +265,7 @@ def _be_child(user: LibraryUser, limits: Limits, job: Job, peer: socket.socket, 
     try:
         reset_signals()
         sys.unraisablehook = _ignore  # out of memory, it would print parts of lines
+        gc.freeze()  # or a file that its parent has left could be closed here, by a number that is another's then
         os.setsid()
         null = os.open(os.devnull, os.O_RDONLY)
         os.dup2(null, 0)

@@ -9,7 +9,7 @@ from openlink_update.tables.identifiers import form_of, standard
 from openlink_update.tables.table import Table, cell
 
 _MOST_BYTES, MOST_ROWS = 16_777_216, 200_000
-MOST_TARGETS, _MOST_REGISTRY_BYTES, _MOST_NAME_BYTES = 256, 65_536, 64
+MOST_TARGETS, MOST_REGISTRY_BYTES, _MOST_NAME_BYTES = 256, 65_536, 64
 _NAME = re.compile(r"(.+)\.(?:[2-9]|[1-9]\d{1,2})", re.A)
 _Group = tuple[list[int], tuple[int, int]]  # rows, and their bytes and number
 
@@ -101,10 +101,10 @@ def parts_of(target: str, table: Table, size: int) -> dict[str, Sequence[int]]:
 def fault_of(counts: dict[str, int], registry: bytes) -> str:
     """Why the program would reject a registry of targets with these numbers of parts; '' if it would not."""
     names = sum(counts.values())
-    if names <= MOST_TARGETS and len(registry) <= _MOST_REGISTRY_BYTES:
+    if names <= MOST_TARGETS and len(registry) <= MOST_REGISTRY_BYTES:
         return ""
     several = ", ".join(f"{name} ({count})" for name, count in counts.items() if count > 1)
     return (
-        f"registry.tsv: {names} targets and {len(registry)} bytes, and {MOST_TARGETS} and {_MOST_REGISTRY_BYTES} "
+        f"registry.tsv: {names} targets and {len(registry)} bytes, and {MOST_TARGETS} and {MOST_REGISTRY_BYTES} "
         f"are possible; in parts: {several or 'none'}"
     )
