@@ -53,11 +53,18 @@ class LibraryUser:
         os.setgroups([])
         os.setresgid(self.number, self.number, self.number)
         os.setresuid(self.number, self.number, self.number)
+        if not self._is_it():
+            os._exit(1)
         _LIBC.prctl(_NO_NEW_PRIVILEGES, 1, 0, 0, 0)
         _LIBC.prctl(_DUMPABLE, 1, 0, 0, 0)  # or its own entries of /proc are closed to it
         _LIBC.prctl(_DEATH_SIGNAL, signal.SIGKILL, 0, 0, 0)
         if os.getppid() != parent:
             os._exit(1)
+
+    def _is_it(self) -> bool:
+        """Whether this process has the rights of the user, and no others to return to."""
+        numbers = {*os.getresuid(), *os.getresgid(), *os.getgroups()}
+        return numbers == {self.number} and self.number in _NUMBERS
 
     def end_all(self) -> None:
         """Ends all processes that it has, and waits until none lives."""
@@ -72,7 +79,8 @@ class LibraryUser:
         if child == 0:
             try:
                 self.become(parent)
-                os.kill(-1, signal.SIGKILL)
+                if self._is_it():  # looked at twice, since root's signal would end all processes of the machine
+                    os.kill(-1, signal.SIGKILL)
             finally:
                 os._exit(0)
         os.waitpid(child, 0)
