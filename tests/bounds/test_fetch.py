@@ -229,7 +229,7 @@ class Numbers(Case):
             lines: list[str] = []
             with tempfile.TemporaryDirectory() as folder:
                 inputs = InputFolder(f"{folder}/input")
-                run = fetching._Fetch(inputs, lines.append, 600, 10)
+                run = fetching._Fetch(inputs, FetchFolder(inputs), lines.append, 600, 10)
                 source = Source("table.txt", "https://press.example.com/", every=every)
                 run._state = fetch_state.State(inputs, FetchFolder(inputs), None, today)
                 run._state._entries["table.txt"] = fetch_state._Entry(changed=str(today - datetime.timedelta(days)))
