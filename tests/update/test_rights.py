@@ -108,6 +108,8 @@ class Rights(Case):
 class Users(Rights):
     def test_who_it_is(self) -> None:
         """The process has the number of the user, no groups, and no way back."""
+        self.addCleanup(os.setgroups, os.getgroups())
+        os.setgroups([4, 24])
 
         def work(_: Parent) -> str:
             tries = [fault_of(lambda: os.setuid(0)), fault_of(lambda: os.setgroups([0]))]
