@@ -28,6 +28,7 @@ from openlink_update.fetch.fetch_folder import FetchFolder
 from openlink_update.fetch.sources import Source
 from openlink_update.fetch.transfers import Transfer
 from openlink_update.input_files import InputFolder
+from openlink_update.outcome import Failure
 
 TOO_MANY = "more than 256 MB"
 
@@ -221,6 +222,22 @@ class Numbers(Case):
         """A name of 1,000 characters is sent back, one more is not."""
         for count, wanted in ((1000, True), (1001, False)):
             self.expect(f"{count}", fetch_state._name_in({"etag": "x" * count}, "etag") is not None, wanted)
+
+    def test_bytes_of_the_list(self) -> None:
+        """sources.tsv has a megabyte at most."""
+        for count, wanted in ((2**20, ""), (2**20 + 1, "sources.tsv: more than 1,048,576 bytes")):
+            with tempfile.TemporaryDirectory() as folder:
+                os.chmod(folder, 0o755)
+                path = Path(folder, "input", "sources.tsv")
+                path.parent.mkdir()
+                path.write_text("#" * (count - 1) + "\n")
+                lines: list[str] = []
+                said = ""
+                try:
+                    fetching.fetch(path.parent, lines.append, 600, 10)
+                except Failure as failure:
+                    said = str(failure)
+            self.expect(f"{count} bytes", said.endswith(wanted) and bool(said) == bool(wanted))
 
     def test_days_without_a_change(self) -> None:
         """After 90 days, or those between two fetches if they are more, a line says so."""

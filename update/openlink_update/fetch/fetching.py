@@ -25,6 +25,7 @@ from openlink_update.root_folder import RootFolder, Unusable
 from openlink_update.shown_text import amount, prepare_streams, report
 
 _INPUT = "/etc/openlink/input"
+_MOST_LIST = 2**20  # bytes of the list, which root reads too
 _MOST_DAYS = 90  # that a file may go without a change
 SECONDS, PAUSE = 600, 10  # for a file, all tries together, and before the second try
 
@@ -74,6 +75,8 @@ def fetch(
     if shutil.which("curl") is None:
         raise Failure("no curl on this machine", DEVICE)
     folder = InputFolder(os.path.abspath(path))
+    if folder.status(sources.LIST).st_size > _MOST_LIST:
+        raise Failure(f"{folder.place(sources.LIST)}: more than {_MOST_LIST:,} bytes", DEVICE)
     listed = sources.read(folder)[0]
     unknown = [file for file in files if file not in [source.file for source in listed]]
     if unknown:

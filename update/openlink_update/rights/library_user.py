@@ -61,6 +61,10 @@ class LibraryUser:
         if os.getppid() != parent:
             os._exit(1)
 
+    def release(self) -> None:
+        """Lets another run have it."""
+        self._lock.close()
+
     def _is_it(self) -> bool:
         """Whether this process has the rights of the user, and no others to return to."""
         numbers = {*os.getresuid(), *os.getresgid(), *os.getgroups()}

@@ -311,5 +311,7 @@ def of(folder: Path, library: Path, limits: Limits, paths: Sequence[Path]) -> Sa
     else:
         fault = user.fault([path for path in needed if path.exists()])
     if fault:
+        if user:
+            user.release()
         report(f"files of providers are read with the rights of root: {fault}")
     return Sandbox(None if fault else user, limits)
