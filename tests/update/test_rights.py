@@ -22,6 +22,7 @@ from fixtures.program import PATH
 from fixtures.provider import Provider
 from fixtures.provider import reply
 from fixtures.updates import Library
+from openlink_update.fetch import fetching
 from openlink_update.outcome import Failure
 from openlink_update.rights import handover
 from openlink_update.rights import lent_files
@@ -346,6 +347,23 @@ class MostTaken(Rights):
         self.expect("what is said", got, "Exceeded 4: no end within 0.02 minutes, so it was ended")
         self.expect("in time", time.monotonic() - begun < patience(20))
         self.expect("no process is left", processes_of(self.user.number), [])
+
+    def test_time_of_a_fetch(self) -> None:
+        """A fetch has twice the time, and what has come when it ends is used."""
+        steps: list[float] = []
+
+        def longer(box: Sandbox, times: int) -> Sandbox:
+            steps.append(times)
+            return box
+
+        with mock.patch.object(Sandbox, "longer", longer), tempfile.TemporaryDirectory() as folder:
+            Path(folder, "sources.tsv").write_text("# none\n")
+            fetching.fetch(folder, steps.append, 1, 0, (), Sandbox(None, Limits()))
+        self.expect("times", steps[0], 2)
+        box = self.box_of(Limits(seconds=1)).longer(2)
+        begun = time.monotonic()
+        got = self.run_of(lambda _: str(time.sleep(1000)), box)
+        self.expect("in time", (got[:24], 2 <= time.monotonic() - begun), ("Exceeded 4: no end withi", True))
 
     def test_memory(self) -> None:
         """A function may have the memory of its limit, and not more; the limit holds for what it runs too."""

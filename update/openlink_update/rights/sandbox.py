@@ -136,6 +136,10 @@ class Sandbox:
         if self._user:
             os.chown(folder, self._user.number, self._user.number)
 
+    def longer(self, times: int) -> "Sandbox":
+        """The same, with several times the time."""
+        return Sandbox(self._user, dataclasses.replace(self._limits, seconds=self._limits.seconds * times))
+
     def other(self, folder: Path, name: str) -> "Sandbox":
         """That of another user, with the same limits. A Failure if none is free."""
         user = library_user.claim(folder, name)
