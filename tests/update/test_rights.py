@@ -483,12 +483,14 @@ class Handover(Rights):
 
     def test_what_is_not(self) -> None:
         """Links, pipes, files with a second name and those of others are not taken."""
-        other = self.top / "other"
+        other, outside = self.top / "other", self.top / "outside"
         other.write_text("root's")
+        outside.mkdir()
+        self.box.own(outside)
 
         def link() -> None:
             (self.written / "a").write_text("x")
-            os.link(self.written / "a", self.written / "b")
+            os.link(self.written / "a", outside / "b")
 
         cases: dict[str, Callable[[], object]] = {
             "link": lambda: (self.written / "link").symlink_to(other),
