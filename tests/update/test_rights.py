@@ -22,6 +22,7 @@ from fixtures.program import PATH
 from fixtures.provider import Provider
 from fixtures.provider import reply
 from fixtures.updates import Library
+from openlink_update import weekly_run
 from openlink_update.fetch import fetching
 from openlink_update.outcome import Failure
 from openlink_update.rights import handover
@@ -283,6 +284,18 @@ class LentFiles(Rights):
         self.expect("what root gets", [len(files) for files in seen], [2, 100, 1])
         self.expect("with their names", seen[0], [("/input/0.txt", b"rows"), ("/input/1.txt", b"rows")])
 
+    def test_files_that_root_does_not_read(self) -> None:
+        """Root reads the bytes of a table only if they are those of files, and not too many together."""
+        with mock.patch.object(sandbox, "MOST_BYTES", 8), contextlib.ExitStack() as stack:
+            paths = [self.file(name, text) for name, text in (("one", "1234"), ("two", "5678"), ("three", "5"))]
+            one, two, three = [stack.enter_context(path.open("rb")).fileno() for path in paths]
+            pipe, other = os.pipe()
+            self.expect("two", sandbox._files_of(b"a\0b", [one, two]), [("a", b"1234"), ("b", b"5678")])
+            self.expect("three", sandbox._files_of(b"a\0b\0c", [one, two, three]), [])
+            self.expect("a pipe", sandbox._files_of(b"a", [pipe]), [])
+            os.close(pipe)
+            os.close(other)
+
     def test_requests_that_nobody_sends(self) -> None:
         """Whatever is asked for, root answers with a refusal, and reads nothing but regular files."""
         lender = lent_files.Lender([Lent(RootFolder(self.input), replaced=frozenset({("new.txt",)}))])
@@ -480,6 +493,19 @@ class Handover(Rights):
         wanted = {"written": 0o755, "below": 0o755, "open": 0o644, "private": 0o600, "run": 0o644}
         self.expect("modes", {name: stat.S_IMODE(it.st_mode) for name, it in found.items()}, wanted)
         self.expect("owners", {(it.st_uid, it.st_gid) for it in found.values()}, {(0, 0)})
+
+    def test_sizes(self) -> None:
+        """Root and nginx read a registry of 64 KB at most, and a targets.json of a megabyte."""
+        most = {"registry.tsv": 65_536, "targets.json": MB}
+        self.expect("neither", fault_of(lambda: weekly_run._check_sizes(self.top)), "")
+        for name, count in most.items():
+            path = self.top / name
+            path.write_bytes(b"x" * count)
+            self.expect(name, fault_of(lambda: weekly_run._check_sizes(self.top)), "")
+            path.write_bytes(b"x" * (count + 1))
+            wanted = f"Failure: {path}: more than {count:,} bytes"
+            self.expect(f"{name}, one more", fault_of(lambda: weekly_run._check_sizes(self.top)), wanted)
+            path.unlink()
 
     def test_what_is_not(self) -> None:
         """Links, pipes, files with a second name and those of others are not taken."""
