@@ -3,6 +3,7 @@ from __future__ import annotations
 
 import contextlib
 import os
+import re
 import shutil
 import socket
 import stat
@@ -589,12 +590,14 @@ class Runs(Case):
         """All that reads a table runs as a user that is not root, of no group; what it makes is root's."""
         provider = Provider(has_tls=False)
         self.addCleanup(provider.stop)
-        provider.steps = {"/table?key=s3cr3t": [reply(200, TABLE)]}
+        fetched = TABLE.replace(b"Annals", b"Archives")
+        provider.steps = {"/table?key=s3cr3t": [reply(200, fetched)]}
         self.library.write("sources.tsv", f"table.txt\t{provider.address('/table?key={key}')}\tplain http\n")
         self.library.write("secrets.tsv", "key\ts3cr3t\n")
         os.chmod(self.library.folder, 0o700)  # the input is for its staff alone
         status, printed = self.update("--fetch")
         self.expect(f"the run: {printed}", (status, "rights of root" in printed), (0, False))
+        self.expect("what is fetched", self.library.read("table.txt"), fetched)
         noted = self.noted()
         self.expect("what ran", {(name, word) for name, word, *_ in noted}, RAN)
         users = {(user, groups) for _, _, user, groups in noted}
@@ -608,6 +611,18 @@ class Runs(Case):
         self.expect(
             "another table", (self.update()[0], "Port" in (self.library.served("tables/press.txt") or "")), (0, True)
         )
+
+    @needs.root()
+    def test_a_version_that_is_too_large(self) -> None:
+        """What root or nginx would have to read is not taken if it is too large, whoever has made it so."""
+        path = self.bin / "openlink"
+        path.write_text(
+            path.read_text().replace("exec", "[ -e registry.tsv ] || head -c 2000000 /dev/zero >targets.json\nexec")
+        )
+        status, printed = self.update()
+        wanted = r"openlink-update: \S+/targets.json: more than 1,048,576 bytes\n"
+        self.expect(printed, (status, bool(re.search(wanted, printed))), (4, True))
+        self.expect("nothing is in use", os.path.lexists(os.path.join(self.library.library, "current")), False)
 
     @needs.root()
     def test_a_folder_that_is_closed(self) -> None:
