@@ -4,6 +4,7 @@ from __future__ import annotations
 import contextlib
 import os
 import re
+import shlex
 import shutil
 import socket
 import stat
@@ -611,6 +612,21 @@ class Runs(Case):
         self.expect(
             "another table", (self.update()[0], "Port" in (self.library.served("tables/press.txt") or "")), (0, True)
         )
+
+    @needs.root()
+    def test_what_preparing_may_not(self) -> None:
+        """While a version is made, nothing has a socket, and no target has the secrets; what tries it has sockets."""
+        path = self.bin / "openlink"
+        script = "import socket; socket.socket(); print('open')"
+        line = f'echo "$1 $({shlex.join(PYTHON)} -c "{script}" 2>/dev/null)" >>{self.notes}\nexec'
+        path.write_text(path.read_text().replace("exec", line))
+        self.library.write("secrets.tsv", "key\ts3cr3t\n")
+        self.library.targets["spy"] = ("secrets.tsv", "")
+        self.library.write_targets()
+        status, printed = self.update()
+        self.expect(printed, (status, "secrets.tsv: Permission denied" in printed), (1, True))
+        noted = {line for line in self.notes.read_text().splitlines() if not line.startswith("openlink ")}
+        self.expect("sockets", noted, {"compile ", "inspect ", "lint ", "serve open"})
 
     @needs.root()
     def test_a_version_that_is_too_large(self) -> None:
