@@ -55,12 +55,13 @@ def fault_of(call: Callable[[], object]) -> str:
 
 
 def processes_of(number: int) -> list[str]:
-    """The processes of a user that live."""
+    """The processes of a user that live: those that end have no memory any more."""
     found = []
     for name in filter(str.isdigit, os.listdir("/proc")):
         with contextlib.suppress(OSError):
             text = Path(f"/proc/{name}/stat").read_text()
-            if os.stat(f"/proc/{name}").st_uid == number and ") Z" not in text:
+            has_memory = text.rpartition(") ")[2].split()[20] != "0"
+            if os.stat(f"/proc/{name}").st_uid == number and has_memory:
                 found.append(text)
     return found
 
@@ -171,6 +172,12 @@ class Users(Rights):
             self.expect("not root", library_user.claim(self.top, "east"), None)
         with mock.patch("openlink_update.rights.library_user._is_known", lambda _: True):
             self.expect("none is free", library_user.claim(self.top, "east"), None)
+
+    def test_lock(self) -> None:
+        """Nobody else can open the lock, so that no run keeps the rights of root for want of a number."""
+        lock = self.top / library_user.LOCK
+        self.expect("its mode", stat.S_IMODE(lock.stat().st_mode), 0o600)
+        self.expect("another user", self.run_of(lambda _: fault_of(lock.open)), "PermissionError: Permission denied")
 
     def test_last_number(self) -> None:
         """The numbers are those that systemd keeps for such users, 61184 to 65519."""

@@ -2,7 +2,8 @@
 
 It needs no line in /etc/passwd, so it is the same where an older release is upgraded, in a container, and where /etc
 cannot be written. Nothing belongs to it any more when the run has ended, so it need not be remembered. The numbers are
-those that systemd keeps for users of this kind (DynamicUser=)."""
+those that systemd keeps for users of this kind (DynamicUser=). In the folder of all libraries, a run locks the byte of
+its number in the file lock.users, which only root can open."""
 import contextlib
 import ctypes
 import fcntl
@@ -17,6 +18,8 @@ from pathlib import Path
 from typing import IO
 
 _NUMBERS = range(61184, 65520)
+LOCK = "lock.users"
+_OF_ROOT = 0o600  # or anybody could take all numbers
 _PAUSE = 0.01  # seconds
 _WELL = "well"
 _NO_NEW_PRIVILEGES, _DUMPABLE, _DEATH_SIGNAL = 38, 4, 1  # of prctl
@@ -122,7 +125,7 @@ def claim(folder: Path, name: str) -> LibraryUser | None:
     if os.geteuid() != 0:
         return None
     try:
-        lock = open(folder / "lock", "a", encoding="ascii")
+        lock = open(os.open(folder / LOCK, os.O_RDWR | os.O_CREAT | os.O_NOFOLLOW, _OF_ROOT), "r+", encoding="ascii")
     except OSError:
         return None
     in_use, first = set(_numbers_in_use()), zlib.crc32(name.encode()) % len(_NUMBERS)

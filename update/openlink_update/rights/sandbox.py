@@ -311,7 +311,7 @@ def of(folder: Path, library: Path, limits: Limits, paths: Sequence[Path]) -> Sa
     given = filter(None, [os.environ.get("CURL_CA_BUNDLE"), os.environ.get("SSL_CERT_FILE")])
     needed = [*paths, *map(Path, (sys.executable, os.path.dirname(os.__file__), *given))]
     if user is None:
-        fault = f"no user is free, or {folder / 'lock'} cannot be written"
+        fault = f"no user is free, or {folder / library_user.LOCK} cannot be written"
     else:
         fault = user.fault([path for path in needed if path.exists()])
     if fault:
