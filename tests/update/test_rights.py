@@ -33,6 +33,7 @@ from openlink_update.rights import library_user
 from openlink_update.rights import limits
 from openlink_update.rights import sandbox
 from openlink_update.rights.lent_files import Lent
+from openlink_update.rights.library_user import LibraryUser
 from openlink_update.rights.limits import DiskLimit
 from openlink_update.rights.limits import Limits
 from openlink_update.rights.sandbox import Job
@@ -211,6 +212,17 @@ class Users(Rights):
         self.expect("its result", self.run_of(work), "begun")
         self.expect("no process is left", processes_of(self.user.number), [])
 
+    def test_a_process_that_does_not_end(self) -> None:
+        """Nothing is taken over from a user that still runs something after a minute."""
+        self.expect("as it is", library_user._SECONDS_TO_END, 60)
+        kill, begun = LibraryUser._kill_all, time.monotonic()
+        with mock.patch.object(LibraryUser, "_kill_all", lambda _: None), contextlib.ExitStack() as stack:
+            stack.enter_context(mock.patch.object(library_user, "_SECONDS_TO_END", 0.5))
+            got = self.run_of(lambda _: str(subprocess.Popen(["sleep", "1000"])))
+            self.expect("what is said", got, f"Failure 4: a process of the user {self.user.number} does not end")
+            self.expect("in time", 0.5 <= time.monotonic() - begun < patience(20))
+        kill(self.user)
+
     def test_without_root(self) -> None:
         """Without another user, the function is called as it is, and so is what comes at its pause."""
         seen: list[object] = []
@@ -304,6 +316,41 @@ class LentFiles(Rights):
             self.expect("a pipe", sandbox._files_of(b"a", [pipe]), [])
             os.close(pipe)
             os.close(other)
+
+    def test_replies_that_nobody_takes(self) -> None:
+        """A function that asks and asks, and takes no reply, is ended after ten seconds."""
+        self.expect("as it is", sandbox._SECONDS_TO_SEND, 10)
+
+        def work(parent: Parent) -> str:
+            root = parent.lent(RootFolder(self.input))
+            assert isinstance(root, lent_files.LentFolder)
+            while True:
+                root._peer.send(b"f0\0none.txt")
+
+        with mock.patch.object(sandbox, "_SECONDS_TO_SEND", 0.5):
+            begun = time.monotonic()
+            said = "Failure 4: it does not take the replies that it asks for, so it was ended"
+            self.expect("what is said", self.run_of(work), said)
+            self.expect("in time", 0.5 <= time.monotonic() - begun < patience(20))
+
+        def fall_silent(parent: Parent) -> str:
+            root = parent.lent(RootFolder(self.input))
+            assert isinstance(root, lent_files.LentFolder)
+            root._peer.send(b"")
+            return str(time.sleep(1000))
+
+        with mock.patch.object(sandbox, "_SECONDS_TO_SEND", 0.5):
+            said = "Failure 4: it says nothing more, so it was ended"
+            self.expect("one that says nothing more", self.run_of(fall_silent), said)
+
+        def leave(parent: Parent) -> str:
+            root = parent.lent(RootFolder(self.input))
+            assert isinstance(root, lent_files.LentFolder)
+            for _ in range(10):
+                root._peer.send(b"f0\0none.txt")
+            os._exit(0)
+
+        self.expect("one that leaves", self.run_of(leave), "Failure 4: it was ended by status 0")
 
     def test_requests_that_nobody_sends(self) -> None:
         """Whatever is asked for, root answers with a refusal, and reads nothing but regular files."""

@@ -17,10 +17,12 @@ from collections.abc import Iterable, Iterator
 from pathlib import Path
 from typing import IO
 
+from openlink_update.outcome import DEVICE, Failure
+
 _NUMBERS = range(61184, 65520)
 LOCK = "lock.users"
 _OF_ROOT = 0o600  # or anybody could take all numbers
-_PAUSE = 0.01  # seconds
+_PAUSE, _SECONDS_TO_END = 0.01, 60
 _WELL = "well"
 _NO_NEW_PRIVILEGES, _DUMPABLE, _DEATH_SIGNAL = 38, 4, 1  # of prctl
 _LIBC = ctypes.CDLL(None)
@@ -74,12 +76,14 @@ class LibraryUser:
         return numbers == {self.number} and self.number in _NUMBERS
 
     def end_all(self) -> None:
-        """Ends all processes that it has, and waits until none lives."""
-        while True:
+        """Ends all processes that it has, and waits until none lives. A Failure if one does not end."""
+        end = time.monotonic() + _SECONDS_TO_END
+        while time.monotonic() < end:
             self._kill_all()
             if self.number not in set(_numbers_in_use()):
                 return
             time.sleep(_PAUSE)
+        raise Failure(f"a process of the user {self.number} does not end", DEVICE)
 
     def _kill_all(self) -> None:
         parent, child = os.getpid(), os.fork()
