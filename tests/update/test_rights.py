@@ -390,6 +390,10 @@ class LentFiles(Rights):
 
         self.expect("one after the other", (self.run_of(work, at_pause=between), seen), ("after True", ["0 True"]))
 
+        box = self.box_of(Limits(seconds=1))
+        got = self.run_of(lambda parent: str(parent.pause()), box, at_pause=lambda: time.sleep(1.5))
+        self.expect("the time of root's part does not count", got, "None")
+
         def fail() -> None:
             raise Failure("no restart")
 
@@ -666,6 +670,17 @@ class Runs(Case):
         self.expect(
             "another table", (self.update()[0], "Port" in (self.library.served("tables/press.txt") or "")), (0, True)
         )
+
+    @needs.root()
+    def test_a_fetch_that_does_not_end(self) -> None:
+        """It is ended, and the update goes on with the files that are there."""
+        (self.bin / "curl").write_text("#!/bin/sh\ntrap '' TERM\nsleep 1000\n")
+        self.library.write("sources.tsv", "table.txt\thttps://press.example.com/table\n")
+        minutes = round(patience(4) / 60, 3)
+        status, printed = self.update("--fetch", "--minutes", str(minutes))
+        line = f"the fetch was ended: no end within {minutes * 2:g} minutes, so it was ended"
+        self.expect(printed, (status, line in printed.splitlines()), (1, True))
+        self.expect("the version", "Annals" in (self.library.served("tables/press.txt") or ""))
 
     @needs.root()
     def test_what_preparing_may_not(self) -> None:
