@@ -9,6 +9,7 @@ from pathlib import Path
 from openlink_update import children
 from openlink_update.exports import export_files
 from openlink_update.fetch import sources
+from openlink_update.index import abbreviations
 from openlink_update.input_files import InputFolder
 from openlink_update.outcome import ALL_NEW, KEPT, Failure, ignore_signals
 from openlink_update.received import archives
@@ -47,11 +48,12 @@ class Run:
         """Makes a version from a folder and, unless it is only a trial, puts it in use. Returns the exit status."""
         targets = target_list.read(folder)
         names = [target.name for target in targets]
-        for line in (*self.names_file.differences(names, folder), *_unused(folder, targets)):
+        pairs, faults = abbreviations.read(folder)
+        for line in (*self.names_file.differences(names, folder), *_unused(folder, targets), *faults):
             report(line)
         return self._next_version(
             folder,
-            lambda maker: maker.make(targets, self._site.has_list),
+            lambda maker: maker.make(targets, self._site.has_list, pairs),
             lambda: self.library.remove_old(most),
             is_trial,
             tries_all=True,

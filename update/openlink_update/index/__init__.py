@@ -1,3 +1,3 @@
 """The index of a version, by which the front door finds titles."""
 
-__all__ = ["title_addresses", "title_groups", "title_index", "title_rows", "titles"]
+__all__ = ["abbreviations", "title_addresses", "title_groups", "title_index", "title_rows", "titles"]
