@@ -38,10 +38,10 @@ function initialsOf(words) {
 
 // How a word fits one of a title: 2 as its beginning, 1 as what is left of it without some letters, 0 not at all. A
 // short word with a vowel, such as `med`, is never the latter. One letter fits any word, but `j` a journal alone.
-const ALONE = { j: /^jo?u?rna/, z: /^zeits/ };
+const ALONE = { j: ['journ', 'jorn'], z: ['zeits'] };
 function fit(word, whole) {
-    const form = word.length === 1 && whole !== word ? texts.own(ALONE, word) : undefined;
-    if (whole.startsWith(word)) return form === undefined || is(form, whole) ? 2 : 0;
+    const forms = word.length === 1 && whole !== word ? texts.own(ALONE, word) : undefined;
+    if (whole.startsWith(word)) return forms === undefined || forms.some((it) => whole.startsWith(it)) ? 2 : 0;
     if (word.length < 3 || (word.length < 4 && is(/[aeiouy]/, word))) return 0;
     let at = -1;
     for (let i = 0; i < word.length; i++) {

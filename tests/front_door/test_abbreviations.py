@@ -14,6 +14,7 @@ from fixtures.titles_case import main_of
 
 # A title whose row has an address with a DOI, and a publisher.
 SIGNED, SIGNS = "Revista Española de Cardiología", ("https://e.org/10.5555/rec", "The Spanish Press")
+UNDATED = "Yearbook of Yews"  # without dates
 LIST = Path(__file__).parent / "abbreviations.tsv"
 
 
@@ -38,6 +39,7 @@ class Many(TitlesCase):
         cls.titles = {issn(number): name for number, name in enumerate(dict.fromkeys(cls.names()))}
         rows = [journal(name, number, first="1950", last="2010") for number, name in cls.titles.items()]
         rows = [(*row, *SIGNS) if row[0] == SIGNED else row for row in rows]
+        rows = [journal(*row[:2]) if row[0] == UNDATED else row for row in rows]
         Path(site.path("tables/many.txt")).write_bytes(table(*rows))
         site.write("many.tsv", f"{site.read('registry.tsv')}many\tnone.olk\ttables/many.txt\n")
         write_index(site.path("many.tsv"), site.folder, site.path("many"))
@@ -53,6 +55,17 @@ class Many(TitlesCase):
 
 
 class Abbreviations(Many):
+    @staticmethod
+    def names() -> list[str]:
+        """With fifty of one key, and 49 of another."""
+        crowded = [f"Xylem Yam{at}" for at in range(49)] + [f"Zebra Yam{at}" for at in range(48)]
+        return [*Many.names(), *crowded, "Xylem Yard", "Zebra Yard", UNDATED]
+
+    def test_crowded_keys(self) -> None:
+        """Of as many lines as a key can have nobody knows whether there are more."""
+        for short, wanted in (("Zebr+Yard", ("Zebra Yard", [])), ("Xyl+Yard", (None, ["Xylem Yard"]))):
+            self.expect(short, self.found(f"jtitle={short}&date=1995"), wanted)
+
     def test_usual_ones(self) -> None:
         """With a year, a title that is alone is taken; without one it is only offered."""
         alone, among = 0, 0
@@ -80,12 +93,23 @@ class Abbreviations(Many):
             ("id=doi:10.5555/rec.1", True),
             ("id=doi:10.5556/rec.1", False),
             ("volume=5", False),
+            ("date=last+year", False),
             ("date=1995&genre=book", False),
             ("date=1995&issn=1234-5679", False),
         ):
             taken, offered = self.found(f"{short}&{sign}")
             self.expect(f"with {sign}", taken == title, is_taken)
             self.expect(f"with {sign}: offered", offered == [title], not is_taken and "book" not in sign)
+
+    def test_numbers(self) -> None:
+        """A request with a number that no table has gets no other one."""
+        query = "jtitle=Rev+Esp+Cardiol&date=1995&issn=1234-5679"
+        page = self.site.get(f"/find?{query}").text
+        self.expect("a question", ("Found by its title" in page, "Do you mean one of them?" in page), (False, True))
+
+    def test_no_dates(self) -> None:
+        """A year agrees with no title whose first year is not known."""
+        self.expect("with a year", self.found("jtitle=Yearb+Yews&date=1995"), (None, [UNDATED]))
 
     def test_whole_titles(self) -> None:
         """A title that lacks only brackets, stop words or a subtitle is not abbreviated, and is only offered."""

@@ -132,6 +132,9 @@ class Lines(Case):
             "Annals of Tides\t2901-0012\t1990-01-01\t1999\tTidal Press\thttps://e.org/doi/10.5555/at\tserial",
             "Annals of Tides\t2901-0012\t2001\t2005-01\tTidal Press Ltd.\thttps://e.org/10.1234%2Fx\tserial",
             "Letters on Locks\t2901-0020\t1990\t\t\t\tserial",
+            "Letters on Locks\t2901-0020\t1980\t1985\t\t\tserial",
+            "Notes on Nets\t2901-0039\t1990\t1995\t\t\tserial",
+            "Notes on Nets\t2901-0039\t\t1985\t\t\tserial",
             "A Book of Buoys\t9781234560102\t1990\t\tTidal Press\t\tmonograph",
         )
         text = "\n".join([f"{header}\ttitle_url\tpublication_type", *rows])
@@ -154,8 +157,11 @@ class Lines(Case):
                 ],
             )
             self.expect(
-                "of one", found.of_key("^ll lo"), [["j", "Letters on Locks", "2901-0020", "letters locks", "1990 -"]]
+                "without a last year",
+                found.of_key("^ll lo"),
+                [["j", "Letters on Locks", "2901-0020", "letters locks", "1980 -"]],
             )
+            self.expect("without a first year", found.of_key("^nn ne")[0][4], "- 1995")
             self.expect("of a book", found.of_key("^bb bu"), [])
 
     def test_signs(self) -> None:
