@@ -1,6 +1,7 @@
 // What a request lacks, from the library's index and from the services that know its DOI or PubMed number: its
 // numbers, its title, the other numbers of that title. The same for the page, the log and the staff. text.js says in
 // which njs it runs.
+import abbreviations from './abbreviations.js';
 import exchange from './exchange.js';
 import index from './index.js';
 import lookup from './lookup.js';
@@ -45,7 +46,15 @@ async function addNumbers(r, q) {
         if (found.length === 1) addNumbersOf(q, found[0]);
         if (found.length > 0) return named;
     }
+    if (keys.length > 0) await addAbbreviated(r, q, true);
     return named;
+}
+// The titles that the request may abbreviate. One alone gives its numbers if the request agrees by another sign.
+async function addAbbreviated(r, q, mayAdd) {
+    if (q.kind === 'b') return;
+    const found = await abbreviations.titlesOf(r, q, titlesAsked(q));
+    q.abbreviated = found.titles;
+    if (mayAdd && found.isCertain) addNumbersOf(q, found.titles[0]);
 }
 function addNumbersOf(q, title) {
     q.byTitle = title;
@@ -134,7 +143,10 @@ async function addMaybe(r, q, known) {
     if (q.titles.length > 0 || titlesAsked(q).length === 0) return;
     const named = known || await index.titlesOfAll(r, keysAsked(q).map((key) => '=' + key));
     const isOfKind = ofKind(q, named).length > 0;
-    const similar = isOfKind ? NONE : await index.titlesOfAll(r, similarKeys(q));
+    if (!isOfKind && q.abbreviated === undefined) await addAbbreviated(r, q, false);
+    const abbreviated = isOfKind ? NONE : q.abbreviated || NONE;
+    const isFound = isOfKind || abbreviated.length > 0;
+    const similar = isFound ? abbreviated : await index.titlesOfAll(r, similarKeys(q));
     const all = index.distinct(named.concat(similar));
     const found = ofKind(q, all);
     q.maybe = (found.length > 0 ? found : all).slice(0, MOST_MAYBE);

@@ -109,12 +109,16 @@ function titleOf(kind, cells) {
         pages: pages.map(pageAt), related: others.slice(pages.length).map(relatedOf)
     };
 }
-// The titles of a number, or of a title's key after `=`, or of one without its subtitle after `~`.
-async function titlesOf(r, key) {
+// The lines of a number, or of a title's key after `=`, of one without its subtitle after `~`, of initials after `^`.
+async function cellsOf(r, key) {
     const digits = hashed(key, KEY_DIGITS + HASH_DIGITS);
-    const name = is(/^[=~]/, key) ? key.charAt(0) + digits.slice(KEY_DIGITS) : key;
+    const name = is(/^[=~^]/, key) ? key.charAt(0) + digits.slice(KEY_DIGITS) : key;
     const bytes = await bytesOf(r, 'keys/' + digits.slice(0, KEY_DIGITS));
-    return linesWith(bytes, name + '\t', MOST_LINES).map((cells) => titleOf(cells[1], cells.slice(2)));
+    return linesWith(bytes, name + '\t', MOST_LINES);
+}
+async function titlesOf(r, key) {
+    const lines = await cellsOf(r, key);
+    return lines.map((cells) => titleOf(cells[1], cells.slice(2)));
 }
 async function titlesOfAll(r, keys) {
     const lists = await Promise.all(keys.map((key) => titlesOf(r, key)));
@@ -177,6 +181,6 @@ async function pageOf(r, kind, number) {
 }
 
 export default {
-    PAGE, hashed, bytesOf, linesWith, targetOf, rowOf, titleOf, titlesOf, titlesOfAll, distinct, isThere, lettersOf,
-    startsOf, partsOfPage, lineOfPage, pageOf
+    PAGE, MOST_LINES, hashed, bytesOf, linesWith, targetOf, rowOf, titleOf, cellsOf, titlesOf, titlesOfAll, distinct,
+    isThere, lettersOf, startsOf, partsOfPage, lineOfPage, pageOf
 };

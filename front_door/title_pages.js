@@ -6,7 +6,6 @@ import index from './index.js';
 import texts from './text.js';
 import words from './words.js';
 
-const HTTPS = /^https:\/\/[\x21-\x7e]+$/;
 const MOST_ROWS = 4;  // whose coverage is shown
 
 // Whether a journal's article is named so well that a target without a link does not have it.
@@ -36,7 +35,7 @@ function pagesOf(q, groups, site) {
     const year = q.first('rft.date').slice(0, 4);
     const found = [];
     q.titles.forEach((title) => { title.pages.forEach((page) => {
-        if (known[page.target] === true || !texts.is(HTTPS, page.url)) return;
+        if (known[page.target] === true || !page.url.startsWith('https:') || !texts.isWeb(page.url)) return;
         const rows = title.rows.map(index.rowOf).filter((row) => row.target === page.target && mayBe(row, year));
         if (rows.length === 0) return;
         known[page.target] = true;

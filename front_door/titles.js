@@ -84,4 +84,4 @@ function writtenOut(title) {
 // A title without its subtitle, or without brackets at its end.
 function shorter(title) { return plain(title.slice(0, MOST_CHARACTERS)).replace(END, ''); }
 
-export default { plain, wordsOf, keyOf, shorter, writtenOut };
+export default { MOST_CHARACTERS, plain, wordsOf, keyOf, shorter, writtenOut };

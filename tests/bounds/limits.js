@@ -97,7 +97,8 @@ async function testSimilar(name, keys, expected) {
     const r = requestWith(args, { '~coast': ['j\tCoast\t1000-0010\t'] });
     const q = await completion.queryOf(r);
     expect('completion', keys + ' keys of similar titles', q.maybe.length, expected);
-    expect('completion', 'keys that are sought, of ' + keys, readBelow(r, '/index/keys/'), 2 + 16);
+    // Those of both titles, the initials of the shorter one, and similar ones.
+    expect('completion', 'keys that are sought, of ' + keys, readBelow(r, '/index/keys/'), 2 + 1 + 16);
 }
 async function testLetters(most, expected) {
     const title = 'Coast: ' + repeated('a', most - 7);

@@ -33,7 +33,6 @@ NOT_KNOWN = [
     "au=Smith",
     "rft_id=info:oclcnum/123",
     "title=Annals+of+Tidal",
-    "rft.stitle=Ann+Tidal+Stud",
     "issn=unknown&volume=3",
 ]
 

@@ -207,9 +207,10 @@ class GoodWeeks(Case):
             second, today = library.current(), datetime.date.today()
             old, new = (today - datetime.timedelta(days) for days in (400, 20))
             for date, links in ((old, ["coastal-law"]), (old.year, ["coastal-law"]), (f"{old:%Y-%m}", ["coastal-law"]),
-                                (new, []), (f"{new}&coverage_to=99999999&x.from=20000101", []), ("", []), (1999, [])):
+                                (new, []), (f"{new}&coverage_to=99999999&x.from=20000101", []), ("", ["coastal-law"]),
+                                (1999, [])):
                 self.expect(f"readers of {date}", shown(library, "3040-0005", date), links)
-            days = f"x.from={new:%Y%m%d}&x.to={new:%Y%m%d}&coverage_from=0&coverage_to=99999999"
+            days = f"rft.date={new}&x.from={new:%Y%m%d}&x.to={new:%Y%m%d}&coverage_from=0&coverage_to=99999999"
             self.expect("a request to the program", library.menu(library.site.ports[0], f"rft.issn=3040-0005&{days}"),
                         {})
             self.expect("walls of today", library.run("--walls"), (0, f"nothing new: {second} stays in use\n"))

@@ -112,6 +112,26 @@ class IndexWeeks(Case):
             self.expect("back", (library.run("--back")[0], targets(library, query), pages(library)),
                         (0, ["coastal-law"], []))
 
+    def test_abbreviations(self) -> None:
+        """The library's own list: it goes forward and back with the version, and a slip is said."""
+        query = "/find.json?title=PoP&volume=5&date=1994"
+        with Library() as library:
+            self.expect("without a list", targets(library, query), [])
+            library.input.write("abbreviations.tsv", b"P.o.P.\tNone\nPoP\tPapers on Piers\nslip\n")
+            status, printed = library.run()
+            self.expect(f"with one: {printed}", (status, targets(library, query)), (0, ["coastal-law"]))
+            place = library.input.path("abbreviations.tsv")
+            self.expect_lines("what is wrong", printed, "abbreviations.tsv: no table has None",
+                              f"{place}: line 3: not an abbreviation and a title with a tab between them")
+            self.expect("nothing new", library.run()[1].splitlines()[-1][:11], "nothing new")
+            library.input.write("abbreviations.tsv", b"PoP\t\xff\n")
+            status, printed = library.run()
+            self.expect_lines("not readable", printed, f"{place}: not UTF-8: the old one is kept")
+            self.expect("the old one", (status, targets(library, query)), (0, ["coastal-law"]))
+            os.unlink(place)
+            self.expect("no list any more", (library.run()[0], targets(library, query)), (0, []))
+            self.expect("back", (library.run("--back")[0], targets(library, query)), (0, ["coastal-law"]))
+
     def test_many_titles(self) -> None:
         """As many titles as make a file in most places of keys/: all are there once the version is in use."""
         with Library() as library:

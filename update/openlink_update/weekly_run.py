@@ -9,6 +9,7 @@ from pathlib import Path
 from openlink_update import children
 from openlink_update.exports import export_files
 from openlink_update.fetch import sources
+from openlink_update.index import abbreviations
 from openlink_update.input_files import InputFolder
 from openlink_update.outcome import ALL_NEW, DEVICE, KEPT, Failure, ignore_signals
 from openlink_update.received import archives
@@ -86,9 +87,10 @@ class Run:
         def make(maker: Maker, folder: InputFolder) -> str:
             targets = target_list.read(folder)
             names = [target.name for target in targets]
-            for line in (*self.names_file.differences(names, folder), *_unused(folder, targets)):
+            pairs, faults = abbreviations.read(folder)
+            for line in (*self.names_file.differences(names, folder), *_unused(folder, targets), *faults):
                 report(line)
-            maker.make(targets, self._site.has_list)
+            maker.make(targets, self._site.has_list, pairs)
             return _NEW
 
         return self._next_version(_Plan(folder, make, lambda: self.library.remove_old(most), is_trial, tries_all=True))

@@ -15,12 +15,13 @@ _MOST_NUMBERS = 40
 _MOST_ROWS = 200
 _MOST_RELATED = 5  # earlier titles, and later ones
 _MOST_ADDRESSES = 20  # one of each target
+_MOST_SIGNS = 6
 _parts_of = functools.lru_cache(maxsize=1024)(article_and_key)  # the next row often has the same title
 
 
 class Title:
-    """Its forms of numbers, its coverage and its addresses are texts, since lists of a quarter of a million titles are
-    large."""
+    """Its forms of numbers, its coverage, its addresses and its signs are texts, since lists of a quarter of a million
+    titles are large."""
 
     __slots__ = (
         "name",
@@ -31,6 +32,7 @@ class Title:
         "forms",
         "coverage",
         "addresses",
+        "signs",
         "left_out",
         "into",
     )
@@ -39,6 +41,7 @@ class Title:
         self.name = name
         self.article, self.key = _parts_of(name)
         self.is_journal, self.columns, self.forms, self.coverage, self.addresses = False, 0, "", "", ""
+        self.signs = ""  # its publishers and the beginnings of its DOIs, with tabs between them
         self.left_out: frozenset[str] = frozenset()  # targets with too many rows
         self.into: Title | None = None  # the title that this one was joined to
 
@@ -77,11 +80,22 @@ class Title:
                 known.setdefault(entry.partition(" ")[0], entry)
         self.addresses = "\t".join(known.values())
 
+    def add_signs(self, signs: Iterable[str]) -> None:
+        known = dict.fromkeys(filter(None, (*self.signs.split("\t"), *signs)))
+        self.signs = "\t".join(list(known)[:_MOST_SIGNS])
+
+    def years(self) -> str:
+        """The first and the last year of all rows; `-` is one that is not known, or none."""
+        entries = [entry.split(" ") for entry in self.coverage.split(";")]
+        first, last = ([entry[place][:4] if len(entry) > place else "-" for entry in entries] for place in (2, 3))
+        return f"{'-' if '-' in first else min(first)} {'-' if '-' in last else max(last)}"
+
     def take(self, other: "Title") -> None:
         """Joins another title to this one."""
         other.into = self
         self.add(other.forms, other.columns, other.is_journal, other.coverage)
         self.add_addresses(other.addresses)
+        self.add_signs(other.signs.split("\t"))
         self.left_out |= other.left_out
 
     def coverage_text(self) -> str:
@@ -144,6 +158,8 @@ class Titles:
             title.add(" ".join(row.numbers), row.columns, row.is_journal, row.coverage)
             if row.address:
                 title.add_addresses(row.address)
+            if row.is_journal:
+                title.add_signs((row.publisher, row.prefix))
             if row.title_id:
                 self._ids.setdefault(row.title_id, title)
             if row.preceding_id:

@@ -1,17 +1,21 @@
 """The index of a version: its titles by number, by title and by word, for the front door. docs/INDEX.md has an overview
 of the files. Run as a program it makes the index of the tables that a registry names: title_index.py REGISTRY FOLDER
 
-A line of keys/ has these cells, the last ones only if KEY is a number:
+A line of keys/ has these cells, the last ones only if KEY is a number, or denotes initials:
 
     KEY  KIND  TITLE  NUMBERS  COVERAGE  ADDRESS..  RELATED..
+    KEY  KIND  TITLE  NUMBERS  WORDS     YEARS      SIGN..
 
 KEY is a number: an ISSN with hyphen and capital X, or an ISBN of thirteen digits; the first three digits of its MD5 sum
-name the file. Or it denotes the key of a title (`=`), or one that is like it (`~`): the key of the title without its
-subtitle, and of this with its umlauts as two letters. Then the MD5 sum is that of the sign and the key: its first three
-digits name the file, and KEY is the sign and the next thirteen. ADDRESS is `@`, a target, a space and the address of
-its page of the title, at most twenty (title_addresses.py says which targets have some). RELATED is `<` or `>`, a
-number, a space and a title: an earlier (`<`) or later title by preceding_publication_title_id, at most five of each. A
-key has at most _MOST_LINES, and after the first one at most _MOST_BYTES of them.
+name the file. Or it denotes a title: by its key, or that of an abbreviation of the library's own list (`=`); by one
+that is like it (`~`), which is the key of the title without its subtitle, and of this with its umlauts as two letters;
+or, if it is a journal, by its initials (`^`), with the further cells that short_titles.py describes. Then the MD5 sum
+is that of the sign and the key: its first three digits name the file, and KEY is the sign and the next thirteen.
+
+ADDRESS is `@`, a target, a space and the address of its page of the title, at most twenty (title_addresses.py says
+which targets have some). RELATED is `<` or `>`, a number, a space and a title: an earlier (`<`) or later title by
+preceding_publication_title_id, at most five of each. A key has at most _MOST_LINES, and after the first one at most
+_MOST_BYTES of them.
 """
 import collections
 import os
@@ -19,8 +23,10 @@ import sys
 from collections.abc import Iterable, Iterator, Mapping
 from pathlib import Path
 
-from openlink_update.index import title_list, word_sets
+from openlink_update.index import abbreviations, title_list, word_sets
+from openlink_update.index.abbreviations import Pairs
 from openlink_update.index.index_files import digest, write_lines
+from openlink_update.index.short_titles import keys_of
 from openlink_update.index.title_addresses import NO_OFFER, Offer
 from openlink_update.index.title_groups import Related, Title, Titles
 from openlink_update.index.titles import short_key, written_key, written_out
@@ -45,15 +51,16 @@ def make(
     has_list: bool,
     tables: Iterable[tuple[str, Table]],
     offers: Mapping[str, Offer] | None = None,
+    pairs: Pairs | None = None,
 ) -> list[Title]:
     """Makes the index of tables, pairs of a target's name and its table without walls, in its folder. `offers` says by
-    target which addresses it has. Returns the titles."""
+    target which addresses it has, and `pairs` are the library's own abbreviations. Returns the titles."""
     titles = Titles()
     for target, table in tables:
         titles.add_table(target, table, (offers or {}).get(base_of(target), NO_OFFER))
     found = titles.finish()
     del titles
-    _write_keys(Path(folder, "keys"), found.titles, found.related)
+    _write_keys(Path(folder, "keys"), found.titles, found.related, pairs or {})
     if has_list:
         for kind in "jb":
             _write_kind(Path(folder), kind, title_list.ordered(it for it in found.titles if it.kind == kind))
@@ -68,23 +75,28 @@ def _write_kind(folder: Path, kind: str, titles: list[Title]) -> None:
     word_sets.write_words(folder / "words" / kind, pages, digits)
 
 
-def _write_keys(folder: Path, titles: list[Title], related: dict[Title, Related]) -> None:
+def _write_keys(folder: Path, titles: list[Title], related: dict[Title, Related], pairs: Pairs) -> None:
     folder.mkdir(parents=True)
     buckets: dict[str, bytearray] = collections.defaultdict(bytearray)
     for title in titles:
-        for name, line in _lines_of(title, related.get(title)):
+        for name, line in _lines_of(title, related.get(title), abbreviations.keys_of(title, pairs)):
             buckets[name] += f"{line}\n".encode()
     while buckets:
         name, text = buckets.popitem()
         write_lines(folder / name, _few_of_each_key(sorted(bytes(text[:-1]).split(b"\n"))))
 
 
-def _lines_of(title: Title, related: Related | None) -> Iterator[tuple[str, str]]:
+def _lines_of(title: Title, related: Related | None, short: list[str]) -> Iterator[tuple[str, str]]:
     """The lines of a title, each after the name of its file."""
     cells = f"{title.kind}\t{title.name}\t{title.forms}"
-    for name in [f"={title.key}"] * (title.key != "") + [f"~{key}" for key in _similar_keys(title)]:
+    names = [f"={key}" for key in (title.key, *short) if key]
+    for name in names + [f"~{key}" for key in _similar_keys(title)]:
         digits = digest(name)
         yield digits[:_DIGITS], f"{name[0]}{digits[_DIGITS:_KEY_DIGITS]}\t{cells}"
+    for key, words in keys_of(title.name) if title.is_journal else ():
+        digits = digest(f"^{key}")
+        signs = f"\t{title.signs}" if title.signs else ""
+        yield digits[:_DIGITS], f"^{digits[_DIGITS:_KEY_DIGITS]}\t{cells}\t{words}\t{title.years()}{signs}"
     cells += f"\t{title.coverage_text()}{_addresses_of(title)}{_text_of(related) if related else ''}"
     for number in title.numbers():
         yield digest(number)[:_DIGITS], f"{number}\t{cells}"

@@ -7,7 +7,8 @@ import dataclasses
 from collections.abc import Iterator
 
 from openlink_update.index.title_addresses import NO_OFFER, Offer
-from openlink_update.index.titles import MOST_CHARACTERS, plain
+from openlink_update.index.short_titles import prefix_in
+from openlink_update.index.titles import MOST_CHARACTERS, key_of, plain
 from openlink_update.tables.embargo import Embargo
 from openlink_update.tables.identifiers import form_of, is_issn
 from openlink_update.tables.parts import base_of
@@ -15,6 +16,7 @@ from openlink_update.tables.row_dates import NONE, date_in
 from openlink_update.tables.table import Table, cell
 
 PRINT, ONLINE = 1, 2
+_MOST_OF_A_PUBLISHER = 60  # characters
 _COLUMNS = (
     "publication_title",
     "print_identifier",
@@ -26,6 +28,7 @@ _COLUMNS = (
     "title_id",
     "preceding_publication_title_id",
     "title_url",
+    "publisher_name",
 )
 
 
@@ -39,6 +42,8 @@ class Row:
     title_id: str
     preceding_id: str
     address: str  # that of the title's page, after the target; '' if the index has none
+    publisher: str  # as a key; '' for a book
+    prefix: str  # the beginning of DOIs that the row has; '' for a book
 
 
 def rows_of(target: str, table: Table, offer: Offer = NO_OFFER) -> Iterator[Row]:
@@ -51,7 +56,7 @@ def rows_of(target: str, table: Table, offer: Offer = NO_OFFER) -> Iterator[Row]
 
 
 def _row_of(target: str, number: int, cells: list[str], offer: Offer) -> Row | None:
-    title, printed, online, first, last, embargo, kind, title_id, preceding_id, page = cells
+    title, printed, online, first, last, embargo, kind, title_id, preceding_id, page, publisher = cells
     forms: list[str] = []
     columns = 0
     for form, column in ((form_of(printed), PRINT), (form_of(online), ONLINE)):
@@ -67,7 +72,8 @@ def _row_of(target: str, number: int, cells: list[str], offer: Offer) -> Row | N
     is_journal = _is_journal(kind, forms)
     address = offer.address("j" if is_journal else "b", page) if offer.kinds else ""
     named = f"{base_of(target)} {address}" if address else ""
-    return Row(title, forms, columns, is_journal, coverage, title_id, preceding_id, named)
+    signs = (key_of(publisher[:_MOST_OF_A_PUBLISHER]), prefix_in(page, title_id)) if is_journal else ("", "")
+    return Row(title, forms, columns, is_journal, coverage, title_id, preceding_id, named, *signs)
 
 
 def _is_journal(kind: str, forms: list[str]) -> bool:

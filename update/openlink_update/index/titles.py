@@ -162,13 +162,18 @@ def written_key(title: str) -> str:
     return key_of(text) if text and text != plain(title[:MOST_CHARACTERS]).lower() else ""
 
 
-def short_key(title: str) -> str:
-    """The key without the subtitle, or without brackets at the end; '' if there are none."""
+def short(title: str) -> str:
+    """A title without its subtitle, or without brackets at its end; '' if there are none."""
     text = plain(title[:MOST_CHARACTERS])
     if not _MAY_END.search(text):
         return ""
-    short = _END.sub("", text, count=1)
-    return key_of(short) if short != text else ""
+    found = _END.sub("", text, count=1)
+    return found if found != text else ""
+
+
+def short_key(title: str) -> str:
+    """The key without the subtitle, or without brackets at the end; '' if there are none."""
+    return key_of(short(title))
 
 
 if __name__ == "__main__":

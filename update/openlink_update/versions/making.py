@@ -12,6 +12,7 @@
     allowed.tsv            a target, words of its line that allow warnings, and the number up to which they do
     hosts.tsv              see host_judge.py
     undated.tsv            see undated_links.py
+    abbreviations.tsv      see abbreviations.py
     index/                 the index of titles, for the front door
     prepared/              only until the index and the exports are made: see prepared_tables.py
 
@@ -27,7 +28,7 @@ import shutil
 from collections.abc import Callable, Iterable, Iterator
 from pathlib import Path
 
-from openlink_update.index import named_parts, title_index
+from openlink_update.index import abbreviations, named_parts, title_index
 from openlink_update.index.title_groups import Title
 from openlink_update.input_files import InputFile
 from openlink_update.outcome import Failure, Refused
@@ -155,8 +156,9 @@ class Maker:
         self._judge = Judge(self._folder, self._older, program, today)
         self._earlier = EarlierFiles(self._older)
 
-    def make(self, targets: list[Target], has_list: bool) -> None:
-        """Makes all but the index, which has the list of titles, or has not."""
+    def make(self, targets: list[Target], has_list: bool, pairs: bytes | None = b"") -> None:
+        """Makes all but the index, which has the list of titles, or has not. `pairs` are the library's own
+        abbreviations; None: those of the older version."""
         for target in targets:
             self._add(target)
         for name in self._names_before():
@@ -164,7 +166,7 @@ class Maker:
                 self._report(f"{name}: gone, since the list does not name it")
         if not self.names:
             raise Failure("no target is left")
-        self._finish(has_list)
+        self._finish(has_list, self._pairs_before() if pairs is None else pairs)
 
     def move_walls(self, has_list: bool) -> None:
         """Makes all but the index from the files of the older version, with the walls of today."""
@@ -177,13 +179,18 @@ class Maker:
         self._judge.keep_all()
         if self._older is not None and (self._older / "changes").is_dir():
             shutil.copytree(self._older / "changes", self._folder / "changes")
-        self._finish(has_list)
+        self._finish(has_list, self._pairs_before())
 
-    def _finish(self, has_list: bool) -> None:
+    def _pairs_before(self) -> bytes:
+        path = self._older / abbreviations.NAME if self._older else None
+        return path.read_bytes() if path and path.exists() else b""
+
+    def _finish(self, has_list: bool, pairs: bytes) -> None:
         self._write("registry.tsv", self._tables.registry(self.names))
         self._write("allowed.tsv", self._judge.text(self.names).encode())
         self._write(host_judge.NAME, self._judge.hosts.text(self.names).encode())
         self._write(undated_links.NAME, self._judge.undated.text(self.names).encode())
+        self._write(abbreviations.NAME, pairs)
         self._write(earlier_files.NAME, self._earlier.text(self.names, self._today).encode())
         index = self._folder / "index"
         title_index.begin(index, has_list)
@@ -192,7 +199,10 @@ class Maker:
     def make_index(self, has_list: bool) -> None:
         """Makes the index, which takes longest."""
         offers = {name: self._judge.hosts.offer(name) for name in self.names}
-        self.titles = title_index.make(self._folder / "index", has_list, self.prepared_parts(), offers)
+        pairs = abbreviations.pairs_of(self._folder)
+        self.titles = title_index.make(self._folder / "index", has_list, self.prepared_parts(), offers, pairs)
+        for line in abbreviations.unknown(self._folder, self.titles):
+            self._report(line)
 
     def remove_prepared(self) -> None:
         """Removes what only the index and the exports need."""
@@ -345,7 +355,8 @@ def is_same(one: str | Path, other: str | Path, received: RootFolder | None = No
         [f"{folder}/{name}" for folder in folders for name in sorted(os.listdir(version / folder))]
         for version in versions
     ]
-    files = ["registry.tsv", "allowed.tsv", host_judge.NAME, undated_links.NAME, "index/format", *names[0]]
+    lists = ["registry.tsv", "allowed.tsv", host_judge.NAME, undated_links.NAME, abbreviations.NAME]
+    files = [*lists, "index/format", *names[0]]
     opened = received or received_in(versions[1])
     return names[0] == names[1] and all(
         (
