@@ -21,7 +21,6 @@ from fixtures.lookup_services import NO_LINKS
 from fixtures.lookup_services import READERS
 from fixtures.lookup_services import Services
 from fixtures.lookup_services import bytes_in
-from fixtures.lookup_services import replaced
 from fixtures.lookup_services import switched_on
 from fixtures.local_ports import free_ports
 from fixtures.nginx_site import Reply
@@ -56,8 +55,9 @@ class SiteWithLookups(SiteCase):
     def switch_on(cls, port: int | None = None, certificate: str | None = None, **limits: str) -> None:
         services, cache = cls.services, cls.site.path("lookups")
         limits = {"rate": "rate=300r/s", **limits}
-        text = switched_on(cls.plain, port or services.port, certificate or services.certificate, cache, **limits)
-        cls.site.write_site(replaced(text, ((f"{name} off;", f"{name} on;") for name in cls.switches)))
+        pem = certificate or services.certificate
+        text = switched_on(cls.plain, port or services.port, pem, cache, switches=cls.switches, **limits)
+        cls.site.write_site(text)
 
     def data(self, query: str) -> Any:
         return json.loads(self.site.get(f"/find.json?{query}").text)
