@@ -21,6 +21,7 @@ from fixtures.lookup_services import NO_LINKS
 from fixtures.lookup_services import READERS
 from fixtures.lookup_services import Services
 from fixtures.lookup_services import bytes_in
+from fixtures.lookup_services import replaced
 from fixtures.lookup_services import switched_on
 from fixtures.local_ports import free_ports
 from fixtures.nginx_site import Reply
@@ -33,6 +34,7 @@ from fixtures.site_case import added
 from fixtures.site_case import lines_of
 
 FULL_TEXT = "tidal-press aggregate-net catalogue"
+SWITCHES = ("openlink_lookup_more", "openlink_free_copies")
 ALONE = "so we do not know whether the library has the full text."
 
 
@@ -339,7 +341,7 @@ class Lookups(SiteWithLookups):
 
     def test_hostile_notices(self) -> None:
         """No text of a notice is markup, leads to another host than doi.org or hides the links."""
-        for name, least in (("marked-up", 1), ("forged-doi", 2), ("many-updates", 10)):
+        for name, least in (("marked-up", 1), ("forged-doi", 3), ("many-updates", 10)):
             lines = self.lines_of(f"id=doi:10.5555/{name}")
             self.expect(f"{name}: {lines}", len(lines), least)
             page = self.site.get(f"/find?id=doi:10.5555/{name}").text
@@ -356,7 +358,7 @@ class Lookups(SiteWithLookups):
 class Beside(SiteWithLookups):
     """A number that came with other things is looked up too."""
 
-    switches = ("openlink_lookup_more",)
+    switches = SWITCHES[:1]
 
     def citation(self, query: str, *names: str) -> list[object]:
         found = self.data(query)["citation"]
@@ -420,6 +422,11 @@ class Beside(SiteWithLookups):
         self.site.write_site(self.plain.replace("openlink_lookup_more off;", "openlink_lookup_more on;"))
         self.data("id=doi:10.5555/beside7&title=Nowhere")
         self.expect("without the look-up", sum(self.services.asked.values()), before)
+        self.site.write_site(replaced(self.plain, ((f"js_var ${it} off;\n", "") for it in SWITCHES)))
+        self.expect(
+            "a site from before", self.targets(f"id=doi:10.5555/beside7&{ARTICLE}").split(" ")[0], "tidal-press"
+        )
+        self.expect("nothing is asked", sum(self.services.asked.values()), before)
 
     def test_named(self) -> None:
         """What the update has written of the rules of the title's own targets decides; before it did, nothing."""
@@ -448,7 +455,7 @@ class Beside(SiteWithLookups):
 class Copies(SiteWithLookups):
     """The page has free copies."""
 
-    switches = ("openlink_free_copies",)
+    switches = SWITCHES[1:]
 
     def shown(self, query: str) -> list[tuple[str, list[str]]]:
         """The headings of a page, each with its links."""
