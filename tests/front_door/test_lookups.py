@@ -341,6 +341,8 @@ class Lookups(SiteWithLookups):
 
     def test_hostile_notices(self) -> None:
         """No text of a notice is markup, leads to another host than doi.org or hides the links."""
+        page = self.site.get("/find?id=doi:10.5555/other-source").text
+        self.expect("a name of a source", "Source: Watch &amp; &lt;3 &#39;friends&#39;.</p>" in page)
         for name, least in (("marked-up", 1), ("forged-doi", 3), ("many-updates", 10)):
             lines = self.lines_of(f"id=doi:10.5555/{name}")
             self.expect(f"{name}: {lines}", len(lines), least)
