@@ -220,7 +220,7 @@ async function queryOf(r) {
     openurl.finish(q);
     if (q.isEmpty()) return q;
     await addTitle(r, q);
-    if (!isLookedUp) await addLookedUp(r, q);
+    if (!isLookedUp && lookup.mayAskMore(r, q)) await addLookedUp(r, q);
     await addMaybe(r, q, named);
     q.knowledge = await knowledgeOf(r, q);
     return q;

@@ -45,11 +45,13 @@ function copyIn(data) {
     return all.map(locationOf).find((it) => it !== null) || null;
 }
 
-// Asks for the free copy of a request's article. Preprints of arXiv are unknown there.
-async function find(r, q) {
-    if (r.variables.openlink_free_copies !== 'on' || !r.variables.openlink_lookup) return;
+// Asks for the free copy of a request's article: null if it is not asked for. Preprints of arXiv are unknown there.
+function find(r, q) {
     const doi = q.first('x.doi');
-    if (doi === '' || doi.length > replies.MOST_DOI || is(/^10\.48550\/arxiv\./i, doi)) return;
+    if (doi === '' || r.variables.openlink_free_copies !== 'on' || !r.variables.openlink_lookup) return null;
+    return doi.length > replies.MOST_DOI || is(/^10\.48550\/arxiv\./i, doi) ? null : ask(r, q, doi);
+}
+async function ask(r, q, doi) {
     q.freeCopy = await replies.fetched(r, `copy?id=${encodeURIComponent(doi)}`, copyIn);
 }
 

@@ -47,21 +47,18 @@ function replyPage(r, q, groups, site) {
     const text = q.isEmpty() ? form.formOf(q, site, browser.bookmarkletHtml(r, site)) : menu.pageOf(q, groups, site);
     exchange.sendPage(r, 200, text, site);
 }
+// Replies once the free copy is known, at once if none was asked for.
+function after(copy, reply) { return copy === null ? reply() : copy.then(reply); }
 async function find(r) {
     const q = await completion.queryOf(r);
     const copy = copies.find(r, q);  // beside the menus
-    return answer(r, q, async function (groups, site) {
-        await copy;
-        replyPage(r, q, groups, site);
-    });
+    return answer(r, q, (groups, site) => after(copy, () => { replyPage(r, q, groups, site); }));
 }
 async function json(r) {
     const q = await completion.queryOf(r);
     const copy = copies.find(r, q);
-    return answer(r, q, async function (groups, site) {
-        await copy;
-        exchange.sendJson(r, 200, menu.dataOf(q, groups, site), site);
-    });
+    const reply = (groups, site) => { exchange.sendJson(r, 200, menu.dataOf(q, groups, site), site); };
+    return answer(r, q, (groups, site) => after(copy, () => { reply(groups, site); }));
 }
 // The first link, if there is one alone in the first group or `first=1` asks for it; otherwise the page, and so if the
 // request may mean several titles.
@@ -69,12 +66,11 @@ async function go(r) {
     const q = await completion.queryOf(r);
     const isFirst = q.first('first') === '1';
     q.drop('first');
-    return answer(r, q, async function (groups, site) {
+    return answer(r, q, (groups, site) => {
         const links = groups[0].links;
         const isOne = links.length === 1 || (isFirst && links.length > 0);
         if (!isOne || q.maybe.length > 0) {
-            await copies.find(r, q);
-            return replyPage(r, q, groups, site);
+            return after(copies.find(r, q), () => { replyPage(r, q, groups, site); });
         }
         logTargets(r, [links[0].target]);
         r.return(302, links[0].url);

@@ -119,14 +119,11 @@ function hasDate(q) {
 function says(q, key) {
     return key === 'rft.date' ? hasDate(q) : (SAME[key] || [key]).some((one) => q.has(one));
 }
-const URIS = { 'x.doi': 'info:doi/', 'x.pmid': 'info:pmid/' };
 function fill(q, fields) {
     const lacking = Object.keys(fields).filter((key) => !says(q, key));
     lacking.forEach((key) => {
         const values = fields[key].filter(Boolean);
-        if (values.length === 0) return;
-        q.put(key, values);
-        if (URIS[key]) q.add('rft_id', URIS[key] + values[0]);
+        if (values.length > 0) q.put(key, values);
     });
     if (q.added.rft_val_fmt) q.set('rft_val_fmt', 'info:ofi/fmt:kev:mtx:' + openurl.kindOf(q));
 }
@@ -175,10 +172,14 @@ async function lacksNamed(r, q) {
         return lacking.some((part) => parts.includes(part));
     }));
 }
-// The look-up of a number that came beside other things, if the site wants it: where the index knows no title of the
-// request, which has one, or its citation lacks what the rules name. Returns the fields of the reply, or null.
+// Whether a number that came beside other things may be looked up.
+function mayAskMore(r, q) {
+    const hasNumber = q.has('x.doi') || q.has('x.pmid') || q.pmc !== '';
+    return hasNumber && r.variables.openlink_lookup_more === 'on' && Boolean(r.variables.openlink_lookup);
+}
+// Such a look-up, where the index knows no title of the request, which has one, or its citation lacks what the rules
+// name. Returns the fields of the reply, or null.
 async function more(r, q, hasTitle) {
-    if (r.variables.openlink_lookup_more !== 'on' || !r.variables.openlink_lookup || serviceOf(q) === null) return null;
     const isKnown = q.titles.length > 0;
     const isWanted = isKnown ? await lacksNamed(r, q) : hasTitle;
     const fields = isWanted ? await ask(r, q) : null;
@@ -188,4 +189,4 @@ async function more(r, q, hasTitle) {
     return fields;
 }
 
-export default { complete, more };
+export default { complete, mayAskMore, more };

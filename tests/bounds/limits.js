@@ -126,7 +126,8 @@ function replyAfter(milliseconds, work, data) {
     };
     globalThis.clearTimeout = function () {};
     const reply = { status: 200, text: function () { return JSON.stringify(data || { message: work }); } };
-    globalThis.ngx = { fetch: function () {
+    globalThis.ngx = { asked: 0, fetch: function () {
+        ngx.asked++;
         if (end === null) return Promise.resolve(reply);
         end();
         return new Promise(function () {});
@@ -169,6 +170,7 @@ async function testTimeOfAll(milliseconds, name, expected) {
     await lookup.complete(r, q);
     Date.now = now;
     expect('replies', name, q.first('rft.atitle'), expected);
+    expect('replies', name + ': how often a service is asked', ngx.asked, expected === '' ? 1 : 2);
 }
 async function testLookup() {
     const last = { idtype: 'doi', value: '10.5555/a' };

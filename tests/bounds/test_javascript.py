@@ -97,7 +97,7 @@ class Scripts(Case):
         self.check("references")
 
     def test_replies(self) -> None:
-        self.check("replies", 8)
+        self.check("replies", 10)
 
     def test_retractions(self) -> None:
         self.check("retractions")

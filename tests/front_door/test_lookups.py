@@ -34,6 +34,7 @@ from fixtures.site_case import added
 from fixtures.site_case import lines_of
 
 FULL_TEXT = "tidal-press aggregate-net catalogue"
+SWITCHES = ("openlink_lookup_more", "openlink_free_copies")
 ALONE = "so we do not know whether the library has the full text."
 
 
@@ -56,8 +57,9 @@ class SiteWithLookups(SiteCase):
     def switch_on(cls, port: int | None = None, certificate: str | None = None, **limits: str) -> None:
         services, cache = cls.services, cls.site.path("lookups")
         limits = {"rate": "rate=300r/s", **limits}
-        text = switched_on(cls.plain, port or services.port, certificate or services.certificate, cache, **limits)
-        cls.site.write_site(replaced(text, ((f"{name} off;", f"{name} on;") for name in cls.switches)))
+        pem = certificate or services.certificate
+        text = switched_on(cls.plain, port or services.port, pem, cache, switches=cls.switches, **limits)
+        cls.site.write_site(text)
 
     def data(self, query: str) -> Any:
         return json.loads(self.site.get(f"/find.json?{query}").text)
@@ -339,7 +341,9 @@ class Lookups(SiteWithLookups):
 
     def test_hostile_notices(self) -> None:
         """No text of a notice is markup, leads to another host than doi.org or hides the links."""
-        for name, least in (("marked-up", 1), ("forged-doi", 2), ("many-updates", 10)):
+        page = self.site.get("/find?id=doi:10.5555/other-source").text
+        self.expect("a name of a source", "Source: Watch &amp; &lt;3 &#39;friends&#39;.</p>" in page)
+        for name, least in (("marked-up", 1), ("forged-doi", 3), ("many-updates", 10)):
             lines = self.lines_of(f"id=doi:10.5555/{name}")
             self.expect(f"{name}: {lines}", len(lines), least)
             page = self.site.get(f"/find?id=doi:10.5555/{name}").text
@@ -356,7 +360,7 @@ class Lookups(SiteWithLookups):
 class Beside(SiteWithLookups):
     """A number that came with other things is looked up too."""
 
-    switches = ("openlink_lookup_more",)
+    switches = SWITCHES[:1]
 
     def citation(self, query: str, *names: str) -> list[object]:
         found = self.data(query)["citation"]
@@ -420,6 +424,11 @@ class Beside(SiteWithLookups):
         self.site.write_site(self.plain.replace("openlink_lookup_more off;", "openlink_lookup_more on;"))
         self.data("id=doi:10.5555/beside7&title=Nowhere")
         self.expect("without the look-up", sum(self.services.asked.values()), before)
+        self.site.write_site(replaced(self.plain, ((f"js_var ${it} off;\n", "") for it in SWITCHES)))
+        self.expect(
+            "a site from before", self.targets(f"id=doi:10.5555/beside7&{ARTICLE}").split(" ")[0], "tidal-press"
+        )
+        self.expect("nothing is asked", sum(self.services.asked.values()), before)
 
     def test_named(self) -> None:
         """What the update has written of the rules of the title's own targets decides; before it did, nothing."""
@@ -450,7 +459,7 @@ class Beside(SiteWithLookups):
 class Copies(SiteWithLookups):
     """The page has free copies."""
 
-    switches = ("openlink_free_copies",)
+    switches = SWITCHES[1:]
 
     def shown(self, query: str) -> list[tuple[str, list[str]]]:
         """The headings of a page, each with the names of its links, without coverage."""

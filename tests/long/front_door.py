@@ -13,7 +13,8 @@ from fixtures.patience import wait_until
 INSIDE = "FRONT_DOOR_NAMESPACES"
 SHARED = "/usr/local/share"  # where the files are that the site includes
 READER_LIMIT = re.compile(r"(zone=openlink_reader_\w+:\w+ rate=)\d+(?=r/s;)")
-HOSTILE_NUMBERS = ["10.5555/slow", "10.5555/drip", "10.5555/huge", "10.5555/deep"]
+HOSTILE_DOIS = ["10.5555/slow", "10.5555/drip", "10.5555/huge", "10.5555/deep"]
+HOSTILE_NUMBERS = [*HOSTILE_DOIS, *(f"copy:{doi}" for doi in HOSTILE_DOIS)]
 
 
 def enter():
@@ -116,8 +117,10 @@ def listens(port):
 
 
 def hostile_lookups():
-    """Addresses with a number alone, of which a service knows nothing, or which it answers badly."""
-    return [f"/find?id=doi:{number}" for number in (*HOSTILE_NUMBERS, *(f"10.5555/attack{i}" for i in range(40)))]
+    """Addresses with a number alone, beside an unknown title and in an incomplete citation, of which a service knows
+    nothing, or which it answers badly."""
+    dois = (*HOSTILE_DOIS, *(f"10.5555/attack{i}" for i in range(40)))
+    return [f"/find?id=doi:{doi}{rest}" for doi in dois for rest in ("", "&title=Nowhere", "&issn=2901-0012")]
 
 
 class Door:
