@@ -102,7 +102,7 @@ OF_PAGES = [
     ("jtitle=Soundings&atitle=Depths+of+the+strait&date=1970&volume=5", "Depths of the strait"),
     ("jtitle=Soundings", "Soundings"),
     ("au=Smith", "Find this item"),
-    ("atitle=%D7%9B%D7%95%D7%AA%D7%A8+(%D7%90)", "<bdi>כותר (א)</bdi>"),
+    ("atitle=%D7%9B%D7%95%D7%AA%D7%A8+(%D7%90)", "\u2068כותר (א)\u2069"),
     ("atitle=1+%3C+2+%26+3", "1 &lt; 2 &amp; 3"),
 ]
 
