@@ -185,15 +185,24 @@ function relatedHtml(it, site) {
 const MOST_NAMES = 3;
 const RIGHT_TO_LEFT = /[\u0590-\u08ff\ufb1d-\ufdff\ufe70-\ufefc]/;
 const MOST_HEADING = 200;  // characters of a title
-function headingOf(q, groups, cited, site) {
-    const names = groups[0].links.map((link) => link.label).filter((name, i, all) => all.indexOf(name) === i);
-    if (site.groups === undefined || names.length === 0 || q.maybe.length > 0) {
-        const title = cited.title || cited.journal || word(site, 'heading');
-        const short = title.length > MOST_HEADING ? `${title.slice(0, MOST_HEADING - 1)}\u2026` : title;
-        return is(RIGHT_TO_LEFT, short) ? `\u2068${short}\u2069` : short;
+function namesOf(links, site) {
+    const names = [];
+    for (let i = 0; i < links.length && names.length <= MOST_NAMES; i++) {
+        const name = pages.isolatedText(links[i].label, site);
+        if (!names.includes(name)) names.push(name);
     }
-    if (names.length === 1) return filled(site, 'fullText', pages.isolatedText(names[0], site)) || names[0];
-    const listed = words.listed(site, names.slice(0, MOST_NAMES).map((name) => pages.isolatedText(name, site)));
+    return names;
+}
+function titleOf(cited, site) {
+    const title = cited.title || cited.journal || word(site, 'heading');
+    const short = title.length > MOST_HEADING ? `${title.slice(0, MOST_HEADING - 1)}\u2026` : title;
+    return is(RIGHT_TO_LEFT, short) ? `\u2068${short}\u2069` : short;
+}
+function headingOf(q, groups, cited, site) {
+    if (site.groups === undefined || q.maybe.length > 0) return titleOf(cited, site);
+    const names = namesOf(groups[0].links, site);
+    if (names.length === 0) return titleOf(cited, site);
+    const listed = names.length === 1 ? names[0] : words.listed(site, names.slice(0, MOST_NAMES));
     const shown = names.length > MOST_NAMES ? filled(site, 'others', listed) : listed;
     return filled(site, 'fullText', shown) || shown;
 }
