@@ -426,7 +426,9 @@ class Beside(SiteWithLookups):
         path = Path(self.site.path("current/index/named"))
         written = path.read_text(encoding="ascii")
         self.expect(
-            "what the update writes", written.splitlines()[:2], ["open-shelf\tdate volume", "tidal-press\tvolume page"]
+            "what the update writes",
+            written.splitlines()[:2],
+            ["open-shelf\tdate volume", "tidal-press\tdate volume page"],
         )
         for named, query, count in (
             ("tidal-press\tdate\n", "issn=2901-0012&date=2003", 0),
@@ -456,7 +458,7 @@ class Copies(SiteWithLookups):
         self.expect(f"{query}: the status", (page.status, page.headers["X-Evil"]), (200, None))
         self.tidy(f"{query}: the page", page.text)
         parts = re.findall(r"<h2>(.*?)</h2>\n<ul>(.*?)</ul>", page.text, re.S)
-        return [(name, re.findall(r'<a href="[^"]*">(.*?)</a>', text)) for name, text in parts]
+        return [(name, re.findall(r'<a href="[^"]*">(.*?)(?: <span>.*?)?</a>', text)) for name, text in parts]
 
     def copy(self, name: str) -> Any:
         """The link of the free copy in the data of a DOI, None if it has none."""
