@@ -1,6 +1,5 @@
 // What a browser keeps of the site: its search, as OpenSearch 1.1 describes it, and the bookmarklet, which sends the
 // DOI or the address of the page that is shown. text.js says in which njs it runs.
-import pages from './pages.js';
 import texts from './text.js';
 import words from './words.js';
 
@@ -15,7 +14,7 @@ const MOST_NAME = 16;  // characters, as OpenSearch has it
 // came.
 function baseOf(r, site) {
     const base = words.textAt(own(site.scholar, 'base'));
-    if (texts.isWeb(base)) return base.replace(/\/+$/, '');
+    if (base !== '' && texts.isWeb(base)) return base.replace(/\/+$/, '');
     const host = String(r.headersIn.Host || '');
     const isSecure = r.variables.scheme === 'https' || r.headersIn['X-Forwarded-Proto'] === 'https';
     return `http${isSecure ? 's' : ''}://${is(HOST, host) ? host : r.variables.server_name}`;
@@ -39,21 +38,24 @@ function searchOf(r, site) {
 `;
 }
 
-// The script of the bookmarklet. It runs in the page of an article, and takes the DOI that the page declares.
-function scriptOf(base, site) {
-    const language = site.chosen ? `&lang=${site.chosen}` : '';
-    const script = `(function(){var u='',n=['citation_doi','prism.doi','dc.identifier','bepress_citation_doi'],i,m;`
-        + `for(i=0;i<n.length&&!u;i++){m=document.querySelector('meta[name="'+n[i]+'" i]');`
-        + `if(m&&/10\\.\\d{4,}\\//.test(m.content))u=m.content}`
-        + `location.href='${base}/find?url='+encodeURIComponent(u||location.href)+'${language}'})()`;
-    return `javascript:${encodeURIComponent(script)}`;
-}
+// The script of the bookmarklet, encoded as an address is: to do that for each form would take a tenth of its time. It
+// runs in the page of an article, and takes the DOI that the page declares:
+//     for (i = 0; i < n.length && !u; i++) { m = document.querySelector('meta[name="' + n[i] + '" i]');
+//         if (m && /10\.\d{4,}\//.test(m.content)) u = m.content; }
+//     location.href = 'BASE/find?url=' + encodeURIComponent(u || location.href);
+const BEFORE_BASE = "javascript:(function()%7Bvar%20i,m,u='',n=%5B'citation_doi','prism.doi','dc.identifier',"
+    + "'bepress_citation_doi'%5D;for(i=0;i%3Cn.length%26%26!u;i++)%7Bm=document.querySelector('meta%5Bname=%22'"
+    + "+n%5Bi%5D+'%22%20i%5D');if(m%26%26/10%5C.%5Cd%7B4,%7D%5C//.test(m.content))u=m.content%7Dlocation.href='";
+const AFTER_BASE = "/find?url='+encodeURIComponent(u%7C%7Clocation.href)";
 // The bookmarklet as a link, with what a reader does with it.
 function bookmarkletHtml(r, site) {
     const library = word(site, 'library');
     const name = word(site, 'bookmarklet');
-    const link = pages.anchor(scriptOf(baseOf(r, site), site), library ? words.labelled(site, library, name) : name);
-    return `<p class="bookmarklet">${escape(word(site, 'bookmarkletNote'))} ${link}</p>`;
+    const label = library ? words.labelled(site, library, name) : name;
+    const language = site.chosen ? `+'%26lang=${site.chosen}'` : '';
+    const script = `${BEFORE_BASE}${escape(baseOf(r, site))}${AFTER_BASE}${language}%7D)()`;
+    const note = escape(word(site, 'bookmarkletNote'));
+    return `<p class="bookmarklet">${note} <a href="${script}">${escape(label)}</a></p>`;
 }
 
 export default { searchOf, bookmarkletHtml };

@@ -126,7 +126,8 @@ function siteIn(targets, header, asked, library) {
     const language = isChosen ? asked : chosen(header, languages);
     const folder = own(targets, 'folder');
     return { language, main: languages[0], dir: isRightToLeft(language) ? 'rtl' : 'ltr',
-        known: Object.create(null), labels: Object.create(null), languages, chosen: isChosen ? asked : '',
+        known: Object.create(null), marks: Object.create(null), labels: Object.create(null), languages,
+        chosen: isChosen ? asked : '',
         file: wordsIn(language, library), mainFile: wordsIn(languages[0], library), library,
         words: objectUnder(targets, 'words'), groups: objectUnder(targets, 'groups'),
         targets: objectUnder(targets, 'targets'), folder: typeof folder === 'string' ? folder : undefined,

@@ -85,10 +85,10 @@ function numberText(number, site) { return filled(site, number.includes('-') ? '
 // The link's name for those who hear it has all that distinguishes it: the edition, and what the target has.
 function linkHtml(link, site) {
     const edition = link.edition ? filled(site, 'edition', numberText(link.edition, site)) : '';
-    const parts = [edition, link.covered || ''].filter(Boolean).map((text) => ` <span>${escape(text)}</span>`);
-    const name = pages.isolated(link.label, site) + parts.join('');
+    const name = pages.isolated(link.label, site) + partHtml(edition) + partHtml(link.covered);
     return `<li>${pages.anchorOf(link.url, name)}${noteHtml(link.note)}</li>`;
 }
+function partHtml(text) { return text ? ` <span>${escape(text)}</span>` : ''; }
 
 // The link by which a reader sends the request to the library. `{}` in the library's address is the place of the
 // request.
@@ -183,14 +183,26 @@ function relatedHtml(it, site) {
 
 // What was found: whose full text, or else the title of what is sought.
 const MOST_NAMES = 3;
+const RIGHT_TO_LEFT = /[\u0590-\u08ff\ufb1d-\ufdff\ufe70-\ufefc]/;
 const MOST_HEADING = 200;  // characters of a title
-function headingOf(q, groups, cited, site) {
-    const names = groups[0].links.map((link) => link.label).filter((name, i, all) => all.indexOf(name) === i);
-    if (site.groups === undefined || names.length === 0 || q.maybe.length > 0) {
-        const title = cited.title || cited.journal || word(site, 'heading');
-        return title.length > MOST_HEADING ? `${title.slice(0, MOST_HEADING - 1)}\u2026` : title;
+function namesOf(links, site) {
+    const names = [];
+    for (let i = 0; i < links.length && names.length <= MOST_NAMES; i++) {
+        const name = pages.isolatedText(links[i].label, site);
+        if (!names.includes(name)) names.push(name);
     }
-    const listed = words.listed(site, names.slice(0, MOST_NAMES).map((name) => pages.isolatedText(name, site)));
+    return names;
+}
+function titleOf(cited, site) {
+    const title = cited.title || cited.journal || word(site, 'heading');
+    const short = title.length > MOST_HEADING ? `${title.slice(0, MOST_HEADING - 1)}\u2026` : title;
+    return is(RIGHT_TO_LEFT, short) ? `\u2068${short}\u2069` : short;
+}
+function headingOf(q, groups, cited, site) {
+    if (site.groups === undefined || q.maybe.length > 0) return titleOf(cited, site);
+    const names = namesOf(groups[0].links, site);
+    if (names.length === 0) return titleOf(cited, site);
+    const listed = names.length === 1 ? names[0] : words.listed(site, names.slice(0, MOST_NAMES));
     const shown = names.length > MOST_NAMES ? filled(site, 'others', listed) : listed;
     return filled(site, 'fullText', shown) || shown;
 }

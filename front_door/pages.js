@@ -18,13 +18,9 @@ const LOGO = /^[\w-]{1,60}\.(?:svg|png|jpg|gif|webp)$/;
 function anchorOf(url, html) { return `<a href="${escape(url)}">${html}</a>`; }
 function anchor(url, text) { return anchorOf(url, escape(text)); }
 // A text that may have another direction than the page: a title, or the name of a target.
-const RIGHT_TO_LEFT = /[\u0590-\u08ff\ufb1d-\ufdff\ufe70-\ufefc]/;
 function isolated(text, site) { return site.dir === 'rtl' ? `<bdi>${escape(text)}</bdi>` : escape(text); }
 // The same as text, by characters that no reader sees.
 function isolatedText(text, site) { return site.dir === 'rtl' ? `\u2068${text}\u2069` : text; }
-function headingHtml(text, site) {
-    return site.dir !== 'rtl' && is(RIGHT_TO_LEFT, text) ? `<bdi>${escape(text)}</bdi>` : isolated(text, site);
-}
 function notice(name, site) { return `<p class="nothing">${escape(word(site, name))}</p>`; }
 // An address of the site, which keeps the language that the reader has chosen.
 function addressOf(path, args, site) {
@@ -107,7 +103,7 @@ function documentOf(title, heading, body, site) {
 ${headHtml(library, site)}</head>
 <body>
 ${headerHtml(library, site)}<main>
-<h1>${headingHtml(heading, site)}</h1>
+<h1>${isolated(heading, site)}</h1>
 ${body.join('\n')}
 </main>
 ${footerHtml(site)}</body>

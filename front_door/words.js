@@ -37,9 +37,13 @@ function numberOf(site, number) {
 }
 // Several texts after each other, and a text after what it is of, with the marks that the reader's language puts
 // between them.
-function separatorOf(site) { return word(site, 'list').split('{}')[1] || ', '; }
-function listed(site, parts) { return parts.join(separatorOf(site)); }
-function labelled(site, label, text) { return filled(site, 'labelled', [label, text]) || `${label}: ${text}`; }
+function markOf(site, name, usual) {
+    const known = site.marks[name];
+    return known !== undefined ? known : (site.marks[name] = word(site, name).split('{}')[1] || usual);
+}
+function separatorOf(site) { return markOf(site, 'list', ', '); }
+function listed(site, parts) { return parts.length === 1 ? parts[0] : parts.join(separatorOf(site)); }
+function labelled(site, label, text) { return label + markOf(site, 'labelled', ': ') + text; }
 function labelOf(site, target) {
     const label = site.labels[target];
     if (label !== undefined) return label;

@@ -3,6 +3,8 @@ from __future__ import annotations
 
 import json
 import re
+import tempfile
+from pathlib import Path
 
 from fixtures.cases import Case
 from openlink_update.site import targets_file as targets
@@ -72,6 +74,20 @@ class TargetsFile(Case):
         with open("front_door/openlink.conf") as file:
             loaded = re.findall(r"^js_preload_object words_(\w+) ", file.read(), re.M)
         self.expect("it offers all languages that openlink.conf loads", sorted(site["languages"]), sorted(loaded))
+
+    def test_languages_that_the_site_loads(self) -> None:
+        """A language that has a file and is not loaded is left out of the pages, so the check says so."""
+        with tempfile.TemporaryDirectory() as folder:
+            path, site = Path(folder, "targets.json"), Path(folder, "openlink.conf")
+            path.write_text('{"languages": ["en", "fr", "zh-Hans"], "groups": [{"name": "A"}]}', encoding="utf-8")
+            text = Path("front_door/openlink.conf").read_text(encoding="utf-8")
+            self.expect("no site names it", targets.faults_in(path, site), [])
+            site.write_text(text.replace("/etc/nginx/openlink/targets.json", str(path)), encoding="utf-8")
+            faults = [f"{path}: languages: no words/{it}.json is loaded" for it in ("fr", "zh-Hans")]
+            self.expect("two are not loaded", targets.faults_in(path, site), faults)
+            text = site.read_text(encoding="utf-8").replace("#js_preload_object words_", "js_preload_object words_")
+            site.write_text(text, encoding="utf-8")
+            self.expect("all are loaded", targets.faults_in(path, site), [])
 
     def test_slips(self) -> None:
         for data, fault in SLIPS:

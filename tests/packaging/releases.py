@@ -136,7 +136,7 @@ def faults_of_named(root: Path) -> Iterator[str]:
         text = path.read_text(encoding="utf-8")
         if "/usr/local" in text:
             yield f"{path.name}: it names /usr/local"
-        named |= {*re.findall(r"/(usr/share/openlink/[a-z/_.]*)", text)}
+        named |= {*re.findall(r"/(usr/share/openlink/[\w/.-]*)", text)}
     yield from (f"there is no {it}, which the site names" for it in sorted(named) if not (root / it).exists())
     if len(named) < LEAST_NAMED:
         yield f"the site names {len(named)} files, and at least {LEAST_NAMED}"

@@ -22,6 +22,7 @@ deeper than njs reads them.
 import collections
 import itertools
 import json
+import os
 import re
 import sys
 from collections.abc import Collection, Iterator
@@ -29,6 +30,8 @@ from pathlib import Path
 
 from openlink_update.shown_text import report
 from openlink_update.site import words_file
+from openlink_update.site.front_door import Site
+from openlink_update.update_options import SITE
 
 # Texts that depend on the library, so no file of a language has them.
 OF_THE_LIBRARY = ("library", "help", "helpLink", "problemLink", "logo")
@@ -246,12 +249,15 @@ def faults_of(data: bytes, loaded: Collection[str] | None = None) -> list[str]:
     return faults
 
 
-def faults_in(path: str | Path) -> list[str]:
+def faults_in(path: str | Path, site: Path = SITE) -> list[str]:
     """Returns the errors in a targets.json and in the files of texts in words/ next to it, which are the library's
-    own."""
+    own. The languages are those that the site loads if it names the file, and else those that have a file of words."""
     path = Path(path)
     files = sorted((path.parent / "words").glob("*.json"))
     loaded = {path.stem for path in (*files, *words_file.FOLDER.glob("*.json"))}
+    named = Site(site)
+    if os.path.abspath(named.targets_path() or "/") == os.path.abspath(path):
+        loaded = set(named.languages)
     faults = [f"{path}: {fault}" for fault in faults_of(_start_of(path), loaded)]
     for file in files:
         faults += [f"{file}: {fault}" for fault in faults_of_words(_start_of(file), file.stem)]
