@@ -301,7 +301,7 @@ function date(q) {
 
 function encoding(q) {
     const isOther = q.encoding !== '' && q.encoding !== 'unicode' && q.encoding !== 'unknown';
-    if (isOther || q.decodedTexts > 0) q.set('ctx_enc', 'info:ofi/enc:UTF-8');
+    if (!q.isEmpty() && (isOther || q.decodedTexts > 0)) q.set('ctx_enc', 'info:ofi/enc:UTF-8');
 }
 
 function begun(args) {

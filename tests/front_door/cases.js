@@ -210,6 +210,7 @@ const ENCODINGS = [
     ['not declared', 'rft_val_fmt=x&rft.atitle=Caf%E9&rft.jtitle=%C3%A9', 'ctx_enc=info:ofi/enc:UTF-8',
         'rft_val_fmt=x&rft.atitle=Caf%C3%A9&rft.jtitle=%C3%A9'],
     ['UTF-8', 'ctx_enc=info:ofi/enc:UTF-8&rft_val_fmt=x&rft.atitle=Caf%C3%A9', ''],
+    ['not declared, of nothing that counts', 'x.note=Caf%E9', '', ''],
     ['a line end, raw', 'rft_val_fmt=x&rft.atitle=a\r\nHost: b', '', 'rft_val_fmt=x&rft.atitle=a%0D%0AHost%3A%20b'],
     ['no escape', 'rft_val_fmt=x&rft.atitle=100%', '']
 ];

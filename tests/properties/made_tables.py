@@ -64,11 +64,12 @@ def _dates() -> Any:
 
 
 def _rows() -> Any:
-    def row(title: str, one: Any, two: Any, first: str, last: str, notes: str) -> tuple[tuple[str, ...], Any]:
-        cells = (title, one[0], two[0], first, last, "https://x.example.org/", "", notes)
-        return cells, tuple(number for _, number in (one, two) if number)
+    def row(title: str, one: Any, two: Any, first: str, last: str, notes: str, width: int) -> Any:
+        cells = (title, one[0], two[0], first, last, "https://x.example.org/", "", notes, "more", "", "than")
+        return cells[:width], tuple(number for _, number in (one, two) if number)
 
-    return st.builds(row, _texts(), _numbers(), _numbers(), _dates(), _dates(), _texts())
+    widths = st.one_of(st.just(len(COLUMNS)), st.integers(3, 11))
+    return st.builds(row, _texts(), _numbers(), _numbers(), _dates(), _dates(), _texts(), widths)
 
 
 def _written(header: list[str], rows: list[tuple[str, ...]], separator: str, end: str) -> str:

@@ -26,7 +26,7 @@ GOOD = ("state", "drain", "end-drain", "name", "receive", "rsync", "--server", *
 BAD = tuple(
     """.. /etc/ law/../x/ ../input/ --rsync-path=x -e sh --sender --files-from=/etc/shadow Law law/versions/x.sent/
     /versions/ law/versions/20269901T000000Z.sent/ law/ versions/ ~/input/ --link-dest=/etc --link-dest=../../x --daemon
-    -rtle.L -c ; $(x) law/input/../../x/ shared/../x/ shared law/input 20269901T000000Z 99991231T235959Z --take""".split()
+    --delete-after --timeout=600 --mkpath=x --link-dest=../20261101T040000Z/../../x -rtle.L -c ; $(x) law/input/../../x/ shared/../x/ shared law/input 20269901T000000Z 99991231T235959Z --take""".split()
 )
 
 

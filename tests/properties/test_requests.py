@@ -20,7 +20,7 @@ COLUMNS = """publication_title print_identifier online_identifier date_first_iss
     date_monograph_published_online monograph_volume monograph_edition first_editor parent_publication_title_id
     preceding_publication_title_id access_type coverage_from coverage_to""".split()
 # What the front door itself adds; a request's own have no effect.
-ADDED = {"x.issn", "x.eissn", "x.isbn", "x.from", "x.to", "x.doi", "x.pmid", "x.pmcid"}
+ADDED = {"x.issn", "x.eissn", "x.isbn", "x.from", "x.to", "x.doi", "x.pmid", "x.pmc", "x.oclc"}
 NUMBERS = {"rft.issn", "rft.eissn", "rft.isbn", "issn", "eissn", "isbn"}
 MOST_BYTES, USUAL = 12_000, 3_000
 VALUES = r"""2901-0012 29010012 2901-001X 0000-0000 9781234560102 0306406152 ANY a-n-y 12 53(2) Vol.+53 136+Suppl+1 Pt+8
@@ -45,7 +45,13 @@ def _pairs() -> Any:
         st.text(max_size=12).map(lambda text: urllib.parse.quote(text.encode("utf-8", "ignore"))),
         st.text("0123456789-/.+;:(),aevpxSI", max_size=10),
     )
-    return st.builds("{}{}={}".format, prefixes, keys, values)
+    numbers = st.builds(
+        "{}={}".format,
+        st.sampled_from(("issn", "rft.issn", "rft.eissn", "isbn", "rft.isbn", "rft_id", "id")),
+        st.sampled_from(("2901-0012", "29080142", "9781234560102", "ANY", "urn:ISSN:2901-0012", "2901-0012,2908-0142")),
+    )
+    others = st.builds("{}{}={}".format, prefixes, keys, values)
+    return st.one_of(others, others, others, numbers)
 
 
 def _requests() -> Any:
@@ -107,6 +113,7 @@ class Requests(PropertyCase):
     def test_lengths(self) -> None:
         """None is longer than what the program reads, and the second reading adds nothing to the first."""
         self.expect_none("long", [it[0] for it in self.read if max(map(len, it)) > MOST_BYTES])
-        self.expect_none("longer the second time", [it[:2] for it in self.read if len(it[1]) > len(it[0])])
+        longer = [(args, *it[:2]) for args, it in zip(self.requests, self.read) if len(it[1]) > len(it[0])]
+        self.expect_none("longer the second time", longer)
         longest = max(map(len, self.requests))
         self.expect(f"a request of {longest} characters", longest > MOST_BYTES)

@@ -2,6 +2,7 @@
 from __future__ import annotations
 
 import json
+import math
 import re
 from typing import Any
 
@@ -14,6 +15,9 @@ from properties.property_case import strategies as st
 
 # Numbers that njs reads and JSON does not have.
 _LAX = re.compile(r"(?<![\w.+-])-?(?:0\d[\d.]*|\d+\.(?!\d)|\.\d)")
+# Texts in the place of a value.
+_RAW = r"""01 1. .5 -01 00 1e5 1E400 -0 0x1 NaN Infinity -Infinity "\ud800" "\ud83d\ude00" "\u0000" "\x41" {"a":1,"a":2} {"\udc00":1}
+    nul True 'a' [1,] {"a":1,} 123456789012345678901234567890""".split()
 # Pieces of a text, some of which JSON has in no place, or in few.
 _PIECES = (
     "01 1. .5 -01 00 - + 1e5 1e 0x1 NaN Infinity -Infinity , : [ ] { } tru null true ,, [1,] // /**/ ' \""
@@ -29,7 +33,8 @@ def _values() -> Any:
     names = st.sampled_from(("en", "A", "name", "label", "groups", "\U0001f600", "\xe9"))
     texts = st.one_of(st.text(max_size=6).map(_without_halves), names)
     numbers = st.one_of(st.integers(-(10**6), 10**6), st.floats(-1e6, 1e6, allow_nan=False))
-    leaves = st.one_of(st.none(), st.booleans(), numbers, texts)
+    raw = st.integers(0, len(_RAW) - 1).map("@{}@".format)
+    leaves = st.one_of(st.none(), st.booleans(), numbers, texts, texts, raw)
     return st.recursive(
         leaves, lambda it: st.one_of(st.lists(it, max_size=3), st.dictionaries(texts, it, max_size=3)), max_leaves=8
     )
@@ -40,6 +45,7 @@ def _texts() -> Any:
 
     def text(value: Any, is_ascii: bool, piece: str, at: int, length: int) -> str:
         whole = json.dumps({"groups": value}, ensure_ascii=is_ascii)
+        whole = re.sub(r'"@(\d+)@"(?!:)', lambda found: _RAW[int(found[1])], whole)
         place = at % (len(whole) + 1)
         return whole[:place] + piece + whole[place + length :] if piece else whole
 
@@ -48,12 +54,14 @@ def _texts() -> Any:
 
 
 def shape_of(value: Any) -> Any:
-    """A value without the kinds of numbers that njs does not have."""
+    """A value without the kinds of numbers that njs does not have, or does not write."""
     if isinstance(value, dict):
         return {name: shape_of(member) for name, member in value.items()}
     if isinstance(value, list):
         return [shape_of(member) for member in value]
-    return float(value) if isinstance(value, (int, float)) and not isinstance(value, bool) else value
+    if isinstance(value, (int, float)) and not isinstance(value, bool):
+        return float(value) if math.isfinite(value) else None
+    return value
 
 
 def is_known(text: str, faults: list[str]) -> bool:

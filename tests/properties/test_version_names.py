@@ -42,6 +42,17 @@ def _names() -> Any:
     )
 
 
+def _pairs() -> Any:
+    """A name, and a moment that is often near to that of the name."""
+    near = st.tuples(_moments(), st.integers(-90_000, 270_000)).map(
+        lambda it: (written(it[0] + datetime.timedelta(seconds=it[1])), it[0])
+    )
+    edge = st.tuples(_moments(), st.integers(-2, 2)).map(
+        lambda it: (written(it[0] + DAY + datetime.timedelta(seconds=it[1])), it[0])
+    )
+    return st.one_of(st.tuples(_names(), _moments()), near, edge)
+
+
 def has_form(name: str) -> bool:
     return len(name) == 16 and name[8] == "T" and name[15] == "Z" and (name[:8] + name[9:15]).isdigit()
 
@@ -72,7 +83,7 @@ class VersionNames(PropertyCase):
             with mock.patch.object(library, "_now", lambda: now):
                 assert library.is_stamp(name) == is_name(name, now), case
 
-        self.hold(st.tuples(_names(), _moments()), holds)
+        self.hold(_pairs(), holds)
 
     def test_the_next_is_after_all(self) -> None:
         """Also if the clock was put back."""
@@ -113,7 +124,7 @@ class VersionNames(PropertyCase):
 
     @needs.command("njs")
     def test_ages_of_the_health_page(self) -> None:
-        cases = cases_of(st.tuples(_names(), _moments()))
+        cases = cases_of(_pairs())
         self.expect_cases(len(cases))
         asked = [(f"/etc/openlink/versions/{name}", int(moment.timestamp() * 1000)) for name, moment in cases]
         faults, count = [], 0
