@@ -453,12 +453,12 @@ class Copies(SiteWithLookups):
     switches = ("openlink_free_copies",)
 
     def shown(self, query: str) -> list[tuple[str, list[str]]]:
-        """The headings of a page, each with its links."""
+        """The headings of a page, each with the names of its links, without coverage."""
         page = self.site.get(f"/find?{query}")
         self.expect(f"{query}: the status", (page.status, page.headers["X-Evil"]), (200, None))
         self.tidy(f"{query}: the page", page.text)
         parts = re.findall(r"<h2>(.*?)</h2>\n<ul>(.*?)</ul>", page.text, re.S)
-        return [(name, re.findall(r'<a href="[^"]*">(.*?)(?: <span>.*?)?</a>', text)) for name, text in parts]
+        return [(name, re.findall(r'<a href="[^"]*">(.*?)(?: <span>.*?</span>)*</a>', text)) for name, text in parts]
 
     def copy(self, name: str) -> Any:
         """The link of the free copy in the data of a DOI, None if it has none."""

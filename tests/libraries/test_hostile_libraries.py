@@ -1,17 +1,20 @@
 """Ten libraries of a machine, of which three take more than they may: each is named, and the others are updated."""
 from __future__ import annotations
 
+import io
 import os
 import subprocess
 import tempfile
 import time
 from pathlib import Path
+from unittest import mock
 
 from fixtures import PYTHON
 from fixtures import needs
 from fixtures.cases import Case
 from fixtures.patience import patience
 from fixtures.program import PATH as PROGRAM
+from openlink_update.machines.library_updates import Updates
 
 RULES = "rule\nwhen given rft.issn\nlink https://press.example.com/{rft.issn}\n"
 TABLE = "publication_title\tprint_identifier\nAnnals of Tidal Studies\t2901-0012\n"
@@ -23,6 +26,27 @@ case $PWD in */hang/*) trap '' TERM HUP; sleep 1000 ;; esac
 exec {program} "$@"
 """
 NAMES = ("a", "disk", "e", "g", "hang", "k", "memory", "n", "t", "z")
+
+
+class Printed(Case):
+    def test_lines(self) -> None:
+        """A library that prints a megabyte is printed as a whole; of more, the first megabyte and the last 20 lines."""
+        line = f"{'x' * 1023}\n"
+        for count in (1024, 1044, 1045, 3000):
+            lines: list[str] = []
+            with mock.patch("openlink_update.machines.library_updates.report") as report:
+                Updates._print(io.StringIO(line * (count - 1) + "y" * 1023 + "\n"), lines)
+            left_out = count - 1044
+            shown = [f".. {left_out} lines are left out\n"] if left_out > 0 else []
+            self.expect(f"{count} lines", len(lines), min(count, 1044) + len(shown))
+            self.expect("what is left out", [it for it in lines if it.startswith("..")], shown)
+            self.expect("the last one", lines[-1], "y" * 1023 + "\n")
+            self.expect("printed", report.call_count, len(lines))
+        for count, wanted in ((2**16 - 1, 1), (2**16, 2)):
+            lines = []
+            with mock.patch("openlink_update.machines.library_updates.report"):
+                Updates._print(io.StringIO("x" * count + "\n"), lines)
+            self.expect(f"a line of {count}", len(lines), wanted)
 
 
 @needs.root()

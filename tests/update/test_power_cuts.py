@@ -17,7 +17,7 @@ from fixtures.provider import Folder
 from fixtures.provider import Provider
 from fixtures.provider import reply
 
-_MAY_BE_LOST = re.compile(r"lock|input\.fetch/(lock|bodies(/\d+)?)")
+_MAY_BE_LOST = re.compile(r"lock(\.users)?|input\.fetch/(lock|bodies(/\d+)?)")
 # The next run removes these if they are there again, or has the same versions.
 _MAY_COME_BACK = re.compile(r"versions/STAMP(\.new)?(/.*)?|trial(/.*)?|current\.new|input\.fetch/bodies(/.*)?")
 _LOG = """1 openat(AT_FDCWD</>, "/f/a.new", O_WRONLY|O_CREAT|O_TRUNC|O_CLOEXEC, 0666) = 3</f/a.new>

@@ -3,6 +3,8 @@ from __future__ import annotations
 
 import contextlib
 import os
+import re
+import shlex
 import shutil
 import socket
 import stat
@@ -22,6 +24,8 @@ from fixtures.program import PATH
 from fixtures.provider import Provider
 from fixtures.provider import reply
 from fixtures.updates import Library
+from openlink_update import weekly_run
+from openlink_update.fetch import fetching
 from openlink_update.outcome import Failure
 from openlink_update.rights import handover
 from openlink_update.rights import lent_files
@@ -29,6 +33,7 @@ from openlink_update.rights import library_user
 from openlink_update.rights import limits
 from openlink_update.rights import sandbox
 from openlink_update.rights.lent_files import Lent
+from openlink_update.rights.library_user import LibraryUser
 from openlink_update.rights.limits import DiskLimit
 from openlink_update.rights.limits import Limits
 from openlink_update.rights.sandbox import Job
@@ -51,12 +56,13 @@ def fault_of(call: Callable[[], object]) -> str:
 
 
 def processes_of(number: int) -> list[str]:
-    """The processes of a user that live."""
+    """The processes of a user that live: those that end have no memory any more."""
     found = []
     for name in filter(str.isdigit, os.listdir("/proc")):
         with contextlib.suppress(OSError):
             text = Path(f"/proc/{name}/stat").read_text()
-            if os.stat(f"/proc/{name}").st_uid == number and ") Z" not in text:
+            has_memory = text.rpartition(") ")[2].split()[20] != "0"
+            if os.stat(f"/proc/{name}").st_uid == number and has_memory:
                 found.append(text)
     return found
 
@@ -168,6 +174,12 @@ class Users(Rights):
         with mock.patch("openlink_update.rights.library_user._is_known", lambda _: True):
             self.expect("none is free", library_user.claim(self.top, "east"), None)
 
+    def test_lock(self) -> None:
+        """Nobody else can open the lock, so that no run keeps the rights of root for want of a number."""
+        lock = self.top / library_user.LOCK
+        self.expect("its mode", stat.S_IMODE(lock.stat().st_mode), 0o600)
+        self.expect("another user", self.run_of(lambda _: fault_of(lock.open)), "PermissionError: Permission denied")
+
     def test_last_number(self) -> None:
         """The numbers are those that systemd keeps for such users, 61184 to 65519."""
         for number, wanted in ((61183, None), (61184, 61184), (65519, 65519), (65520, None)):
@@ -199,6 +211,17 @@ class Users(Rights):
 
         self.expect("its result", self.run_of(work), "begun")
         self.expect("no process is left", processes_of(self.user.number), [])
+
+    def test_a_process_that_does_not_end(self) -> None:
+        """Nothing is taken over from a user that still runs something after a minute."""
+        self.expect("as it is", library_user._SECONDS_TO_END, 60)
+        kill, begun = LibraryUser._kill_all, time.monotonic()
+        with mock.patch.object(LibraryUser, "_kill_all", lambda _: None), contextlib.ExitStack() as stack:
+            stack.enter_context(mock.patch.object(library_user, "_SECONDS_TO_END", 0.5))
+            got = self.run_of(lambda _: str(subprocess.Popen(["sleep", "1000"])))
+            self.expect("what is said", got, f"Failure 4: a process of the user {self.user.number} does not end")
+            self.expect("in time", 0.5 <= time.monotonic() - begun < patience(20))
+        kill(self.user)
 
     def test_without_root(self) -> None:
         """Without another user, the function is called as it is, and so is what comes at its pause."""
@@ -282,6 +305,53 @@ class LentFiles(Rights):
         self.expect("what root gets", [len(files) for files in seen], [2, 100, 1])
         self.expect("with their names", seen[0], [("/input/0.txt", b"rows"), ("/input/1.txt", b"rows")])
 
+    def test_files_that_root_does_not_read(self) -> None:
+        """Root reads the bytes of a table only if they are those of files, and not too many together."""
+        with mock.patch.object(sandbox, "MOST_BYTES", 8), contextlib.ExitStack() as stack:
+            paths = [self.file(name, text) for name, text in (("one", "1234"), ("two", "5678"), ("three", "5"))]
+            one, two, three = [stack.enter_context(path.open("rb")).fileno() for path in paths]
+            pipe, other = os.pipe()
+            self.expect("two", sandbox._files_of(b"a\0b", [one, two]), [("a", b"1234"), ("b", b"5678")])
+            self.expect("three", sandbox._files_of(b"a\0b\0c", [one, two, three]), [])
+            self.expect("a pipe", sandbox._files_of(b"a", [pipe]), [])
+            os.close(pipe)
+            os.close(other)
+
+    def test_replies_that_nobody_takes(self) -> None:
+        """A function that asks and asks, and takes no reply, is ended after ten seconds."""
+        self.expect("as it is", sandbox._SECONDS_TO_SEND, 10)
+
+        def work(parent: Parent) -> str:
+            root = parent.lent(RootFolder(self.input))
+            assert isinstance(root, lent_files.LentFolder)
+            while True:
+                root._peer.send(b"f0\0none.txt")
+
+        with mock.patch.object(sandbox, "_SECONDS_TO_SEND", 0.5):
+            begun = time.monotonic()
+            said = "Failure 4: it does not take the replies that it asks for, so it was ended"
+            self.expect("what is said", self.run_of(work), said)
+            self.expect("in time", 0.5 <= time.monotonic() - begun < patience(20))
+
+        def fall_silent(parent: Parent) -> str:
+            root = parent.lent(RootFolder(self.input))
+            assert isinstance(root, lent_files.LentFolder)
+            root._peer.send(b"")
+            return str(time.sleep(1000))
+
+        with mock.patch.object(sandbox, "_SECONDS_TO_SEND", 0.5):
+            said = "Failure 4: it says nothing more, so it was ended"
+            self.expect("one that says nothing more", self.run_of(fall_silent), said)
+
+        def leave(parent: Parent) -> str:
+            root = parent.lent(RootFolder(self.input))
+            assert isinstance(root, lent_files.LentFolder)
+            for _ in range(10):
+                root._peer.send(b"f0\0none.txt")
+            os._exit(0)
+
+        self.expect("one that leaves", self.run_of(leave), "Failure 4: it was ended by status 0")
+
     def test_requests_that_nobody_sends(self) -> None:
         """Whatever is asked for, root answers with a refusal, and reads nothing but regular files."""
         lender = lent_files.Lender([Lent(RootFolder(self.input), replaced=frozenset({("new.txt",)}))])
@@ -320,6 +390,10 @@ class LentFiles(Rights):
 
         self.expect("one after the other", (self.run_of(work, at_pause=between), seen), ("after True", ["0 True"]))
 
+        box = self.box_of(Limits(seconds=1))
+        got = self.run_of(lambda parent: str(parent.pause()), box, at_pause=lambda: time.sleep(1.5))
+        self.expect("the time of root's part does not count", got, "None")
+
         def fail() -> None:
             raise Failure("no restart")
 
@@ -346,6 +420,23 @@ class MostTaken(Rights):
         self.expect("what is said", got, "Exceeded 4: no end within 0.02 minutes, so it was ended")
         self.expect("in time", time.monotonic() - begun < patience(20))
         self.expect("no process is left", processes_of(self.user.number), [])
+
+    def test_time_of_a_fetch(self) -> None:
+        """A fetch has twice the time, and what has come when it ends is used."""
+        steps: list[float] = []
+
+        def longer(box: Sandbox, times: int) -> Sandbox:
+            steps.append(times)
+            return box
+
+        with mock.patch.object(Sandbox, "longer", longer), tempfile.TemporaryDirectory() as folder:
+            Path(folder, "sources.tsv").write_text("# none\n")
+            fetching.fetch(folder, steps.append, 1, 0, (), Sandbox(None, Limits()))
+        self.expect("times", steps[0], 2)
+        box = self.box_of(Limits(seconds=1)).longer(2)
+        begun = time.monotonic()
+        got = self.run_of(lambda _: str(time.sleep(1000)), box)
+        self.expect("in time", (got[:24], 2 <= time.monotonic() - begun), ("Exceeded 4: no end withi", True))
 
     def test_memory(self) -> None:
         """A function may have the memory of its limit, and not more; the limit holds for what it runs too."""
@@ -463,14 +554,29 @@ class Handover(Rights):
         self.expect("modes", {name: stat.S_IMODE(it.st_mode) for name, it in found.items()}, wanted)
         self.expect("owners", {(it.st_uid, it.st_gid) for it in found.values()}, {(0, 0)})
 
+    def test_sizes(self) -> None:
+        """Root and nginx read a registry of 64 KB at most, and a targets.json of a megabyte."""
+        most = {"registry.tsv": 65_536, "targets.json": MB}
+        self.expect("neither", fault_of(lambda: weekly_run._check_sizes(self.top)), "")
+        for name, count in most.items():
+            path = self.top / name
+            path.write_bytes(b"x" * count)
+            self.expect(name, fault_of(lambda: weekly_run._check_sizes(self.top)), "")
+            path.write_bytes(b"x" * (count + 1))
+            wanted = f"Failure: {path}: more than {count:,} bytes"
+            self.expect(f"{name}, one more", fault_of(lambda: weekly_run._check_sizes(self.top)), wanted)
+            path.unlink()
+
     def test_what_is_not(self) -> None:
         """Links, pipes, files with a second name and those of others are not taken."""
-        other = self.top / "other"
+        other, outside = self.top / "other", self.top / "outside"
         other.write_text("root's")
+        outside.mkdir()
+        self.box.own(outside)
 
         def link() -> None:
             (self.written / "a").write_text("x")
-            os.link(self.written / "a", self.written / "b")
+            os.link(self.written / "a", outside / "b")
 
         cases: dict[str, Callable[[], object]] = {
             "link": lambda: (self.written / "link").symlink_to(other),
@@ -543,12 +649,14 @@ class Runs(Case):
         """All that reads a table runs as a user that is not root, of no group; what it makes is root's."""
         provider = Provider(has_tls=False)
         self.addCleanup(provider.stop)
-        provider.steps = {"/table?key=s3cr3t": [reply(200, TABLE)]}
+        fetched = TABLE.replace(b"Annals", b"Archives")
+        provider.steps = {"/table?key=s3cr3t": [reply(200, fetched)]}
         self.library.write("sources.tsv", f"table.txt\t{provider.address('/table?key={key}')}\tplain http\n")
         self.library.write("secrets.tsv", "key\ts3cr3t\n")
         os.chmod(self.library.folder, 0o700)  # the input is for its staff alone
         status, printed = self.update("--fetch")
         self.expect(f"the run: {printed}", (status, "rights of root" in printed), (0, False))
+        self.expect("what is fetched", self.library.read("table.txt"), fetched)
         noted = self.noted()
         self.expect("what ran", {(name, word) for name, word, *_ in noted}, RAN)
         users = {(user, groups) for _, _, user, groups in noted}
@@ -562,6 +670,44 @@ class Runs(Case):
         self.expect(
             "another table", (self.update()[0], "Port" in (self.library.served("tables/press.txt") or "")), (0, True)
         )
+
+    @needs.root()
+    def test_a_fetch_that_does_not_end(self) -> None:
+        """It is ended, and the update goes on with the files that are there."""
+        (self.bin / "curl").write_text("#!/bin/sh\ntrap '' TERM\nsleep 1000\n")
+        self.library.write("sources.tsv", "table.txt\thttps://press.example.com/table\n")
+        minutes = round(patience(4) / 60, 3)
+        status, printed = self.update("--fetch", "--minutes", str(minutes))
+        line = f"the fetch was ended: no end within {minutes * 2:g} minutes, so it was ended"
+        self.expect(printed, (status, line in printed.splitlines()), (1, True))
+        self.expect("the version", "Annals" in (self.library.served("tables/press.txt") or ""))
+
+    @needs.root()
+    def test_what_preparing_may_not(self) -> None:
+        """While a version is made, nothing has a socket, and no target has the secrets; what tries it has sockets."""
+        path = self.bin / "openlink"
+        script = "import socket; socket.socket(); print('open')"
+        line = f'echo "$1 $({shlex.join(PYTHON)} -c "{script}" 2>/dev/null)" >>{self.notes}\nexec'
+        path.write_text(path.read_text().replace("exec", line))
+        self.library.write("secrets.tsv", "key\ts3cr3t\n")
+        self.library.targets["spy"] = ("secrets.tsv", "")
+        self.library.write_targets()
+        status, printed = self.update()
+        self.expect(printed, (status, "secrets.tsv: Permission denied" in printed), (1, True))
+        noted = {line for line in self.notes.read_text().splitlines() if not line.startswith("openlink ")}
+        self.expect("sockets", noted, {"compile ", "inspect ", "lint ", "serve open"})
+
+    @needs.root()
+    def test_a_version_that_is_too_large(self) -> None:
+        """What root or nginx would have to read is not taken if it is too large, whoever has made it so."""
+        path = self.bin / "openlink"
+        path.write_text(
+            path.read_text().replace("exec", "[ -e registry.tsv ] || head -c 2000000 /dev/zero >targets.json\nexec")
+        )
+        status, printed = self.update()
+        wanted = r"openlink-update: \S+/targets.json: more than 1,048,576 bytes\n"
+        self.expect(printed, (status, bool(re.search(wanted, printed))), (4, True))
+        self.expect("nothing is in use", os.path.lexists(os.path.join(self.library.library, "current")), False)
 
     @needs.root()
     def test_a_folder_that_is_closed(self) -> None:

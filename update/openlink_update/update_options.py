@@ -149,7 +149,7 @@ def _add_limits(parser: argparse.ArgumentParser) -> None:
         type=float,
         default=limits.MINUTES,
         metavar="N",
-        help=f"for the fetch of a library, for making its version, and for trying it ({limits.MINUTES})",
+        help=f"for making the version of a library, and for trying it; its fetch has twice as many ({limits.MINUTES})",
     )
     parser.add_argument(
         "--memory",

@@ -216,7 +216,8 @@ class Machine(Library):
 
     def left_over(self, vendors):
         """Files, processes and ports that a run has left. A process gets a few seconds to end with its run."""
-        names = [name for name in os.listdir(self.folder) if name not in ("current", "versions", "lock", "updated")]
+        known = ("current", "versions", "lock", "lock.users", "updated")
+        names = [name for name in os.listdir(self.folder) if name not in known]
         names += [name for name in self.versions() if name.endswith(".new")]
         names += [f"temporary/{name}" for name in os.listdir(self.aside("temporary"))]
         fetch = f"{self.input.folder}.fetch"

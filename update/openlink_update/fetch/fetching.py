@@ -25,6 +25,7 @@ from openlink_update.root_folder import RootFolder, Unusable
 from openlink_update.shown_text import amount, prepare_streams, report
 
 _INPUT = "/etc/openlink/input"
+_TIMES = 2  # the time of another step, since a slow server is no fault of the library
 _MOST_LIST = 2**20  # bytes of the list, which root reads too
 _MOST_DAYS = 90  # that a file may go without a change
 SECONDS, PAUSE = 600, 10  # for a file, all tries together, and before the second try
@@ -81,7 +82,7 @@ def fetch(
     unknown = [file for file in files if file not in [source.file for source in listed]]
     if unknown:
         raise Failure(f"{folder.place(sources.LIST)} has no {', '.join(unknown)}", USAGE)
-    own, box = FetchFolder(folder), user or _sandbox_of(folder)
+    own, box = FetchFolder(folder), (user or _sandbox_of(folder)).longer(_TIMES)
     with own.locked():
         box.own(own.bodies)
 

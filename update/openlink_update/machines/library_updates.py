@@ -1,5 +1,6 @@
 """The updates of several libraries, one after the other, each by a process of its own. So a bad file, a full disk or a
 bug in the update stops only the library that it concerns. Each leaves a report in its folder."""
+import collections
 import contextlib
 import io
 import os
@@ -19,6 +20,7 @@ from openlink_update.versions import shared_tables
 
 ALONE = ""  # the library of a machine alone, in the list of names
 _KILLED = "KILL"
+_MOST_PRINTED, _MOST_LINE, _LAST = 2**20, 2**16, 20  # characters of a library and of a line, and lines of its end
 
 
 class Updates:
@@ -105,8 +107,20 @@ class Updates:
 
     @staticmethod
     def _print(output: IO[str], lines: list[str]) -> None:
-        for line in output:
-            line = printable(line.rstrip("\n"))
+        """Prints the lines of a command, and adds them to others. Of very many, it takes the first ones and the
+        last."""
+        left, left_out = _MOST_PRINTED, 0
+        last: collections.deque[str] = collections.deque(maxlen=_LAST)
+        while text := output.readline(_MOST_LINE):
+            line = printable(text.rstrip("\n"))
+            left -= len(text)
+            if left >= 0:
+                lines.append(f"{line}\n")
+                report(line)
+            else:
+                left_out += len(last) == _LAST
+                last.append(line)
+        for line in [f".. {left_out} lines are left out", *last] if left_out else last:
             lines.append(f"{line}\n")
             report(line)
 

@@ -2,7 +2,8 @@
 
 It needs no line in /etc/passwd, so it is the same where an older release is upgraded, in a container, and where /etc
 cannot be written. Nothing belongs to it any more when the run has ended, so it need not be remembered. The numbers are
-those that systemd keeps for users of this kind (DynamicUser=)."""
+those that systemd keeps for users of this kind (DynamicUser=). In the folder of all libraries, a run locks the byte of
+its number in the file lock.users, which only root can open."""
 import contextlib
 import ctypes
 import fcntl
@@ -16,8 +17,12 @@ from collections.abc import Iterable, Iterator
 from pathlib import Path
 from typing import IO
 
+from openlink_update.outcome import DEVICE, Failure
+
 _NUMBERS = range(61184, 65520)
-_PAUSE = 0.01  # seconds
+LOCK = "lock.users"
+_OF_ROOT = 0o600  # or anybody could take all numbers
+_PAUSE, _SECONDS_TO_END = 0.01, 60
 _WELL = "well"
 _NO_NEW_PRIVILEGES, _DUMPABLE, _DEATH_SIGNAL = 38, 4, 1  # of prctl
 _LIBC = ctypes.CDLL(None)
@@ -71,12 +76,14 @@ class LibraryUser:
         return numbers == {self.number} and self.number in _NUMBERS
 
     def end_all(self) -> None:
-        """Ends all processes that it has, and waits until none lives."""
-        while True:
+        """Ends all processes that it has, and waits until none lives. A Failure if one does not end."""
+        end = time.monotonic() + _SECONDS_TO_END
+        while time.monotonic() < end:
             self._kill_all()
             if self.number not in set(_numbers_in_use()):
                 return
             time.sleep(_PAUSE)
+        raise Failure(f"a process of the user {self.number} does not end", DEVICE)
 
     def _kill_all(self) -> None:
         parent, child = os.getpid(), os.fork()
@@ -122,7 +129,7 @@ def claim(folder: Path, name: str) -> LibraryUser | None:
     if os.geteuid() != 0:
         return None
     try:
-        lock = open(folder / "lock", "a", encoding="ascii")
+        lock = open(os.open(folder / LOCK, os.O_RDWR | os.O_CREAT | os.O_NOFOLLOW, _OF_ROOT), "r+", encoding="ascii")
     except OSError:
         return None
     in_use, first = set(_numbers_in_use()), zlib.crc32(name.encode()) % len(_NUMBERS)

@@ -7,7 +7,7 @@ from pathlib import Path
 from openlink_update.outcome import DEVICE, Failure
 from openlink_update.rights import disk_use
 
-MINUTES = 45  # for each of its steps: the fetch, making a version, and trying it
+MINUTES = 45  # for each of its steps: making a version, and trying it; the fetch has twice as many
 MEMORY_MB = 3584  # of a process, below what the units allow all processes
 _MOST_PROCESSES = 256
 _MB = 2**20

@@ -27,6 +27,7 @@ from openlink_update.shown_text import line_of, report
 
 _MOST_RESULT = 30_000  # characters
 _SHARE = 20  # of the time, one part may go to looking at the disk
+_SECONDS_TO_SEND, _PAUSE_TO_END = 10, 0.01  # for a child to take a reply, or to end
 _MOST_FILES = 100  # of a table that is shared
 _RESULT, _FAULT, _PAUSE, _SHARED, _GO = b"R", b"F", b"P", b"S", b"G"
 
@@ -136,6 +137,10 @@ class Sandbox:
         if self._user:
             os.chown(folder, self._user.number, self._user.number)
 
+    def longer(self, times: int) -> "Sandbox":
+        """The same, with several times the time."""
+        return Sandbox(self._user, dataclasses.replace(self._limits, seconds=self._limits.seconds * times))
+
     def other(self, folder: Path, name: str) -> "Sandbox":
         """That of another user, with the same limits. A Failure if none is free."""
         user = library_user.claim(folder, name)
@@ -156,6 +161,7 @@ class Sandbox:
         if child == 0:
             _be_child(self._user, self._limits, job, theirs, parent)
         theirs.close()
+        ours.settimeout(_SECONDS_TO_SEND)
         try:
             return self._served(job, ours, child)
         finally:
@@ -169,7 +175,7 @@ class Sandbox:
         lender, clock = Lender(job.lent), _Clock(time.monotonic() + self._limits.seconds)
         disk = DiskLimit(self._limits, job.written)
         for _ in _moments(peer, clock, disk):
-            message, sent, _, _ = socket.recv_fds(peer, MOST_MESSAGE, _MOST_FILES)
+            message, sent = _received(peer)
             try:
                 match message[:1]:
                     case b"":
@@ -182,7 +188,7 @@ class Sandbox:
                         begun = time.monotonic()
                         job.at_pause()
                         clock.end += time.monotonic() - begun  # the restarts of processes have limits of their own
-                        peer.send(_GO)
+                        _send(peer, _GO)
                     case kind if kind == _SHARED:
                         files = _files_of(message[1:], sent)
                         found = job.shared(files) if files else None
@@ -194,8 +200,13 @@ class Sandbox:
         raise disk.fault() or self._limits.out_of_time()
 
     def _fault_of(self, child: int) -> Failure:
-        """Why a child has ended without a result."""
-        code = os.waitstatus_to_exitcode(os.waitpid(child, 0)[1])
+        """Why a child has ended without a result, or says nothing more."""
+        end = time.monotonic() + _SECONDS_TO_SEND
+        while not (ended := os.waitpid(child, os.WNOHANG))[0]:
+            if time.monotonic() > end:
+                return Failure("it says nothing more, so it was ended", DEVICE)
+            time.sleep(_PAUSE_TO_END)
+        code = os.waitstatus_to_exitcode(ended[1])
         what = f"the signal {signal.Signals(-code).name}" if code < 0 else f"status {code}"
         return Failure(f"it was ended by {what}", DEVICE)
 
@@ -214,10 +225,24 @@ def _files_of(names: bytes, descriptors: Sequence[int]) -> list[tuple[str, bytes
     return found
 
 
-def _send(peer: socket.socket, message: bytes, lent: Sequence[int]) -> None:
-    """Sends a message with descriptors, which are closed here."""
+def _received(peer: socket.socket) -> tuple[bytes, list[int]]:
+    """A message and its descriptors; nothing if the child has ended."""
+    try:
+        message, sent, _, _ = socket.recv_fds(peer, MOST_MESSAGE, _MOST_FILES)
+    except ConnectionError:
+        return b"", []
+    return message, sent
+
+
+def _send(peer: socket.socket, message: bytes, lent: Sequence[int] = ()) -> None:
+    """Sends a message with descriptors, which are closed here. A Failure if the child does not take it in time. That it
+    has ended is seen by its next message."""
     try:
         socket.send_fds(peer, [message], lent)
+    except TimeoutError as fault:
+        raise Failure("it does not take the replies that it asks for, so it was ended", DEVICE) from fault
+    except ConnectionError:
+        pass
     finally:
         _close(lent)
 
@@ -307,7 +332,7 @@ def of(folder: Path, library: Path, limits: Limits, paths: Sequence[Path]) -> Sa
     given = filter(None, [os.environ.get("CURL_CA_BUNDLE"), os.environ.get("SSL_CERT_FILE")])
     needed = [*paths, *map(Path, (sys.executable, os.path.dirname(os.__file__), *given))]
     if user is None:
-        fault = f"no user is free, or {folder / 'lock'} cannot be written"
+        fault = f"no user is free, or {folder / library_user.LOCK} cannot be written"
     else:
         fault = user.fault([path for path in needed if path.exists()])
     if fault:

@@ -7,6 +7,7 @@
     before                 only while processes are restarted: a link to the version to go back to, or to `none`
     trial/                 files of the front door that tries a version; the next run removes it
     lock                   locked by a run as long as it lives
+    lock.users             see library_user.py
 """
 import datetime
 import fcntl
