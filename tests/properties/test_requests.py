@@ -12,7 +12,8 @@ from properties.property_case import cases_of
 from properties.property_case import strategies as st
 
 KEYS = """genre issn eissn isbn eisbn volume issue spage epage pages artnum date year atitle jtitle btitle stitle title
-    au aulast aufirst part ssn quarter sici coden sid pid id doi pmid pmcid number identifier creator source type ctx_ver
+    au aulast aufirst part ssn quarter sici coden sid pid id doi pmid pmcid number identifier creator source
+    type ctx_ver
     ctx_enc url_ver rft_id rft_dat rft_val_fmt rfr_id""".split()
 COLUMNS = """publication_title print_identifier online_identifier date_first_issue_online num_first_vol_online
     num_first_issue_online date_last_issue_online num_last_vol_online num_last_issue_online title_url first_author
@@ -28,8 +29,10 @@ VALUES = r"""2901-0012 29010012 2901-001X 0000-0000 9781234560102 0306406152 ANY
     101-118 2344-55 e123 S12-20 xii-xx 12,+13 p.+101 N.PAG ARTN+e0123456 2901-0012 2013 2013-08 2013/8/1 25/12/2013
     1/2/2013 Aug+2013 Winter+2012/2013 2012;12(3):45-67 12(3),+45-67 Storm+surges Tides+%26+Storms Tides+&+Storms
     <i>Storm</i>+surges Storm%2Bsurges caf%E9 caf%C3%A9 %25 % %e doi:10.5555/x https://doi.org/10.5555/a
-    info:doi/10.5555/b info:pmid/123 pmid:77 info:oclcnum/12 info:sid/google 10.5555/x(1)2 arXiv:2101.00001 PMC12345 urn:ISSN:2901-0012
-    book article journal info:ofi/fmt:kev:mtx:journal info:ofi/fmt:kev:mtx:book info:ofi/fmt:kev:mtx:dc Z39.88-2004 Z39.00
+    info:doi/10.5555/b info:pmid/123 pmid:77 info:oclcnum/12 info:sid/google 10.5555/x(1)2 arXiv:2101.00001
+    PMC12345 urn:ISSN:2901-0012
+    book article journal info:ofi/fmt:kev:mtx:journal info:ofi/fmt:kev:mtx:book info:ofi/fmt:kev:mtx:dc
+    Z39.88-2004 Z39.00
     info:ofi/enc:UTF-8 info:ofi/enc:ISO-8859-1 Retracted:+Storms Storm+surges.+12(3),+45-67 {\'e}t%C3%A9 &amp;
     Annals+of+Tidal+Studies,+12(3)""".split()
 
