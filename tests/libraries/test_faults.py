@@ -74,7 +74,8 @@ class Faults(Case):
             self.expect("the first one", machine.get("links.library.example.org", "/find"), before)
             other = machine.get("127.0.0.1", "/find")
             # The page has its own address, for the browser's bookmark.
-            self.expect("for any other name, too", other[1].replace("127.0.0.1", "links.library.example.org"), before[1])
+            text = other[1].replace("127.0.0.1", "links.library.example.org")
+            self.expect("for any other name, too", (other[0], text), before)
             self.expect("its week", "/titles/pp" in machine.get("a", "/find?issn=3030-0009&date=1994&volume=5")[1])
             alone.deliver("A")
             east.input.deliver("B")
