@@ -100,10 +100,11 @@ OF_PAGES = [
     ("issn=2943-081X&date=2012", "Full text from Estuary Online"),
     ("issn=3006-1962&atitle=Notes+on+tar&date=1921", "Notes on tar"),
     ("jtitle=Soundings&atitle=Depths+of+the+strait&date=1970&volume=5", "Depths of the strait"),
+    ("jtitle=Soundings", "Soundings"),
     ("rft.genre=journal&rft.issn=2901-0012", "Full text from Tidal Press, North Sea Archive, AggregateNet"),
     ("rft.genre=journal&rft.issn=2901-0012&rft.date=1850", "Annals of Tidal Studies"),
     ("au=Smith", "Find this item"),
-    ("atitle=%D7%9B%D7%95%D7%AA%D7%A8+(%D7%90)", "<bdi>כותר (א)</bdi>"),
+    ("atitle=%D7%9B%D7%95%D7%AA%D7%A8+(%D7%90)", "\u2068כותר (א)\u2069"),
     ("atitle=1+%3C+2+%26+3", "1 &lt; 2 &amp; 3"),
 ]
 

@@ -92,7 +92,7 @@ class Mail(ProvidersCase):
             library.write_sources(f"good.txt\t{self.providers.address('/raw/drip')}")
             library.write("good.txt", OLD)
             child = library.begin_update("--fetch")
-            self.expect("it fetches", wait_until(lambda: library.read(library.state("0")) is not None))
+            self.expect("it fetches", wait_until(lambda: library.read(library.state("bodies/0")) is not None))
             child.send_signal(signal.SIGTERM)
             status, printed = ended(child)
             self.expect("its end", (status, printed), (3, "openlink-update: ended by SIGTERM\n"))

@@ -63,7 +63,6 @@ REFUSED = [
 TAKEN = [
     json.dumps(GOOD).encode(),
     of_size(MOST_BYTES),
-    with_text('"folder": "/\\ud800"'),
     with_text('"": 1'),
     with_text('"__proto__": {"constructor": "x"}'),
     with_text('"folder": 1e999'),

@@ -129,8 +129,11 @@ def sorted_cell(cell: str, between: str) -> str:
 
 
 def lines_of(found: Index) -> Iterator[tuple[Any, ...]]:
+    """All lines but those of initials, which abbreviated titles need."""
     for name in found.names("keys"):
         for key, kind, title, numbers, *more in found.lines("keys", name):
+            if key.startswith("^"):
+                continue
             yield name, key, title, kind, sorted_cell(numbers, " "), sorted_cell(more[0], ";") if more else None
 
 

@@ -19,7 +19,8 @@ from limits.test_lookups import SiteWithLookups
 
 WAITING, RATE = 3, 3
 COUNTED = 7  # requests whose time is measured
-# A reply that may be kept has at most 999,999 bytes: with its head, 245 blocks of 4,096 bytes on a disk. 50 MB are 12,800.
+# A reply that may be kept has at most 999,999 bytes: with its head, 245 blocks of 4,096 bytes on a disk, and 50 MB are
+# 12,800 blocks.
 BODY = b"a" * 999_900
 MOST_KEPT, SENT = 52, 55
 _RATE = re.compile(r"(zone=(openlink_(?:lookup_rate|reader_lookup)):\w+ rate=)\d+r/s")
@@ -62,7 +63,9 @@ class AllLookups(Case):
 
         self.site.edit_before_start(lambda text: _RATE.sub(rated, text))
         self.site.start()
-        self.port = int(re.findall(r'\$openlink_lookup "http://127\.0\.0\.1:(\d+)"', self.site.read("openlink.conf"))[0])
+        self.port = int(
+            re.findall(r'\$openlink_lookup "http://127\.0\.0\.1:(\d+)"', self.site.read("openlink.conf"))[0]
+        )
 
     def look_up(self, number: str) -> int:
         return self.site.get(f"/doi?id=10.5555/{number}", port=self.port).status

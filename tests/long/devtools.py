@@ -95,6 +95,11 @@ class Browser:
                   features=[{"name": name, "value": value} for name, value in features.items()])
         self.call("Network.setExtraHTTPHeaders", headers={"Accept-Language": language})
 
+    def slow_down(self, latency, bits):
+        """From now on a reply begins after this number of milliseconds, and has this number of bits a second."""
+        self.call("Network.emulateNetworkConditions", offline=False, latency=latency, downloadThroughput=bits / 8,
+                  uploadThroughput=bits / 8)
+
     def names_of(self, role):
         """The names that a screen reader says for what has a role in the page, such as `link`."""
         nodes = self.call("Accessibility.getFullAXTree")["nodes"]

@@ -1,2 +1,2 @@
-"""Properties that hold for every case: hypothesis makes the cases, a thousand for each. What it finds becomes an example
-in a test of the package that the fault is in."""
+"""Properties that hold for every case: hypothesis makes a thousand for each. What it finds becomes an example in a
+test of the package that the fault is in."""

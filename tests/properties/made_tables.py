@@ -60,7 +60,7 @@ def _plain(text: str) -> str:
 
 
 def _dates() -> Any:
-    return st.one_of(st.sampled_from(_DATES), st.text("0123456789-/. TZ:\"", max_size=12))
+    return st.one_of(st.sampled_from(_DATES), st.text('0123456789-/. TZ:"', max_size=12))
 
 
 def _rows() -> Any:
@@ -75,8 +75,10 @@ def _rows() -> Any:
 def _written(header: list[str], rows: list[tuple[str, ...]], separator: str, end: str) -> str:
     """The text of a table; cells with tabs have none of them."""
     if separator == "\t":
-        lines = ["\t".join(" ".join(cell.split("\t")).replace("\n", " ").replace("\r", " ") for cell in row)
-                 for row in [tuple(header), *rows]]
+        lines = [
+            "\t".join(" ".join(cell.split("\t")).replace("\n", " ").replace("\r", " ") for cell in row)
+            for row in [tuple(header), *rows]
+        ]
         return end.join([*lines, ""])
     out = io.StringIO()
     csv.writer(out, delimiter=separator, lineterminator=end).writerows([header, *rows])

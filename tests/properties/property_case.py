@@ -1,5 +1,5 @@
-"""The class of tests whose cases hypothesis makes. OPENLINK_CASES says how many, and OPENLINK_SEED which; without a seed
-they are the same in each run."""
+"""The class of tests whose cases hypothesis makes. OPENLINK_CASES says how many, and OPENLINK_SEED which; without a
+seed they are the same in each run."""
 from __future__ import annotations
 
 import os

@@ -26,8 +26,11 @@ GOOD = ("state", "drain", "end-drain", "name", "receive", "rsync", "--server", *
 BAD = tuple(
     """.. /etc/ law/../x/ ../input/ --rsync-path=x -e sh --sender --files-from=/etc/shadow Law law/versions/x.sent/
     /versions/ law/versions/20269901T000000Z.sent/ law/ versions/ ~/input/ --link-dest=/etc --link-dest=../../x --daemon
-    --delete-after --timeout=600 --mkpath=x --link-dest=../20261101T040000Z/../../x -rtle.L -c ; $(x) law/input/../../x/ shared/../x/ shared law/input 20269901T000000Z 99991231T235959Z --take""".split()
+    --delete-after --timeout=600 --mkpath=x --link-dest=../20261101T040000Z/../../x
+    -rtle.L -c ; $(x) law/input/../../x/ shared/../x/ shared law/input
+    20269901T000000Z 99991231T235959Z --take""".split()
 )
+NEAR = ("--delete-after", "--timeout=600", "--mkpath=x", f"--link-dest=../{STAMPS[0]}/../../x", "-rte.L x", "-rtle.L")
 
 
 def is_allowed(words: list[str]) -> bool:
@@ -46,7 +49,7 @@ def _requests() -> Any:
     word = st.one_of(st.sampled_from(GOOD), st.sampled_from(BAD), st.just(""), st.just("a b"))
     rsync = st.tuples(
         st.lists(st.sampled_from(OPTIONS), min_size=1, max_size=4),
-        st.one_of(st.just([]), st.just([]), st.lists(word, max_size=1)),
+        st.one_of(st.just([]), st.sampled_from(NEAR).map(lambda it: [it]), st.lists(word, max_size=1)),
         st.one_of(st.sampled_from(PLACES), st.sampled_from(PLACES), word),
     ).map(lambda it: ["rsync", "--server", *it[0], *it[1], ".", it[2]])
     receive = st.tuples(st.sampled_from((*LIBRARIES, "Law", "..")), st.sampled_from((*STAMPS, "x")))
@@ -62,8 +65,8 @@ class _Replaced(Exception):
 
 
 def taken(words: list[str], folder: str, is_forced: bool) -> Any:
-    """What comes of a request, which sshd or the command line gives: 'refused', the words of a program, what a run has to
-    receive, or nothing."""
+    """What comes of a request, which sshd or the command line gives: 'refused', the words of a program, what a run has
+    to receive, or nothing."""
     options = mock.Mock(library=Path(folder), take=[] if is_forced else words)
     asked = mock.patch.dict(os.environ, SSH_ORIGINAL_COMMAND=shlex.join(words))
     calls = {"execvp": mock.Mock(side_effect=_Replaced), "chdir": mock.Mock()}
@@ -97,12 +100,14 @@ class Deliveries(PropertyCase):
             wanted = {"rsync": asked, "receive": {"take": None, "receive": asked[-1], "names": names}}.get(asked[0])
             assert result == wanted, (words, result)
 
-        cases = st.tuples(_requests(), st.booleans()).filter(lambda it: it[1] or it[0])
+        cases = st.tuples(_requests(), st.booleans())
         self.hold(cases, holds)
 
     def test_places_are_within(self) -> None:
         """Whatever rsync may write to is an input, a version that is sent, its probes, or what libraries share."""
-        piece = st.sampled_from((".", "..", "/", "//", "law", "input", "versions", STAMPS[0], ".sent", ".probes", "shared"))
+        piece = st.sampled_from(
+            (".", "..", "/", "//", "law", "input", "versions", STAMPS[0], ".sent", ".probes", "shared")
+        )
         places = st.one_of(st.lists(piece, max_size=8).map("".join), st.sampled_from(PLACES), st.sampled_from(BAD))
 
         def holds(place: str) -> None:

@@ -11,8 +11,9 @@ from properties.property_case import PropertyCase
 from properties.property_case import cases_of
 from properties.property_case import strategies as st
 
-KEYS = """genre issn eissn isbn eisbn volume issue spage epage pages artnum date year atitle jtitle btitle stitle title au
-    aulast aufirst part ssn quarter sici coden sid pid id doi pmid pmcid number identifier creator source type ctx_ver
+KEYS = """genre issn eissn isbn eisbn volume issue spage epage pages artnum date year atitle jtitle btitle stitle title
+    au aulast aufirst part ssn quarter sici coden sid pid id doi pmid pmcid number identifier creator source
+    type ctx_ver
     ctx_enc url_ver rft_id rft_dat rft_val_fmt rfr_id""".split()
 COLUMNS = """publication_title print_identifier online_identifier date_first_issue_online num_first_vol_online
     num_first_issue_online date_last_issue_online num_last_vol_online num_last_issue_online title_url first_author
@@ -21,14 +22,17 @@ COLUMNS = """publication_title print_identifier online_identifier date_first_iss
     preceding_publication_title_id access_type coverage_from coverage_to""".split()
 # What the front door itself adds; a request's own have no effect.
 ADDED = {"x.issn", "x.eissn", "x.isbn", "x.from", "x.to", "x.doi", "x.pmid", "x.pmc", "x.oclc"}
+ROWS = {"rft.issn", "rft.eissn", "rft.isbn"}  # the keys that find rows, of which ANY takes the place
 NUMBERS = {"rft.issn", "rft.eissn", "rft.isbn", "issn", "eissn", "isbn"}
 MOST_BYTES, USUAL = 12_000, 3_000
 VALUES = r"""2901-0012 29010012 2901-001X 0000-0000 9781234560102 0306406152 ANY a-n-y 12 53(2) Vol.+53 136+Suppl+1 Pt+8
     101-118 2344-55 e123 S12-20 xii-xx 12,+13 p.+101 N.PAG ARTN+e0123456 2901-0012 2013 2013-08 2013/8/1 25/12/2013
     1/2/2013 Aug+2013 Winter+2012/2013 2012;12(3):45-67 12(3),+45-67 Storm+surges Tides+%26+Storms Tides+&+Storms
-    <i>Storm</i>+surges Storm%2Bsurges caf%E9 caf%C3%A9 %25 % %e doi:10.5555/x https://doi.org/10.5555/a info:doi/10.5555/b
-    info:pmid/123 pmid:77 info:oclcnum/12 info:sid/google 10.5555/x(1)2 arXiv:2101.00001 PMC12345 urn:ISSN:2901-0012 book
-    article journal info:ofi/fmt:kev:mtx:journal info:ofi/fmt:kev:mtx:book info:ofi/fmt:kev:mtx:dc Z39.88-2004 Z39.00
+    <i>Storm</i>+surges Storm%2Bsurges caf%E9 caf%C3%A9 %25 % %e doi:10.5555/x https://doi.org/10.5555/a
+    info:doi/10.5555/b info:pmid/123 pmid:77 info:oclcnum/12 info:sid/google 10.5555/x(1)2 arXiv:2101.00001
+    PMC12345 urn:ISSN:2901-0012
+    book article journal info:ofi/fmt:kev:mtx:journal info:ofi/fmt:kev:mtx:book info:ofi/fmt:kev:mtx:dc
+    Z39.88-2004 Z39.00
     info:ofi/enc:UTF-8 info:ofi/enc:ISO-8859-1 Retracted:+Storms Storm+surges.+12(3),+45-67 {\'e}t%C3%A9 &amp;
     Annals+of+Tidal+Studies,+12(3)""".split()
 
@@ -50,8 +54,14 @@ def _pairs() -> Any:
         st.sampled_from(("issn", "rft.issn", "rft.eissn", "isbn", "rft.isbn", "rft_id", "id")),
         st.sampled_from(("2901-0012", "29080142", "9781234560102", "ANY", "urn:ISSN:2901-0012", "2901-0012,2908-0142")),
     )
+    pages = st.builds(
+        "rft.{}={}".format,
+        st.sampled_from(("artnum", "artnum", "spage", "epage", "pages", "volume", "issue", "date")),
+        st.one_of(st.sampled_from(VALUES[:40]), st.text("0123456789-", min_size=3, max_size=9)),
+    )
+    dropped = st.sampled_from(("x.note=Caf%E9", "notes=%E9", "x.a=b", "title_id=1", "rft_id=doi:"))
     others = st.builds("{}{}={}".format, prefixes, keys, values)
-    return st.one_of(others, others, others, numbers)
+    return st.one_of(others, others, others, numbers, pages, dropped)
 
 
 def _requests() -> Any:
@@ -105,7 +115,11 @@ class Requests(PropertyCase):
     def test_no_key_passes_that_must_not(self) -> None:
         faults = [(args, passed(it[0])) for args, it in zip(self.requests, self.read) if passed(it[0])]
         self.expect_none("passed", faults)
-        of_any = [it[2] for it in self.read if passed(it[2]) != [("rft.issn", "ANY")] or it[2].find("rft.issn=ANY")]
+        of_any = [
+            it[2]
+            for it in self.read
+            if passed(it[2]) != [("rft.issn", "ANY")] or sum(key in ROWS for key, _ in pairs_of(it[2])) != 1
+        ]
         self.expect_none("passed for targets without a table", of_any)
         many = sum("x.issn" in it[0] for it in self.read)
         self.expect(f"{many} with a number", many > len(self.read) // 20)

@@ -88,6 +88,8 @@ class Tables(PropertyCase):
             once = standard(text)
             assert standard(once) == once, (text, once, standard(once))
 
-        parts = st.sampled_from(("12", "1995", "2004", "1", "31", "Dec", "May", " ", "-", "/", ".", "T", "T10:00", ":", "AM"))
+        parts = st.sampled_from(
+            ("12", "1995", "2004", "1", "31", "Dec", "May", " ", "-", "/", ".", "T", "T10:00", ":", "AM")
+        )
         texts = st.one_of(st.lists(parts, max_size=6).map("".join), st.text("0123456789-/. TZ:apm", max_size=14))
         self.hold(texts, holds)

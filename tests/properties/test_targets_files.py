@@ -16,7 +16,8 @@ from properties.property_case import strategies as st
 # Numbers that njs reads and JSON does not have.
 _LAX = re.compile(r"(?<![\w.+-])-?(?:0\d[\d.]*|\d+\.(?!\d)|\.\d)")
 # Texts in the place of a value.
-_RAW = r"""01 1. .5 -01 00 1e5 1E400 -0 0x1 NaN Infinity -Infinity "\ud800" "\ud83d\ude00" "\u0000" "\x41" {"a":1,"a":2} {"\udc00":1}
+_RAW = r"""01 1. .5 -01 00 1e5 1E400 -0 0x1 NaN Infinity -Infinity "\ud800" "\ud83d\ude00"
+    "\u0000" "\x41" {"a":1,"a":2} {"\udc00":1}
     nul True 'a' [1,] {"a":1,} 123456789012345678901234567890""".split()
 # Pieces of a text, some of which JSON has in no place, or in few.
 _PIECES = (

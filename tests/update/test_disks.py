@@ -78,7 +78,7 @@ class Disks(Case):
         with Library() as aside:
             with disk(aside, "size=8m,nr_inodes=1000") as folder:
                 with Library(folder=os.path.join(folder, "library")) as library:
-                    statuses = fill(self, library, (0, 20, 40, 80, 100, 108, 118, 130),
+                    statuses = fill(self, library, (0, 20, 40, 80, 100, 118, 128, 140),
                                     lambda room: fill_files(folder, room))
                     self.expect(f"no file left: {statuses}", (set(statuses[:-1]), len(statuses) > 4, statuses[-1]),
                                 ({4}, True, 0))

@@ -59,7 +59,7 @@ class IndexWeeks(Case):
             self.expect("the format", text, "5 list\n")
             with open(library.path("current", "index", "named")) as file:
                 named = dict(line.rstrip("\n").split("\t") for line in file)
-            self.expect("what the rules name", named.get("coastal-law"), "date")
+            self.expect("what the rules name", named.get("coastal-law"), "date volume")
             with open(library.path("current", "index", "format"), "w") as file:
                 file.write("0 list\n")
             status, printed = library.run()

@@ -695,7 +695,7 @@ class Runs(Case):
         status, printed = self.update()
         self.expect(printed, (status, "secrets.tsv: Permission denied" in printed), (1, True))
         noted = {line for line in self.notes.read_text().splitlines() if not line.startswith("openlink ")}
-        self.expect("sockets", noted, {"compile ", "inspect ", "lint ", "serve open"})
+        self.expect("sockets", noted, {"compile ", "explain ", "inspect ", "lint ", "serve open"})
 
     @needs.root()
     def test_a_version_that_is_too_large(self) -> None:
@@ -734,4 +734,4 @@ class Runs(Case):
         self.expect("the owner", Path(self.library.library, "current/registry.tsv").stat().st_uid, user)
 
 
-RAN = {("curl", "-q"), *(("openlink", word) for word in ("compile", "inspect", "lint", "serve"))}
+RAN = {("curl", "-q"), *(("openlink", word) for word in ("compile", "explain", "inspect", "lint", "serve"))}
