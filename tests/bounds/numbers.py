@@ -16,6 +16,7 @@ _SCRIPT = re.compile(r"^const ([A-Z][A-Z0-9_]*) = ([\d.]+);", re.M)
 _DIRECTIVE = re.compile(r"#?(limit_(req|conn)(_zone)?|\w*timeout|\w*_size|\w*_buffers|proxy_cache_path)")
 _LIMIT = re.compile(r"Limit\w+|MemoryMax|TasksMax|Timeout\w+|StartLimit\w+|RestartSec|RuntimeMaxSec|WatchdogSec")
 _WAIT = re.compile(r"timeout|maxconn")
+_CONNECTIONS = re.compile(r"size|add")
 _BOUNDING = re.compile(r"most|least|seconds")
 
 
@@ -100,6 +101,10 @@ def of_haproxy(text: str) -> Iterator[tuple[str, str]]:
     yield from _of_entries(declarations.haproxy, _WAIT, text)
 
 
+def of_nftables(text: str) -> Iterator[tuple[str, str]]:
+    yield from _of_entries(declarations.nftables, _CONNECTIONS, text)
+
+
 # The files, what finds the numbers in one, and the least number that all of them have.
 KINDS: tuple[tuple[tuple[str, ...], Callable[[str], Iterator[tuple[str, str]]], int], ...] = (
     (("update/openlink_update/**/*.py",), of_python, 90),
@@ -107,6 +112,7 @@ KINDS: tuple[tuple[tuple[str, ...], Callable[[str], Iterator[tuple[str, str]]], 
     (("front_door/*.conf",), of_nginx, 30),
     (("packaging/systemd/*.service", "packaging/systemd/*.socket"), of_unit, 5),
     (("packaging/haproxy/haproxy.cfg",), of_haproxy, 5),
+    (("packaging/nftables/*.nft",), of_nftables, 4),
 )
 
 

@@ -34,16 +34,35 @@ class Names(Case):
             self.expect(name, library_files.HOST.fullmatch(host) is not None, wanted)
 
     def test_ports(self) -> None:
-        """The first ten that are free from 8100 on, none from 32000 on; a library has at most nine processes."""
+        """The lowest that are free from 214 to 318, then ten from 8100 on, none from 32000 on; at most nine
+        processes."""
         self.expect("processes", library_files.MOST_PROCESSES, 9)
         with tempfile.TemporaryDirectory() as root:
             places = library_files.Places(root)
-            for taken, wanted in ((8099, (8100, [8101, 8102])), (8102, (8110, [8111, 8112]))):
-                with mock.patch.object(children, "is_open", lambda port: port == taken):
-                    self.expect(f"{taken} is taken", library_files.ports_of(places, None, 2), wanted)
-            for last, said in ((31_989, ""), (31_990, "the ports from 8100 on are not free")):
+            for taken, wanted in (
+                ({213}, (214, [215, 216])),
+                ({214}, (215, [216, 217])),
+                ({216}, (217, [218, 219])),
+                ({*range(214, 316)}, (316, [317, 318])),
+                ({*range(214, 317)}, (8100, [8101, 8102])),
+                ({*range(214, 319), 8099}, (8100, [8101, 8102])),
+                ({*range(214, 319), 8102}, (8110, [8111, 8112])),
+            ):
+                with mock.patch.object(children, "is_open", taken.__contains__):
+                    self.expect(f"{taken} are taken", library_files.ports_of(places, None, 2), wanted)
+            for last, said in ((31_989, ""), (31_990, "the ports from 214 on are not free")):
                 with mock.patch.object(children, "is_open", lambda port: port <= last):
                     self.expect(f"all up to {last} are taken", reason(library_files.ports_of, places, None, 2), said)
+
+    def test_protected_ports(self) -> None:
+        """The system gives the ports below 1024 to root, and to processes whose unit says so: theirs alone says it."""
+        with tempfile.TemporaryDirectory() as root:
+            places = library_files.Places(root)
+            library_files.write_units(places, "east", Path("/etc/openlink/east"), [1023, 1024])
+            self.expect("units of the library", library_files.unit_ports(places), [1023, 1024])
+            for port, wanted in ((1023, 2), (1024, 0)):
+                text = library_files.read(library_files._unit_path(places, port))
+                self.expect(f"{port}", text.count("=CAP_NET_BIND_SERVICE\n"), wanted)
 
     def test_processes(self) -> None:
         """Nine, which openlink-library counts; and of the ten ports of a library."""

@@ -42,7 +42,7 @@ def output(site: Site, command: str, tls_port: int = 1) -> str:
     """What a command prints, with the ports and files of this site."""
     pairs = [
         ("127.0.0.1:8079", f"127.0.0.1:{site.report_port}"),
-        ("127.0.0.1:8081", f"127.0.0.1:{site.ports[0]}"),
+        ("127.0.0.1:291", f"127.0.0.1:{site.ports[0]}"),
         ("127.0.0.1:443", f"127.0.0.1:{tls_port}"),
         ("http://127.0.0.1/", f"http://127.0.0.1:{site.port}/"),
         ("/var/log/nginx", site.path("log")),

@@ -23,6 +23,7 @@ BAD = ("", "-", "-east", "east-", "east--hall", "1st", "East", "east_hall", "eas
 BAD_HOSTS = ("", "East.example.org", "east.example.org;", "a b", "a..b", "a-.example.org", "a_b.example.org",
              "a.example.org\nlisten 81", "a.example.org\n", "*.example.org", "$host", "a" * 64 + ".org",
              ".".join(["a" * 60] * 5))
+RIGHT = ["AmbientCapabilities=CAP_NET_BIND_SERVICE", "CapabilityBoundingSet=CAP_NET_BIND_SERVICE"]
 
 
 def left(machine):
@@ -108,9 +109,26 @@ class Names(Case):
                 self.expect(name, machine.library("add", name, f"{name}.example.org")[0], 0)
                 cells = machine.library("list")[1].split(f"{name}\t")[1].split("\t")
                 ports.add(int(cells[1]))
-                self.expect(f"{name}: ports", (int(cells[1]) % 10, int(cells[1]) >= 8100, cells[2].split()),
-                            (0, True, [str(int(cells[1]) + 1), str(int(cells[1]) + 2)]))
+                self.expect(f"{name}: ports", (213 < int(cells[1]) < 317, cells[2].split()),
+                            (True, [str(int(cells[1]) + 1), str(int(cells[1]) + 2)]))
+                for port in cells[2].split():
+                    unit = read(machine.path(f"etc/systemd/system/openlink@{port}.service.d/library.conf"))
+                    self.expect(f"{port}: its right", unit.splitlines()[-2:], RIGHT)
             self.expect("other ports for each", len(ports), 2)
+            warning = "any user of this machine can take a port from 1024 on while its process restarts\n"
+            for name, more in (("centre", ()), ("coast", ("--ports", str(free_ports(3))))):
+                status, printed = machine.library("add", name, f"{name}.example.org", *more)
+                self.expect(f"{name}: the warning", (status, warning in printed), (0, bool(more)))
+
+    @needs.file("/etc/services", "netbase")
+    def test_ports_are_of_no_other_service(self) -> None:
+        """Those that libraries and a first installation get are of no service that the system names."""
+        with open("/etc/services", encoding="utf-8") as file:
+            services = {int(it) for it in re.findall(r"^[^#\s]+\s+(\d+)/", file.read(), re.M)}
+        self.expect(f"{len(services)} services", {22, 80, 443} <= services)
+        site = [int(it) for it in library_files.ADDRESS.findall(read("front_door/openlink.conf")) if int(it) < 1024]
+        self.expect("of a first installation", site, [291, 292, 293, 294])
+        self.expect("taken by services", services & {*library_files._PORTS, *site}, set())
 
     def test_files(self) -> None:
         """What `add` writes, as it is without the paths of this test; and a machine that has a library alone."""

@@ -1,5 +1,5 @@
-"""Reads declarations into entries, in the order of the file: units of systemd, files of nginx and haproxy, the YAML of
-Kubernetes, control files of Debian and Containerfiles. A ValueError says why a text is none."""
+"""Reads declarations into entries, in the order of the file: units of systemd, files of nginx, haproxy and nftables,
+the YAML of Kubernetes, control files of Debian and Containerfiles. A ValueError says why a text is none."""
 from __future__ import annotations
 
 import os
@@ -123,6 +123,26 @@ def haproxy(text: str) -> list[Entry]:
     return found
 
 
+def nftables(text: str) -> list[Entry]:
+    """A file of nftables: the statements with the blocks that they are in. A block begins at the end of a line."""
+    found: list[Entry] = []
+    blocks: list[str] = []
+    for line in _joined(text):
+        words = _words(line.partition(" #")[0])
+        if words == "}" and blocks:
+            blocks.pop()
+            continue
+        name, _, value = words.partition(" ")
+        found.append(Entry(" > ".join(blocks), name, value))
+        if words.endswith(" {"):
+            blocks.append(words[:-2])
+        elif words.count("{") != words.count("}"):
+            raise ValueError(f"a bracket without the other: {words}")
+    if blocks:
+        raise ValueError(f"the file ends within {blocks[-1]}")
+    return found
+
+
 def yaml(text: str) -> list[Entry]:
     """The YAML of one object: blocks of names and lists. The blocks of a list are numbered from 1, and the items of one
     that are no blocks are the value of its name, separated by commas. A test that calls this needs python3-yaml."""
@@ -195,6 +215,7 @@ _READERS: dict[str, Callable[[str], list[Entry]]] = {
     ".timer": unit,
     ".conf": nginx,
     ".cfg": haproxy,
+    ".nft": nftables,
     ".yaml": yaml,
     "control": control,
     "copyright": control,

@@ -26,6 +26,7 @@ FILES = """
     usr/share/openlink/tables/ANY.tsv usr/share/doc/openlink/INSTALLING.md usr/share/doc/openlink/LIBRARIANS.md
     usr/share/doc/openlink/SEVERAL.md usr/share/doc/openlink/OPERATING.md usr/share/doc/openlink/CONSORTIUM.md
     usr/share/openlink/nginx/balancer.conf usr/share/openlink/haproxy/haproxy.cfg
+    usr/share/openlink/nftables/connections.nft lib/systemd/system/openlink-connections.service
     usr/share/openlink/kubernetes/base/deployment.yaml usr/share/openlink/openlink_update/weekly_run.py
     """.split()
 WORDS = sorted(it.name for it in Path("front_door/words").iterdir())  # a file for each language of the reader's page

@@ -25,9 +25,10 @@ LINKS = {
 }
 # The folder of the package for each folder of declarations, and the least number of these.
 INSTALLED = {
-    "packaging/systemd": (UNITS, 5),
+    "packaging/systemd": (UNITS, 6),
     "front_door": (f"{SHARE}/nginx", 9),
     "packaging/haproxy": (f"{SHARE}/haproxy", 1),
+    "packaging/nftables": (f"{SHARE}/nftables", 1),
     "packaging/kubernetes/base": (f"{SHARE}/kubernetes/base", 6),
 }
 

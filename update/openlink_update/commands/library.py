@@ -55,7 +55,7 @@ def _parse(words: list[str] | None) -> _Options:
     add.add_argument("name", metavar="NAME")
     add.add_argument("host", metavar="HOST", help="the host name of its site")
     add.add_argument("--processes", type=int, default=2, metavar="N", help="processes of the program (2)")
-    add.add_argument("--ports", type=int, metavar="N", help="the first of its ports (the first ten that are free)")
+    add.add_argument("--ports", type=int, metavar="N", help="the first of its ports (the lowest that are free)")
     add.add_argument("--mail", metavar="ADDRESS", help="who gets the reports of its updates, beside root")
     away = commands.add_parser("remove", help="end its processes, and remove its versions")
     away.add_argument("name", metavar="NAME")
@@ -99,6 +99,8 @@ def _add(options: _Options, places: files.Places, libraries: Libraries) -> None:
         shutil.rmtree(folder)
         raise
     report(f"{folder}: {options.host}, local port {port}, processes {' '.join(_units(ports))}")
+    if max(ports) not in files.PROTECTED:
+        report("any user of this machine can take a port from 1024 on while its process restarts")
     report(f"next: fill {folder}/input, then openlink-update {options.name}")
 
 

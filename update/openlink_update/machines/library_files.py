@@ -1,5 +1,6 @@
 """What a library of several has beside its input and versions: its site, its logs, and the units of its processes."""
 import glob
+import itertools
 import os
 import re
 import shutil
@@ -14,7 +15,9 @@ from openlink_update.places import FRONT_DOOR
 HOST = re.compile(r"(?=.{1,253}$)[a-z0-9](?:[a-z0-9-]{0,61}[a-z0-9])?(?:\.[a-z0-9](?:[a-z0-9-]{0,61}[a-z0-9])?)*")
 ADDRESS = re.compile(r"\b127\.0\.0\.1:(\d+)")
 _SERVER_NAME = re.compile(r"^[^#\n]*\bserver_name\s+([^;]+);", re.M)
-_FIRST_PORT, _LAST_PORT, _STEP = 8100, 32000, 10  # ten for each library: its local server's, and those of its processes
+PROTECTED = range(1024)  # only root may listen there, and the processes, by their unit
+_PORTS = range(214, 319)  # of these, those of a library: its local server's, and those of its processes
+_FIRST_PORT, _LAST_PORT, _STEP = 8100, 32000, 10  # ten for each library, once the others are taken
 MOST_PROCESSES = _STEP - 1
 _UNIT = """# Made by openlink-library: the process at this port serves the library {name}.
 [Unit]
@@ -22,6 +25,11 @@ Description=Link resolver of {name} on port %i
 
 [Service]
 WorkingDirectory={folder}/current
+"""
+# The unit for all has it too, but may be a copy of an operator's from before.
+_RIGHT = """# A port below 1024 is one that no other user of the machine can take while the process restarts.
+AmbientCapabilities=CAP_NET_BIND_SERVICE
+CapabilityBoundingSet=CAP_NET_BIND_SERVICE
 """
 _TARGETS = """{{
   "languages": ["en", "de"],
@@ -86,17 +94,18 @@ def check_host(places: Places, host: str) -> None:
 
 
 def ports_of(places: Places, first: int | None, count: int) -> tuple[int, list[int]]:
-    """The port of a library's local server and those of its processes: from `first` on, or the lowest ten that no site
-    names and at which nothing listens. A Failure if they are not free."""
+    """The port of a library's local server and those of its processes: from `first` on, or the lowest in a row that no
+    site names and at which nothing listens. A Failure if they are not free."""
     named = {int(port) for text in _all_sites(places) for port in ADDRESS.findall(text)}
     named.update(unit_ports(places))
 
     def are_free(start: int) -> bool:
         return not any(port in named or children.is_open(port) for port in range(start, start + 1 + count))
 
-    start = first or next((port for port in range(_FIRST_PORT, _LAST_PORT, _STEP) if are_free(port)), None)
+    starts = itertools.chain(_PORTS[:-count], range(_FIRST_PORT, _LAST_PORT, _STEP))
+    start = first or next((port for port in starts if are_free(port)), None)
     if start is None or not are_free(start):
-        raise Failure(f"the ports from {start or _FIRST_PORT} on are not free")
+        raise Failure(f"the ports from {start or _PORTS[0]} on are not free")
     return start, list(range(start + 1, start + 1 + count))
 
 
@@ -117,7 +126,7 @@ def write_units(places: Places, name: str, folder: Path, ports: list[int]) -> No
     for port in ports:
         path = _unit_path(places, port)
         os.makedirs(path.parent, exist_ok=True)
-        write(path, _UNIT.format(name=name, folder=folder))
+        write(path, _UNIT.format(name=name, folder=folder) + (_RIGHT if port in PROTECTED else ""))
     sync(places.units)
 
 
