@@ -169,8 +169,8 @@ def outside_of_fields(line: str) -> str:
 
 
 def wrong_hello() -> bytes:
-    """A greeting by TLS whose version is none, which nginx calls critical. It is after nine bytes: the type, version and
-    length of the record, and the type and length of the greeting."""
+    """A greeting by TLS whose version is none, which nginx calls critical. The version is after nine bytes: the type,
+    version and length of the record, and the type and length of the greeting."""
     sent = ssl.MemoryBIO()
     with contextlib.suppress(ssl.SSLWantReadError):
         ssl.create_default_context().wrap_bio(ssl.MemoryBIO(), sent, server_hostname=HOST).do_handshake()
