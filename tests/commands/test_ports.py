@@ -98,7 +98,7 @@ class Ports(ProgramCase):
             line = service.process.stdout.readline()
             self.program.expect("where the service listens", line, f"listening 127.0.0.1:{port}\n".encode())
             self.program.expect("the reply", service.reply(), NOT_FOUND)
-            service.ends("a service at a high port", 0, b"", b"")
+            service.ends("a service at a high port", 0, b"", b"openlink: 1 replied, 0 silent, 0 failed\n")
 
     def test_the_port_is_taken_after_the_registry(self):
         """While the service waits for the registry or a file of a target, the port is free, also if the file is

@@ -1,7 +1,10 @@
-"""Arguments given to `serve` with which it does not listen."""
+"""Arguments given to `serve` with which it does not listen, and how it counts its connections."""
 import socket
+import struct
 
+from fixtures.patience import patience
 from fixtures.program import ProgramCase
+from fixtures.service import Service
 
 # A port and a count of connections, of which one is no such number.
 NO_NUMBERS = [
@@ -36,3 +39,26 @@ class ServeCommand(ProgramCase):
             port = str(other.getsockname()[1])
             self.program.fails(["serve", "bad.txt", port, "1"], 3, "registry: line 1")
             self.program.fails(["serve", "empty.txt", port, "1"], 4, f"device: 127.0.0.1:{port}")
+
+    def test_counts(self):
+        """A reply, a peer that sends nothing, and peers that reset the connection within a head."""
+        self.program.write("registry", "")
+        for peers in ["reply"], ["silent"], ["reset"], ["reply", "silent", "reply", "reset", "reply"]:
+            with Service(self.program, len(peers)) as service:
+                for peer in peers:
+                    self.meet(service.port, peer)
+            expected = tuple(peers.count(kind) for kind in ("reply", "silent", "reset"))
+            self.program.expect(f"the counts of {peers}", service.counts, expected)
+
+    def meet(self, port, kind):
+        """Connects, and waits until the service has closed the connection, unless this peer resets it."""
+        with socket.create_connection(("127.0.0.1", port), patience(30)) as peer:
+            if kind == "reply":
+                peer.sendall(b"GET /x HTTP/1.1\r\nHost: a\r\n\r\n")
+            if kind == "reset":
+                peer.sendall(b"GET /x")
+                peer.setsockopt(socket.SOL_SOCKET, socket.SO_LINGER, struct.pack("ii", 1, 0))
+                return
+            peer.shutdown(socket.SHUT_WR)
+            while peer.recv(65536):
+                pass

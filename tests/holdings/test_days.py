@@ -135,7 +135,8 @@ class Days(Case):
             self.expect(f"a table with {name}", [line for line in said if f"a column {name}" in line] != [])
             self.expect(f"a table with {name} is left out", said[0], "x: left out, since it has no old files")
         said, (_, rows) = served(table(row("1995", "", ""), row("1995", "", "6 months"), row("1995", "", "none")))
-        self.expect("words", said[:2], ["x: new, 3 rows", '  embargo_info not an embargo 2, first 1 "6 months": not used'])
+        expected = ["x: new, 3 rows", '  embargo_info not an embargo 2, first 1 "6 months": not used']
+        self.expect("words", said[:2], expected)
         self.expect("words are not used", [cells[-2:] for cells in rows], [["19950101", "99999999"]] * 3)
 
     @needs.program()

@@ -1,17 +1,18 @@
 """Each must-fail edit still applies to its crate, and has a name of its own there. Nothing is proved.
 
 The gate tries those of crates/CRATE/must-fail/, whose number is limited. edits/try tries the others; the file
-edits/tried has the sums of what it tried. A crate fails here if its sources, its edits, or the statements of lower
-crates that these depend on have changed since then."""
+edits/tried has the sums of what it tried, and the toolchain that refused them. A crate fails here if its sources, its
+edits, the statements of lower crates that these depend on, or the toolchain have changed since then."""
 from __future__ import annotations
 
 import os
+import subprocess
 import sys
 import tempfile
 from collections.abc import Iterable, Iterator, Mapping
 from typing import Any
 
-from fixtures import TOP
+from fixtures import TOP, needs
 from fixtures.cases import Case
 
 sys.path.insert(0, f"{TOP}/edits")
@@ -45,6 +46,13 @@ def of_sums(crates: Iterable[str], sums: Mapping[str, str], tried: Mapping[str, 
         yield f"{record.TRIED}: {crate} has no edits in edits"
 
 
+def of_toolchains(toolchain: str, tried: Mapping[str, Any]) -> Iterator[str]:
+    """Which crates' edits were refused by another toolchain than this one."""
+    others = sorted(crate for crate, (_, refused_by) in tried.items() if refused_by != toolchain)
+    if others:
+        yield f"tried by another toolchain than {toolchain}: run edits/try {' '.join(others)}"
+
+
 def of_numbers(gate: Edits, others: Edits) -> Iterator[str]:
     """Too many edits for the gate, or none."""
     crates = {crate for crate, _ in gate}
@@ -71,6 +79,13 @@ def line() -> str:
 class MustFailEdits(Case):
     def test_all_apply_and_were_tried(self) -> None:
         self.expect(line(), faults(), [])
+
+    @needs.toolchain()
+    def test_all_were_tried_by_this_toolchain(self) -> None:
+        version = subprocess.run(["rt", "version"], stdout=subprocess.PIPE, text=True, check=True).stdout.strip()
+        tried = record.tried()
+        self.expect("crates that were tried", bool(tried), True)
+        self.expect(version, [*of_toolchains(version, tried)], [])
 
 
 # An edit that applies to the crate budget, and what is changed in it.
@@ -103,6 +118,12 @@ class SpoiltEdits(Case):
             found = [*of_sums([*sums], sums, tried)]
             self.expect(f"{sums}", [it.startswith("changed since") for it in found], [True])
         self.expect("a crate without edits", len([*of_sums(["a"], {"a": "1"}, tried)]), 1)
+
+    def test_toolchains(self) -> None:
+        tried = {"a": ("1", "old"), "b": ("2", "new")}
+        self.expect("one toolchain", [*of_toolchains("old", {"a": ("1", "old")})], [])
+        found = [*of_toolchains("new", tried)]
+        self.expect("two", [it.endswith("run edits/try a") for it in found], [True])
 
     def test_numbers(self) -> None:
         one: Edits = [("a", "a/1.edit")]

@@ -12,9 +12,16 @@ use Rattle.answers.specs.Reading.{IsNoTemplate, IsNoRequest}
 use Rattle.answers.specs.declared.refusal.Refusal.{Refusal}
 use Rattle.answers.specs.declared.refusal.Refusal.TheVariants.{Memory}
 
--- the line of the expansion, in which these names are lists, or the first reason why there is none
+-- the names in options, each of which is two texts: `--list` and a name
+abbrev pub names_of : List Text → List Text
+names_of [] = []
+names_of (option ∷ []) = []
+names_of (option ∷ name ∷ options) = name ∷ names_of options
+
+-- the line of the expansion, in which these names are lists, or the first reason why there is none; an allocation is reported to have failed only for a
+-- template and a request
 pub data IsExpansionOf (lists : List Text) (template query : Text) : Result Text Refusal → Type 0 where
-  no_memory : IsExpansionOf lists template query (Err Memory)
+  no_memory : (parts : List Part) → IsTemplate template parts → refusal query ≡ None → IsExpansionOf lists template query (Err Memory)
   no_template : (e : Refusal) → IsNoTemplate template e → IsExpansionOf lists template query (Err e)
   no_request : (parts : List Part) (e : Refusal) → IsTemplate template parts → IsNoRequest query e → IsExpansionOf lists template query (Err e)
   expanded : (parts : List Part) (line : Text) → IsTemplate template parts → refusal query ≡ None

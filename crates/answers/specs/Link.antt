@@ -18,9 +18,9 @@ pub record Means (rules : RuleSet) (query : Text) (link : Option Text) : Type 0 
   pub request : refusal query ≡ None
   pub meant : link ≡ meaning rules (filled (each_once (list_names rules.lists)) [] (pairs_of query))
 
--- the line of the link that the rules give, or the first reason why there is none
+-- the line of the link that the rules give, or the first reason why there is none; an allocation is reported to have failed only for a request
 pub data IsLinkFor (rules : RuleSet) (query : Text) : Result Text Refusal → Type 0 where
-  no_memory : IsLinkFor rules query (Err Memory)
+  no_memory : refusal query ≡ None → IsLinkFor rules query (Err Memory)
   no_request : (e : Refusal) → IsNoRequest query e → IsLinkFor rules query (Err e)
   no_link : Means rules query None → IsLinkFor rules query (Err NoLink)
   linked : (link line : Text) → Means rules query (Some link) → line ≡ link ++ 10 ∷ [] → IsLinkFor rules query (Ok line)

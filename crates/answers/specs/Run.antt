@@ -38,9 +38,9 @@ pub record IsRequestOverBudget (code : model.Code) (query : Text) (n : ℕ) : Ty
   pub bound : n ≡ most_bytes code env
   pub over : MAX_LINK_BYTES < n
 
--- the line of the link that the code gives, or the first reason why there is none
+-- the line of the link that the code gives, or the first reason why there is none; an allocation is reported to have failed only for a request
 pub data IsLinkFor (code : model.Code) (query : Text) : Result Text Refusal → Type 0 where
-  no_memory : IsLinkFor code query (Err Memory)
+  no_memory : refusal query ≡ None → IsLinkFor code query (Err Memory)
   no_request : (e : Refusal) → IsNoRequest query e → IsLinkFor code query (Err e)
   over_budget : (n : ℕ) → IsRequestOverBudget code query n → IsLinkFor code query (Err (OverBudget n))
   no_link : IsRequestRun code query runs.NoLink → IsLinkFor code query (Err NoLink)

@@ -6,7 +6,7 @@ ghost use Rattle.answers.specs.Results.{text_result};
 use crate::line::ended;
 use crate::reading::rules_of;
 use crate::refusal::Refusal;
-use crate::request::environment;
+use crate::request::{environment, request_of};
 use rule_parser::{Rules, meaning};
 use std::alloc::Global;
 
@@ -22,8 +22,9 @@ pub fn link_of(alloc: Global, bytes: &[u8], query: &str) -> Result<String, Refus
 fn link_for(alloc: Global, rules: &Rules, query: &str) -> Result<String, Refusal>
     ensures { IsLinkFor rules.now query.now (text_result result) }
 {
+    let request = request_of(alloc, query)?;
     let lists = rules.lists(alloc)?;
-    let link = meaning(alloc, rules, &environment(alloc, &lists, query)?);
+    let link = meaning(alloc, rules, &environment(alloc, &lists, &request)?);
     match link? {
         Some(link) => Ok(ended(link)?),
         None => Err(Refusal::NoLink),

@@ -9,7 +9,7 @@ ghost use Rattle.answers.specs.Reading.{IsNoRequest};
 
 use crate::refusal::Refusal;
 use kev_read::{KevError, Request, read_kev};
-use std::alloc::Global;
+use std::alloc::{AllocError, Global};
 use target_vars::{Env, VarsError};
 
 /// The request of a query, which has at most 65,536 bytes and 4,096 pairs.
@@ -26,17 +26,18 @@ pub fn request_of(alloc: Global, query: &str) -> Result<Request, Refusal>
     }
 }
 
-/// The environment of the query's pairs, in which `rft.au`, `rft_id` and the names of `lists` are lists.
-pub(crate) fn environment(alloc: Global, lists: &[&str], query: &str) -> Result<Env, Refusal>
-    ensures accepted { IfOk result (λ _. refusal query.now ≡ None) }
-    ensures entries { IfOk result (λ env. env.entries ≡ filled (texts_of lists.now) [] (pairs_of query.now)) }
-    ensures err { IfErr result (IsNoRequest query.now) }
+/// The environment of the request's pairs, in which `rft.au`, `rft_id` and the names of `lists` are lists.
+pub(crate) fn environment(
+    alloc: Global,
+    lists: &[&str],
+    request: &Request,
+) -> Result<Env, AllocError>
+    ensures { IfOk result (λ env. env.entries ≡ filled (texts_of lists.now) [] request.now.pairs) }
 {
-    let request = request_of(alloc, query)?;
     let mut env = Env::new(alloc);
     match request.fill(lists, &mut env) {
         Ok(()) => Ok(env),
-        Err(VarsError::NoMemory) => Err(Refusal::Memory),
+        Err(VarsError::NoMemory) => Err(AllocError),
         // A request fits into an empty environment.
         Err(VarsError::TooLarge) => unreachable!(),
     }

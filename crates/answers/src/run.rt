@@ -6,7 +6,7 @@ ghost use Rattle.answers.specs.Run.{IsLinkFor, IsRunLinkOf};
 use crate::line::ended;
 use crate::reading::accepted_code;
 use crate::refusal::Refusal;
-use crate::request::environment;
+use crate::request::{environment, request_of};
 use safe_runs::run_verified;
 use std::alloc::Global;
 use verified_runs::{Outcome, PrepareError};
@@ -25,8 +25,9 @@ pub fn run_link_of(alloc: Global, bytes: &[u8], query: &str) -> Result<String, R
 fn link_for(alloc: Global, code: &Verified, query: &str) -> Result<String, Refusal>
     ensures { IsLinkFor code.now query.now (text_result result) }
 {
+    let request = request_of(alloc, query)?;
     let lists = code.code().lists(alloc)?;
-    let outcome = run_verified(alloc, code, &environment(alloc, &lists, query)?);
+    let outcome = run_verified(alloc, code, &environment(alloc, &lists, &request)?);
     match outcome {
         Ok(Outcome::Link(link)) => Ok(ended(link)?),
         Ok(Outcome::NoLink) => Err(Refusal::NoLink),

@@ -268,14 +268,14 @@ const SERVED: [(&[&str], u8, &str, &str, &str); 3] = [
         &["serve", "registry", "0", "2"],
         0,
         "listening 127.0.0.1:4096\n",
-        "",
+        "1 replied, 1 silent, 0 failed",
         "device: 127.0.0.1:0",
     ),
     (
         &["serve", "registry", "80", "2"],
         0,
         "listening 127.0.0.1:80\n",
-        "",
+        "1 replied, 1 silent, 0 failed",
         "device: 127.0.0.1:80",
     ),
     (

@@ -1,7 +1,7 @@
 //! The system that the tests give to commands: files in memory, known keys, and one port.
 
 use commands::System;
-use files_in_memory::Memory;
+use files_in_memory::FailingMemory;
 use http_streams::{Listener, Ports};
 use kbart_rows::{KeySource, Keys, NoKeys};
 use std::io::{self, ErrorKind};
@@ -37,9 +37,11 @@ pub struct OnePort {
 impl Ports for OnePort {
     type Bound = Peers;
 
+    ghost use Rattle.std.specs.Prelude.{◌≡◌, None};
+
     ghost binds = { λ _ _ _ _. Unit {0} };
 
-    ghost fails = { λ _ _ _. Unit {0} };
+    ghost fails = { λ old _ _. old.peers ≡ None };
 
     fn bind(&mut self, port: u16) -> io::Result<(Peers, u16)> {
         let port = if port == 0 { 4096 } else { port };
@@ -51,4 +53,4 @@ impl Ports for OnePort {
 }
 
 /// A system whose files, random keys and ports are in memory.
-pub type Outside = System<Memory, KnownKeys, OnePort>;
+pub type Outside = System<FailingMemory, KnownKeys, OnePort>;

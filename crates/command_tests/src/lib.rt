@@ -18,7 +18,7 @@ mod results;
 #[cfg(test)]
 use commands::{System, command};
 #[cfg(test)]
-use files_in_memory::{Content, Memory};
+use files_in_memory::{Content, FailingMemory, Memory};
 #[cfg(test)]
 use known_system::{KnownKeys, OnePort, Outside};
 #[cfg(test)]
@@ -34,7 +34,7 @@ fn outside(alloc: Global, contents: &[(&str, &[u8])]) -> Result<Outside, AllocEr
         files.put(path, Content::File(Vec::from_slice(alloc, bytes)?))?;
     }
     Ok(System {
-        files,
+        files: FailingMemory::new(files),
         keys: KnownKeys {
             numbers: Some((1, 2)),
         },
@@ -109,7 +109,7 @@ fn gives<R: Abort + AllocGlobal>(
 /// The bytes of the file at the path, if it is a regular file.
 #[cfg(test)]
 fn bytes<'a>(outside: &'a Outside, path: &str) -> Option<&'a [u8]> {
-    match outside.files.content(path) {
+    match outside.files.memory.content(path) {
         Some(Content::File(bytes)) => Some(bytes.as_slice()),
         _ => None,
     }

@@ -139,7 +139,7 @@ fn twenty_texts(alloc: Global) -> Result<Vec<u8>, AllocError> {
 
 fn put_twenty_texts(outside: &mut Outside) -> Result<(), AllocError> {
     let code = twenty_texts(outside.alloc)?;
-    outside.files.put("twenty.olk", Content::File(code))
+    outside.files.memory.put("twenty.olk", Content::File(code))
 }
 
 /// A query with 20,000 letters.
@@ -203,7 +203,7 @@ const LONG: [(&[&str], &str, &str); 4] = [
 /// Puts a file of `count` letters at the path `long`.
 fn put_long(outside: &mut Outside, count: usize) -> Result<(), AllocError> {
     let letters = vec![in outside.alloc; b'x'; count]?;
-    outside.files.put("long", Content::File(letters))
+    outside.files.memory.put("long", Content::File(letters))
 }
 
 #[test]

@@ -9,7 +9,8 @@ use Rattle.std.proofs.lemmas.List.{length-map, map-append}
 use Rattle.std.proofs.lemmas.Grind.{flat_map-append}
 use Rattle.std.proofs.lemmas.Slice.Eq.{bytes_eq-Decides}
 use Rattle.text_model.specs.Texts.{Text, texts_of}
-use Rattle.commands.specs.ExpandArguments.{AreExpandArguments, NoExpandArguments, begins_with_option, list_options, names_of}
+use Rattle.answers.specs.Expansion.{names_of}
+use Rattle.commands.specs.ExpandArguments.{AreExpandArguments, NoExpandArguments, begins_with_option, list_options}
 
 -- ---- arguments that begin with options
 
@@ -44,20 +45,6 @@ next_option arguments (option ∷ name ∷ rest) after so_far begins same =
 names_of-options : (names : List Text) → names_of (list_options names) ≡ names
 names_of-options [] = refl
 names_of-options (name ∷ names) = ap (λ more. name ∷ more) (names_of-options names)
-
--- the name in the option that comes next
-pub one_more_name : (options names pushed rest : List (Bor Text)) (d : Bor Text) → 2 ≤ length rest
-    → names_of (texts_of options) ≡ texts_of names ++ names_of (texts_of rest) → pushed ≡ names ++ slice_index_or rest 1 d ∷ []
-    → names_of (texts_of options) ≡ texts_of pushed ++ names_of (texts_of (take (length rest - 2) (drop 2 rest)))
-one_more_name options names pushed [] d two so_far more = absurd (omega arith)
-one_more_name options names pushed (option ∷ []) d two so_far more = absurd (omega arith)
-one_more_name options names pushed (option ∷ name ∷ rest) d two so_far more =
-    let after : take (length (option ∷ name ∷ rest) - 2) rest ≡ rest = take_all (length (option ∷ name ∷ rest) - 2) rest (omega arith) in
-    so_far
-    ∙ sym (append_assoc (texts_of names) (name.now ∷ []) (names_of (texts_of rest)))
-    ∙ sym (ap (λ texts. texts ++ names_of (texts_of rest)) (map-append (λ argument. argument.now) names (name ∷ [])))
-    ∙ sym (ap (λ items. texts_of items ++ names_of (texts_of rest)) more)
-    ∙ sym (ap (λ left. texts_of pushed ++ names_of (texts_of left)) after)
 
 -- two arguments after the options are the template and the query
 two_after : (arguments options : List (Bor Text)) (template query : Bor Text) → AfterOptions arguments (template ∷ query ∷ [])

@@ -10,7 +10,7 @@ use Rattle.kbart_rows.specs.RandomKeys.{IsDrawn}
 use Rattle.kbart_rows.specs.declared.keys.Keys.{Keys}
 use Rattle.rule_parser.specs.Rules.{RuleSet}
 use Rattle.registry.specs.Targets.{TargetValue}
-use Rattle.registry_file.specs.Loading.{IsLoaded, IsNotLoaded}
+use Rattle.registry_file.specs.Loading.{IsLoaded, IsNotLoaded, fails_on}
 use Rattle.registry_file.specs.declared.error.RegistryError.{RegistryError}
 use Rattle.answers.specs.declared.refusal.Refusal.{Refusal}
 use Rattle.commands.specs.Faults.{registry_fault}
@@ -54,7 +54,7 @@ module _ {F K : Type 0} (at : F → Disk) (fails runs_out : F → FileCall → T
   -- the registry file at the path, or a file that it names, cannot be loaded
   pub record IsNoRegistry (path : Bor Text) (fault : Fault) : Type 0 where
     pub error : RegistryError
-    pub cause : IsNotLoaded fails draws no_keys (at old) first path.now last error
+    pub cause : IsNotLoaded (fails_on at fails (at old)) draws no_keys (at old) first path.now last error
     pub same : fault ≡ registry_fault path error
 
   -- the registry file at the path and the files that it names are loaded, and this is the answer to its targets

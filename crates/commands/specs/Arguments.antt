@@ -1,7 +1,8 @@
 -- The arguments of each command.
 use Rattle.std.specs.Prelude.{◌≡◌, ◌⊎◌, List, [], ◌∷◌, codes}
 use Rattle.text_model.specs.Texts.{Text, texts_of}
-use Rattle.commands.specs.ExpandArguments.{AreExpandArguments, names_of}
+use Rattle.answers.specs.Expansion.{names_of}
+use Rattle.commands.specs.ExpandArguments.{AreExpandArguments}
 use Rattle.commands.specs.Service.{IsServiceOf}
 use Rattle.commands.specs.declared.list_options.ExpandArguments.{ExpandArguments}
 use Rattle.commands.specs.declared.service.Service.{Service}

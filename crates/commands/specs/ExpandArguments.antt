@@ -8,12 +8,6 @@ use Rattle.text_model.specs.Texts.{Text}
 abbrev pub list_options : List Text → List Text
 list_options names = flat_map (λ name. codes "--list" ∷ name ∷ []) names
 
--- the names in these options
-abbrev pub names_of : List Text → List Text
-names_of [] = []
-names_of (option ∷ []) = []
-names_of (option ∷ name ∷ options) = name ∷ names_of options
-
 -- the arguments after `expand`: options, a template and a query; an argument `--list` before the template is always the option
 pub record AreExpandArguments (arguments lists : List Text) (template query : Text) : Type 0 where
   pub whole : arguments ≡ list_options lists ++ template ∷ query ∷ []

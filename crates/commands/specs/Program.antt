@@ -7,7 +7,7 @@ use Rattle.kbart_rows.specs.declared.keys.Keys.{Keys}
 use Rattle.rule_parser.specs.Rules.{RuleSet}
 use Rattle.registry.specs.Targets.{TargetValue}
 use Rattle.answers.specs.Code.{IsCodeOf}
-use Rattle.answers.specs.Expansion.{IsExpansionOf}
+use Rattle.answers.specs.Expansion.{IsExpansionOf, names_of}
 use Rattle.answers.specs.Findings.{IsInspectionOf, IsLintOf, Report}
 use Rattle.answers.specs.Link.{IsLinkOf}
 use Rattle.answers.specs.Listing.{IsListingOf}
@@ -17,9 +17,8 @@ use Rattle.answers.specs.Upgrade.{IsUpgradeOf}
 use Rattle.answers.specs.Verdict.{IsVerdictOf}
 use Rattle.answers.specs.declared.refusal.Refusal.{Refusal}
 use Rattle.commands.specs.World.{Told}
-use Rattle.commands.specs.ExpandArguments.{names_of}
 use Rattle.commands.specs.Arguments.{AreArgumentsOf, AreNoArguments}
-use Rattle.commands.specs.Faults.{status_of}
+use Rattle.commands.specs.Faults.{status_of, out_of_memory}
 use Rattle.commands.specs.Reading.{Kind, rule_file, code_file, loaded_file}
 use Rattle.commands.specs.Answers.{Answered, Makes, Resolves, Tells, TellsKeyed, TellsOfTarget}
 use Rattle.commands.specs.Output.{Output, Prints, Reports}
@@ -37,7 +36,7 @@ abbrev pub status_of_end : Option Fault → ℕ
 status_of_end None = 0
 status_of_end (Some fault) = status_of fault
 
-module _ {System : Type 0} (told : Told System) (old new : System) (output : Output) where
+module _ {System : Type 0} (told : Told System) (old new : System) (output notes : Output) where
   -- what is answered to a file, to a table with keys, to a target, and to a registry; and what is made of a file
   abbrev tells : Kind → (Text → Result Text Refusal → Type 0) → Bor Text → Result Text Fault → Type 0
   tells = Tells told.at told.fails told.runs_out (told.files old) (told.files new)
@@ -70,7 +69,7 @@ module _ {System : Type 0} (told : Told System) (old new : System) (output : Out
   Ends (Lint rules table) = Reports (tells_of_target IsLintOf rules table) output
   Ends (Explain rules table query) = explains rules table query.now output
   Ends (Resolve registry query) = Prints (resolves (λ targets. IsMenuOf targets query.now) registry) output
-  Ends (Serve service) = Serves told old service new output
+  Ends (Serve service) = Serves told old service new output notes
   Ends Help = Prints (λ answer. answer ≡ Ok HELP.now) output
   Ends Version = Prints (λ answer. answer ≡ Ok VERSION.now) output
 
@@ -80,10 +79,23 @@ module _ {System : Type 0} (told : Told System) (old new : System) (output : Out
   Leaves (Upgrade source target) = Unit {0}
   Leaves command = Unchanged (told.at (told.files old)) (told.at (told.files new))
 
+  -- what each command prints on standard error before its error: only `serve` does, as `Serves` says
+  abbrev pub Notes : Command → Type 0
+  Notes (Serve service) = Unit {0}
+  Notes command = notes.gets_nothing
+
   abbrev pub Runs : Command → Option Fault → Type 0
-  Runs command end = Ends command end × Leaves command
+  Runs command end = Ends command end × Leaves command × Notes command
 
   -- how the program ends: the arguments name no command, or this is how their command ends
   pub data EndsWith (given : List Text) : Option Fault → Type 0 where
-    no_command : AreNoArguments given → Unchanged (told.at (told.files old)) (told.at (told.files new)) → output.gets_nothing → EndsWith given (Some Usage)
+    no_command : AreNoArguments given → Unchanged (told.at (told.files old)) (told.at (told.files new)) → output.gets_nothing → notes.gets_nothing
+        → EndsWith given (Some Usage)
     runs : (command : Command) (end : Option Fault) → AreArgumentsOf given command → Runs command end → EndsWith given end
+
+-- how the process ends with these arguments: memory runs out before a command runs, or this is how the program ends, with these notes on standard error
+pub data HasEnded {System E : Type 0} (told : Told System) (old new : System) (output : Output) (notes : E → Output) (given : List Text)
+    : Option Fault → Type 0 where
+  no_memory : Unchanged (told.at (told.files old)) (told.at (told.files new)) → output.gets_nothing
+      → HasEnded told old new output notes given (Some out_of_memory)
+  ended : (noted : E) (end : Option Fault) → EndsWith told old new output (notes noted) given end → HasEnded told old new output notes given end

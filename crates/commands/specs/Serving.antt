@@ -21,6 +21,12 @@ use Rattle.commands.specs.declared.service.Service.{Service}
 abbrev pub listening_line : ℕ → Text
 listening_line port = codes "listening 127.0.0.1:" ++ (decimal port ++ 10 ∷ [])
 
+-- the line that says how many connections ended in each way
+abbrev pub counts_line : Counts → Text
+counts_line counts =
+    codes "openlink: " ++ (decimal counts.replied ++ (codes " replied, " ++ (decimal counts.nothing ++ (codes " silent, "
+    ++ (decimal counts.faults ++ codes " failed\n")))))
+
 -- how long a read or a write of a connection may take, in nanoseconds
 abbrev pub wait : ℕ
 wait = 2_000_000_000
@@ -44,21 +50,24 @@ module _ {PortState Listener : Type 0} (binds : PortState → ℕ → Listener �
 module _ {P Listener In Out : Type 0} (binds : P → ℕ → Listener × ℕ → P → Type 0) (no_port : P → ℕ → P → Type 0)
     (gives : Listener → Option (In × Out) → Listener → Type 0) (closes : Listener → In × Out → Listener → Type 0) (no_more : Listener → Listener → Type 0)
     (input_state : In → InputState) (output_state : Out → OutputState) (old : P) (service : Service) (new : P) where
-  pub data ServesMenus (targets : List TargetValue) (output : Output) : Option Fault → Type 0 where
-    deaf : (fault : Fault) → IsDeaf binds old service new no_port fault → output.gets_nothing → ServesMenus targets output (Some fault)
+  pub data ServesMenus (targets : List TargetValue) (output notes : Output) : Option Fault → Type 0 where
+    deaf : (fault : Fault) → IsDeaf binds old service new no_port fault → output.gets_nothing → notes.gets_nothing
+        → ServesMenus targets output notes (Some fault)
     unprinted : (listener : Listener) (line : Text) (path : Bor Text) → Listens binds old service new listener line
-        → path.now ≡ codes "-" → output.gets_part line → ServesMenus targets output (Some (Device path))
+        → path.now ≡ codes "-" → output.gets_part line → notes.gets_nothing → ServesMenus targets output notes (Some (Device path))
     stops : (first last : Listener) (line : Text) → Listens binds old service new first line → output.gets line
         → StopsEarly (menu_of targets) gives closes no_more input_state output_state wait service.count first last
-        → ServesMenus targets output (Some (Port service.port_text))
+        → notes.gets_nothing → ServesMenus targets output notes (Some (Port service.port_text))
     serves : (first last : Listener) (line : Text) (counts : Counts) → Listens binds old service new first line → output.gets line
-        → ServesAll (menu_of targets) gives closes input_state output_state wait service.count first last counts → ServesMenus targets output None
+        → ServesAll (menu_of targets) gives closes input_state output_state wait service.count first last counts
+        → notes.gets_part (counts_line counts) → ServesMenus targets output notes None
 
--- how it ends; no port is bound before the registry is loaded
-pub data Serves {System : Type 0} (told : Told System) (old : System) (service : Service) (new : System) (output : Output) : Option Fault → Type 0 where
+-- how it ends, what it prints, and what it prints on standard error before an error; no port is bound before the registry is loaded
+pub data Serves {System : Type 0} (told : Told System) (old : System) (service : Service) (new : System) (output notes : Output) : Option Fault → Type 0 where
   unloaded : (fault : Fault) → IsNoRegistry told.at told.fails told.runs_out told.draws told.no_keys (told.files old) (told.files new) (told.keys old)
-      (told.keys new) service.registry fault → told.ports new ≡ told.ports old → output.gets_nothing → Serves told old service new output (Some fault)
+      (told.keys new) service.registry fault → told.ports new ≡ told.ports old → output.gets_nothing → notes.gets_nothing
+      → Serves told old service new output notes (Some fault)
   loaded : (targets : List TargetValue) (end : Option Fault)
       → IsLoaded told.draws (told.at (told.files old)) (told.keys old) service.registry.now (told.keys new) targets
       → ServesMenus told.binds told.no_port told.gives told.closes told.no_more told.input_state told.output_state (told.ports old) service (told.ports new)
-      targets output end → Serves told old service new output end
+      targets output notes end → Serves told old service new output notes end

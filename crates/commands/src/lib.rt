@@ -25,6 +25,6 @@ pub use arguments::{Command, parse};
 pub use fault::Fault;
 pub use list_options::{ExpandArguments, expand_arguments};
 pub use process_arguments::{argument_texts, program_arguments};
-pub use program::{command, report};
+pub use program::{carry_out, command, report};
 pub use service::Service;
 pub use world::{System, World};

@@ -1,10 +1,9 @@
 //! The arguments after `expand`.
 
 ghost use Rattle.text_model.specs.Texts.{texts_of};
-ghost use Rattle.std.specs.Prelude.{◌≡◌, true, drop, IfOk, IfSome, IfNone};
-ghost use Rattle.commands.specs.ExpandArguments.{AreExpandArguments, NoExpandArguments, begins_with_option, names_of};
-
-use std::alloc::{AllocError, Global};
+ghost use Rattle.std.specs.Prelude.{◌≡◌, true, drop, IfSome, IfNone};
+ghost use Rattle.answers.specs.Expansion.{names_of};
+ghost use Rattle.commands.specs.ExpandArguments.{AreExpandArguments, NoExpandArguments, begins_with_option};
 
 /// The arguments after `expand`: the options `--list NAME`, a template and a query.
 #[derive(Clone, Copy)]
@@ -52,17 +51,4 @@ fn after_option<'w, 'a>(arguments: &'w [&'a str]) -> &'w [&'a str]
     ensures { result.now ≡ drop 2 arguments.now }
 {
     arguments.split_at(2).1
-}
-
-/// The names in the options `--list NAME`.
-pub(crate) fn list_names<'a>(alloc: Global, options: &[&'a str]) -> Result<Vec<&'a str>, AllocError>
-    ensures { IfOk result (λ names. texts_of names.items ≡ names_of (texts_of options.now)) }
-{
-    let mut names = Vec::new(alloc);
-    let mut rest = options;
-    while let [_, name, after @ ..] = rest {
-        names.push(*name)?;
-        rest = after;
-    }
-    Ok(names)
 }

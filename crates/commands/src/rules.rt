@@ -3,15 +3,14 @@
 ghost use Rattle.files.specs.Changes.{Unchanged};
 ghost use Rattle.text_model.specs.Texts.{texts_of};
 ghost use Rattle.answers.specs.Code.{IsCodeOf};
-ghost use Rattle.answers.specs.Expansion.{IsExpansionOf};
+ghost use Rattle.answers.specs.Expansion.{IsExpansionOf, names_of};
 ghost use Rattle.answers.specs.Link.{IsLinkOf};
 ghost use Rattle.answers.specs.Results.{text_result};
-ghost use Rattle.commands.specs.ExpandArguments.{names_of};
 ghost use Rattle.commands.specs.Answers.{Answered, Makes, Tells};
 ghost use Rattle.commands.specs.Reading.{rule_file};
 
 use crate::fault::{Answer, answered};
-use crate::list_options::{ExpandArguments, list_names};
+use crate::list_options::ExpandArguments;
 use crate::placing::place_counted;
 use crate::reading::{LONG_RULES, read_file};
 use answers::{Refusal, code_of, expansion_of, link_of};
@@ -24,8 +23,12 @@ pub(crate) fn expand<'a>(alloc: Global, arguments: ExpandArguments) -> Answer<'a
     ensures { Answered (IsExpansionOf (names_of (texts_of arguments.entry.options.now))
         arguments.entry.template.now arguments.entry.query.now) (text_result result) }
 {
-    let lists = list_names(alloc, arguments.options)?;
-    answered(expansion_of(alloc, &lists, arguments.template, arguments.query))
+    answered(expansion_of(
+        alloc,
+        arguments.options,
+        arguments.template,
+        arguments.query,
+    ))
 }
 
 /// `link RULES QUERY`: the line of the link that the rules of the file give for the query.

@@ -1,8 +1,11 @@
 -- What is known about files in memory.
-use Rattle.std.specs.Prelude.{Option, Some, None}
+use Rattle.std.specs.Prelude.{◌≡◌, ◌≢◌, Option, Some, None}
+use Rattle.text_model.specs.Texts.{Text}
 use Rattle.std.specs.BTreeMap.{get_by_text}
 use Rattle.files.specs.Found.{Found, Disk, Absent}
 use Rattle.files.specs.Found as found
+use Rattle.files.specs.declared.call.FileCall.{FileCall}
+use Rattle.files.specs.declared.call.FileCall.TheVariants as call
 use Rattle.files_in_memory.specs.declared.content.Content.{Content}
 use Rattle.files_in_memory.specs.declared.content.Content.TheVariants.{Unfinished, File, Other}
 use Rattle.files_in_memory.specs.declared.memory.Memory.{Memory}
@@ -16,3 +19,13 @@ found_of (Some Other) = found.Other
 -- what is at each path
 abbrev pub disk_of : Memory → Disk
 disk_of memory path = found_of (get_by_text memory.files path)
+
+-- why a call fails, by what is at its path: a read finds no regular file, a check finds something else, a new file is already there, and what is renamed or
+-- removed is not. No other call fails
+abbrev pub IsRefusedCall : FileCall → Found → Type 0
+IsRefusedCall call.Read at = (bytes : Text) → at ≢ found.File bytes
+IsRefusedCall call.Check at = at ≡ found.Other
+IsRefusedCall call.Create at = at ≢ Absent
+IsRefusedCall call.Rename at = at ≡ Absent
+IsRefusedCall call.Remove at = at ≡ Absent
+IsRefusedCall other at = ⊥

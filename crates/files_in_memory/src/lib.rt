@@ -1,8 +1,10 @@
-//! Files in memory, for tests: contracts see all of their content, and a call can be made to fail.
+//! Files in memory, for tests: contracts see all of their content, and why a call fails.
 #![tactic(auto)]
 
 mod content;
+mod failing;
 mod memory;
 
 pub use content::Content;
+pub use failing::FailingMemory;
 pub use memory::{Memory, MemoryDraft};

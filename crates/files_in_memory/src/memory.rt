@@ -10,12 +10,10 @@ use files::{FileError, Files};
 use std::alloc::{AllocError, Global};
 use std::collections::BTreeMap;
 
-/// Files in memory. One of the calls on them can be made to fail.
+/// Files in memory. A call fails only because of what is at its path.
 #[derive(Drop)]
 pub struct Memory {
     files: BTreeMap<String, Content>,
-    // How many calls succeed before the one that fails.
-    calls_left: Option<usize>,
     alloc: Global,
 }
 
@@ -27,22 +25,14 @@ pub struct MemoryDraft {
 }
 
 impl Memory {
-    /// No files, and no call that fails.
+    /// No files.
     pub fn new(alloc: Global) -> Memory
         ensures { (path : List ℕ) → disk_of result path ≡ Absent }
     {
         Memory {
             files: BTreeMap::new(alloc),
-            calls_left: None,
             alloc,
         }
-    }
-
-    /// Makes one call fail: the one after the next `calls` calls.
-    pub fn fail_after(&mut self, calls: usize)
-        ensures { Unchanged (disk_of self.old) (disk_of self.new) }
-    {
-        self.calls_left = Some(calls);
     }
 
     /// Puts this at the path.
@@ -65,29 +55,11 @@ impl Memory {
     {
         self.files.get(path)
     }
-
-    /// Counts a call, which may be the one that fails.
-    fn call(&mut self) -> Result<(), FileError>
-        ensures files { self.new.files ≡ self.old.files }
-        ensures failed { IfErr result (λ e. e ≡ FileError.Failed) }
-    {
-        match self.calls_left {
-            None => Ok(()),
-            Some(0) => {
-                self.calls_left = None;
-                Err(FileError::Failed)
-            }
-            Some(calls) => {
-                self.calls_left = Some(calls - 1);
-                Ok(())
-            }
-        }
-    }
 }
 
 impl Files for Memory {
     ghost use Rattle.std.specs.Prelude.{◌≡◌, None, string_bytes};
-    ghost use Rattle.files_in_memory.specs.InMemory.{disk_of};
+    ghost use Rattle.files_in_memory.specs.InMemory.{IsRefusedCall, disk_of};
 
     type Draft = MemoryDraft;
 
@@ -96,15 +68,13 @@ impl Files for Memory {
     // Files in memory have no mode.
     ghost mode_at = { λ _ _. None };
 
-    // Contracts do not see which calls failed.
-    ghost fails = { λ _ _ _ _. Unit {0} };
+    ghost fails = { λ old call path _. IsRefusedCall call (disk_of old path) };
 
     ghost runs_out = { λ _ _ _ _. Unit {0} };
 
     ghost drafted = { λ draft path bytes. (path ≡ string_bytes draft.path) × (bytes ≡ draft.bytes.items) };
 
     fn read(&mut self, alloc: Global, path: &str, limit: usize) -> Result<Vec<u8>, FileError> {
-        self.call()?;
         match self.files.get(path) {
             Some(Content::File(bytes)) => {
                 let end = bytes.len().min(limit + 1);
@@ -115,7 +85,6 @@ impl Files for Memory {
     }
 
     fn check_place(&mut self, path: &str) -> Result<Option<u32>, FileError> {
-        self.call()?;
         match self.files.get(path) {
             Some(Content::Other) => Err(FileError::Failed),
             _ => Ok(None),
@@ -123,7 +92,6 @@ impl Files for Memory {
     }
 
     fn create(&mut self, path: &str) -> Result<MemoryDraft, FileError> {
-        self.call()?;
         if self.files.contains_key(path) {
             return Err(FileError::Failed);
         }
@@ -137,24 +105,21 @@ impl Files for Memory {
     }
 
     fn set_mode(&mut self, _draft: &MemoryDraft, _mode: u32) -> Result<(), FileError> {
-        self.call()
+        Ok(())
     }
 
     fn write(&mut self, draft: &mut MemoryDraft, bytes: &[u8]) -> Result<(), FileError> {
-        self.call()?;
         draft.bytes.extend_from_slice(bytes)?;
         Ok(())
     }
 
     fn keep(&mut self, draft: MemoryDraft) -> Result<(), FileError> {
-        self.call()?;
         let MemoryDraft { path, bytes } = draft;
         self.files.insert(path, Content::File(bytes))?;
         Ok(())
     }
 
     fn rename(&mut self, from: &str, to: &str) -> Result<(), FileError> {
-        self.call()?;
         let Some(content) = self.files.get(from) else {
             return Err(FileError::Failed);
         };
@@ -166,7 +131,6 @@ impl Files for Memory {
     }
 
     fn remove(&mut self, path: &str) -> Result<(), FileError> {
-        self.call()?;
         if self.files.remove(path).is_none() {
             return Err(FileError::Failed);
         }

@@ -64,6 +64,21 @@ by_path = Literal (codes "http://") ∷ variable operator.Plus (codes "path") �
 abbrev ended_twice : List Part
 ended_twice = Literal (codes "https://e.org") ∷ variable operator.Slash (codes "x") ∷ Literal (codes "/foo") ∷ []
 
+-- `https:///e.org/`, `https://u@e.org/` and `https://e.org/{x}`
+abbrev begun_with_an_end : List Part
+begun_with_an_end = Literal (codes "https:///e.org/") ∷ []
+
+abbrev with_a_user : List Part
+with_a_user = Literal (codes "https://u@e.org/") ∷ []
+
+abbrev fixed : List Part
+fixed = Literal (codes "https://e.org/") ∷ variable operator.Simple (codes "x") ∷ []
+
+-- what a fixed host needs
+fixed_hosts : (keys : Keys) → map (has_open_host (rules_of [] []) (table keys) (place.Link 1)) (begun_with_an_end ∷ with_a_user ∷ fixed ∷ [])
+    ≡ true ∷ true ∷ false ∷ []
+fixed_hosts keys = refl
+
 open_hosts : (keys : Keys) → map (has_open_host (rules_of [] []) (table keys) (place.Link 1)) (
     extended ∷ ended ∷ second_slash ∷ address ∷ cell_extended ∷ cell_ended ∷ by_note ∷ by_path ∷ ended_twice ∷ [])
     ≡ true ∷ true ∷ true ∷ false ∷ true ∷ false ∷ true ∷ true ∷ false ∷ []

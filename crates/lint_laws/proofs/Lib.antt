@@ -12,3 +12,5 @@ pub mod PrintedHosts
 mod HostExamples
 mod BrowserExamples
 pub mod BrowserHosts
+pub mod FixedHosts
+pub mod TemplateNames

@@ -1,5 +1,5 @@
 -- The link that a rule gives on a row of the table, and what a request can do to its host.
-use Rattle.std.specs.Prelude.{◌≡◌, ◌≢◌, ℕ, Bool, true, false, List, [], Option, Some, get_or}
+use Rattle.std.specs.Prelude.{◌≡◌, ◌≢◌, ◌⊎◌, ℕ, Bool, true, false, List, [], Option, Some, codes, get_or}
 use Rattle.std.specs.List.{find, list_any}
 use Rattle.text_model.specs.Texts.{Text}
 use Rattle.environment_model.specs.Environment.{Environment}
@@ -64,6 +64,9 @@ has_open_hosts rules table = list_any is_of_host (findings rules table)
 pub record IsPlainHost (host : Text) : Type 0 where
   pub some : host ≢ []
   pub no_user : list_any is_at_sign host ≡ false
+
+abbrev pub IsWebScheme : Text → Type 0
+IsWebScheme scheme = (scheme ≡ codes "http://") ⊎ (scheme ≡ codes "https://")
 
 -- the row alone decides the host of a template's link, it is plain, and a browser has the same host, whose triplets it then decodes
 pub record IsHostOfRow (rules : RuleSet) (table : Holdings) (parts : List Part) (row : ℕ) (link : Text) : Type 0 where

@@ -4,10 +4,12 @@
 
 mod browsers;
 mod hosts;
+mod names;
 mod rules;
 
 pub use browsers::browsers_have_plain_hosts;
-pub use hosts::no_request_sets_the_host;
+pub use hosts::{fixed_hosts_have_no_finding, no_request_sets_the_host};
+pub use names::names_are_those_of_templates;
 pub use rules::{
     guards_that_never_hold_fail, no_web_link_is_expanded, unreached_rules_change_nothing,
 };

@@ -1,7 +1,7 @@
 //! Registry files whose calls fail, and the keys of their tables.
 
 use crate::codes::FAIL_CODE;
-use files_in_memory::{Content, Memory};
+use files_in_memory::{Content, FailingMemory, Memory};
 use kbart_rows::{KeySource, Keys, SystemKeys};
 use registry::Target;
 use registry_file::{RegistryError, load_registry};
@@ -58,7 +58,7 @@ fn fails<K: KeySource>(
     calls: usize,
     expected: &str,
 ) -> Result<bool, Fail> {
-    let mut files = memory(alloc)?;
+    let mut files = FailingMemory::new(memory(alloc)?);
     files.fail_after(calls);
     match load_registry(alloc, &mut files, keys, PATH) {
         Ok(_) => Ok(expected.is_empty()),

@@ -66,6 +66,10 @@ pub record AreTargetsOf (disk : Disk) (keys : Keys) (bytes : Text) (targets : Li
 
 -- ---- errors
 
+-- a call of this kind failed at the path, between two states; before it, at the path was what is there on this disk
+abbrev pub fails_on : {F : Type 0} → (F → Disk) → (F → FileCall → Text → F → Type 0) → Disk → F → FileCall → Text → F → Type 0
+fails_on at fails disk old call path new = fails old call path new × (at old path ≡ disk path)
+
 module _ {F : Type 0} (fails : F → FileCall → Text → F → Type 0) (disk : Disk) where
   -- a read failed, and the error has its path: that of the code or, if the code is accepted, that of the table
   abbrev pub IsUnread : Text → Text → Text → Type 0

@@ -6,7 +6,7 @@ ghost use Rattle.files.specs.Changes.{Unchanged};
 ghost use Rattle.files.specs.Found.{Absent};
 ghost use Rattle.registry.specs.Targets.{TargetValue};
 ghost use Rattle.registry_file.specs.Loading.{AreTargetsOf, IsLoaded, IsNotLoaded, IsRefusedLine, IsRegistryFault};
-ghost use Rattle.registry_file.specs.Loading.{IsTargetAt};
+ghost use Rattle.registry_file.specs.Loading.{IsTargetAt, fails_on};
 ghost use Rattle.registry_file.specs.declared.error.RegistryError.TheVariants.{Device};
 ghost use Rattle.registry_file.specs.declared.lines.TheConstants.{MAX_REGISTRY_BYTES};
 
@@ -32,7 +32,8 @@ pub fn load_registry<F: Files, K: KeySource>(
 ) -> Result<Registry, RegistryError>
     ensures limit { MAX_REGISTRY_BYTES ≡ 65536 }
     ensures ok { IfOk result (IsLoaded K.draws (F.at files.old) keys.old path.now keys.new) }
-    ensures err { IfErr result (IsNotLoaded F.fails K.draws K.fails (F.at files.old) keys.old path.now keys.new) }
+    ensures err { IfErr result (IsNotLoaded (fails_on F.at F.fails (F.at files.old)) K.draws K.fails (F.at files.old)
+        keys.old path.now keys.new) }
     ensures absent { F.at files.old path.now ≡ Absent → result ≡ Err Device }
     ensures same { Unchanged (F.at files.old) (F.at files.new) }
 {
@@ -50,7 +51,8 @@ fn registry_of<F: Files>(
 ) -> Result<Registry, RegistryError>
     requires { length bytes.now ≤ MAX_REGISTRY_BYTES }
     ensures ok { IfOk result (AreTargetsOf (F.at files.old) keys bytes.now) }
-    ensures err { IfErr result (IsRegistryFault F.fails (F.at files.old) keys bytes.now) }
+    ensures err { IfErr result (IsRegistryFault (fails_on F.at F.fails (F.at files.old)) (F.at files.old) keys
+        bytes.now) }
     ensures same { Unchanged (F.at files.old) (F.at files.new) }
 {
     let lines = read_lines(alloc, bytes)?;
@@ -72,7 +74,8 @@ fn add_line<F: Files>(
 ) -> Result<(), RegistryError>
     ensures ok { OnOk result ((target : TargetValue) × IsTargetAt (F.at files.old) keys (fields_of line.now) target
         × (registry.new ≡ registry.old ++ target ∷ [])) }
-    ensures err { IfErr result (IsRefusedLine F.fails (F.at files.old) registry.old number (fields_of line.now)) }
+    ensures err { IfErr result (IsRefusedLine (fails_on F.at F.fails (F.at files.old)) (F.at files.old) registry.old
+        number (fields_of line.now)) }
     ensures same { Unchanged (F.at files.old) (F.at files.new) }
 {
     let Some(cells) = target_line(line) else {

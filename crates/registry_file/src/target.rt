@@ -5,7 +5,7 @@ ghost use Rattle.files.specs.Changes.{Unchanged};
 ghost use Rattle.files.specs.Found.{Absent, OfFile};
 ghost use Rattle.kbart_rows.specs.Reading.{IsTable};
 ghost use Rattle.registry.specs.Targets.{TargetValue};
-ghost use Rattle.registry_file.specs.Loading.{IsSafeFile};
+ghost use Rattle.registry_file.specs.Loading.{IsSafeFile, fails_on};
 ghost use Rattle.registry_file.specs.Private.Stops.{IsNoCode, IsNoTable, IsNotAdded, IsStop, IsTargetOf};
 ghost use Rattle.registry_file.specs.declared.stop.Stop.TheVariants.{Device};
 
@@ -31,7 +31,8 @@ pub(crate) fn add_target<'a, F: Files>(
         line.now.table.now target
         × (registry.new ≡ registry.old ++ target ∷ [])) }
     ensures err { IfErr result
-        (IsStop F.fails (F.at files.old) registry.old line.now.name.now line.now.code.now line.now.table.now) }
+        (IsStop (fails_on F.at F.fails (F.at files.old)) (F.at files.old) registry.old line.now.name.now
+        line.now.code.now line.now.table.now) }
     ensures same { Unchanged (F.at files.old) (F.at files.new) }
 {
     let code = load_code(alloc, files, line.code)?;
@@ -65,7 +66,7 @@ fn load_code<'a, F: Files>(
     path: &'a str,
 ) -> Result<Verified, Stop<'a>>
     ensures ok { IfOk result (λ code. OfFile (F.at files.old path.now) (λ bytes. IsSafeFile bytes code)) }
-    ensures err { IfErr result (IsNoCode F.fails (F.at files.old path.now) path.now) }
+    ensures err { IfErr result (IsNoCode (fails_on F.at F.fails (F.at files.old)) (F.at files.old path.now) path.now) }
     ensures absent { F.at files.old path.now ≡ Absent → result ≡ Err (Device path.entry) }
     ensures same { Unchanged (F.at files.old) (F.at files.new) }
 {
@@ -88,7 +89,7 @@ fn read_table<'a, F: Files>(
 ) -> Result<Table, Stop<'a>>
     ensures ok { IfOk result (λ table. OfFile (F.at files.old path.now) (λ bytes. IsTable bytes table)) }
     ensures keyed { IfOk result (λ table. table.keys ≡ keys) }
-    ensures err { IfErr result (IsNoTable F.fails (F.at files.old path.now) path.now) }
+    ensures err { IfErr result (IsNoTable (fails_on F.at F.fails (F.at files.old)) (F.at files.old path.now) path.now) }
     ensures absent { F.at files.old path.now ≡ Absent → result ≡ Err (Device path.entry) }
     ensures same { Unchanged (F.at files.old) (F.at files.new) }
 {

@@ -1,8 +1,11 @@
 -- A row's text from its pieces, and its environment with the names that the rules return as lists.
-use Rattle.std.proofs.Common.{◌≡◌, ◌++◌, ℕ, List, Bool, true, false, ◌||◌, refl, ap, ◌∙◌, codes, append_assoc}
+use Rattle.std.proofs.Common.{◌≡◌, ◌++◌, ◌∷◌, [], ℕ, ◌+◌, ◌<◌, List, Bool, true, false, ◌||◌, length, take, get_or, refl, ap, ◌∙◌, codes, append_assoc}
+use Rattle.std.specs.Borrow.{Bor}
+use Rattle.std.proofs.lemmas.List.{map-append, take_more}
+use Rattle.std.proofs.lemmas.List.Folds.{list_any-append}
 use Rattle.std.specs.Fmt.{decimal}
 use Rattle.std.specs.Str.{bytes_eq}
-use Rattle.text_model.specs.Texts.{Text}
+use Rattle.text_model.specs.Texts.{Text, texts_of}
 use Rattle.row_laws.proofs.OneMoreList.{same_filled}
 use Rattle.environment_model.specs.Environment.{Environment, is_among}
 use Rattle.environment_model.specs.Lists.{is_list, list_names}
@@ -36,6 +39,21 @@ pub same_environment : (names lists : List Text) (env : Environment) (pairs : Li
     → filled names env pairs ≡ filled lists env pairs
 same_environment names lists env pairs is =
     ap (λ ns. filled ns env pairs) is ∙ same_filled (each_once (list_names lists)) lists env pairs (same_list lists)
+
+or_nothing : (b : Bool) → (b || false) ≡ b
+or_nothing true = refl
+or_nothing false = refl
+
+pub one_more_name : (names : List (Bor Text)) (i : ℕ) (d : Bor Text) (other : Text) → i < length names
+    → is_among other (texts_of (take (i + 1) names)) ≡ (is_among other (texts_of (take i names)) || bytes_eq (get_or names i d).now other)
+one_more_name names i d other within =
+    ap (λ (ns : List (Bor Text)). is_among other (texts_of ns)) (take_more names i d within)
+    ∙ ap (is_among other) (map-append (λ reference. reference.now) (take i names) (get_or names i d ∷ []))
+    ∙ list_any-append (λ n. bytes_eq n other) (texts_of (take i names)) ((get_or names i d).now ∷ [])
+    ∙ ap (λ (b : Bool). is_among other (texts_of (take i names)) || b) (or_nothing (bytes_eq (get_or names i d).now other))
+
+pub same_names : (name : Text) (names lists : List Text) → names ≡ each_once (list_names lists) → is_among name names ≡ is_list lists name
+same_names name names lists is = ap (is_among name) is ∙ among_each_once name (list_names lists)
 
 -- ---- a row of a request at a target
 

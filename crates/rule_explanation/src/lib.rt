@@ -11,6 +11,7 @@ mod explaining;
 mod failing;
 mod holding;
 pub mod laws;
+mod list_names;
 mod names;
 mod row_view;
 mod rows;

@@ -74,7 +74,7 @@ impl Variables for RowView<'_, '_> {
         rows_shadow_requests();
         rows_by_names();
         let request = self.request;
-        if request.rules.is_list(name) {
+        if request.lists.contains(name) {
             return None;
         }
         match self.cell(name) {
@@ -87,7 +87,7 @@ impl Variables for RowView<'_, '_> {
         rows_shadow_requests();
         rows_by_names();
         let request = self.request;
-        if request.rules.is_list(name) && self.cell(name).is_none() {
+        if request.lists.contains(name) && self.cell(name).is_none() {
             request.values.list(name)
         } else {
             Members::none()

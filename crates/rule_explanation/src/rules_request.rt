@@ -2,6 +2,7 @@
 
 ghost use Rattle.std.specs.Prelude.{◌≡◌, ◌<◌, IfOk, length};
 
+use crate::list_names::ListNames;
 use crate::row_view::RowView;
 use kbart_rows::Table;
 use kev_read::Request;
@@ -16,20 +17,26 @@ pub(crate) struct RulesRequest<'a> {
     pub(crate) rules: &'a Rules,
     pub(crate) table: &'a Table,
     request: &'a Request,
+    /// The names of the lists of the rules.
+    pub(crate) lists: ListNames,
     /// The values of the request without a row, with the lists of the rules.
     pub(crate) values: Env,
 }
 
 impl<'a> Model for RulesRequest<'a> {
     ghost use Rattle.std.specs.Prelude.{◌≡◌};
+    ghost use Rattle.text_model.specs.Texts.{Text};
+    ghost use Rattle.environment_model.specs.Lists.{is_list};
     ghost use Rattle.row_laws.specs.Shadowing.{requested};
+    ghost use Rattle.rule_explanation.specs.Private.ListNames.{has};
     ghost use Rattle.rule_explanation.specs.Private.Seen.{RulesRequestValue};
 
     ghost Value = { RulesRequestValue };
 
     ghost view = { λ r. record { rules = r.rules.now; table = r.table.now; pairs = r.request.now.pairs } };
 
-    ghost invariant = { λ r. r.values.entries ≡ requested r.rules.now.lists r.request.now.pairs };
+    ghost invariant = { λ r. (r.values.entries ≡ requested r.rules.now.lists r.request.now.pairs)
+        × ((name : Text) → has r.lists name ≡ is_list r.rules.now.lists name) };
 }
 
 impl<'a> RulesRequest<'a> {
@@ -45,13 +52,15 @@ impl<'a> RulesRequest<'a> {
         ensures { IfOk result
             (λ r. r ≡ record { rules = rules.now; table = table.now; pairs = request.now.pairs }) }
     {
-        let lists = rules.lists(alloc)?;
+        let names = rules.lists(alloc)?;
+        let lists = ListNames::new(alloc, table.keys(), &names)?;
         let mut values = Env::new(alloc);
-        match request.fill(&lists, &mut values) {
+        match request.fill(&names, &mut values) {
             Ok(()) => Ok(RulesRequest {
                 rules,
                 table,
                 request,
+                lists,
                 values,
             }),
             Err(_) => Err(AllocError),

@@ -1,7 +1,7 @@
 use Rattle.std.proofs.Common.{IfNone, refl, subst, sym}
 use Rattle.csv.specs.Records.{fields_of}
 use Rattle.registry_file.specs.Lines.{IsNoTargetLine, IsTargetLine}
-use Rattle.registry_file.specs.Loading.{IsTargetFault}
+use Rattle.registry_file.specs.Loading.{IsTargetFault, fails_on}
 use Rattle.registry_file.proofs.StopLemmas.{named_fault}
 use Rattle.registry_file.proofs.load.add_line.Goals as goal
 
@@ -27,8 +27,8 @@ returns-in-Ok-clause-ok g c =
 
 pub returns-in_ok-of_target-in-Err-clause-err : goal.returns-in_ok-of_target-in-Err-clause-err
 returns-in_ok-of_target-in-Err-clause-err g c =
-    let fails = g.F.Files.fails in
     let disk = g.F.Files.at c.args.files.now in
+    let fails = fails_on g.F.Files.at g.F.Files.fails disk in
     let cells = c.in-Some.cells in
     let e = c.in_ok-of_target-in-Err.field-0 in
     let named = sym c.in_ok-of_target-in-Err.ensures.name in

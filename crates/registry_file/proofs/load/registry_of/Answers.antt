@@ -3,7 +3,7 @@ use Rattle.std.proofs.Math.Path.{fun_ext}
 use Rattle.std.proofs.lemmas.Result.{err_from_is_err_and}
 use Rattle.csv.specs.Records.{fields_of}
 use Rattle.kbart_rows.specs.Reading.{AreLines}
-use Rattle.registry_file.specs.Loading.{AreTargets, IsRefusedLine, IsTargetAt}
+use Rattle.registry_file.specs.Loading.{AreTargets, IsRefusedLine, IsTargetAt, fails_on}
 use Rattle.registry_file.proofs.LoadLemmas.{IsNext, line_fault, one_more}
 use Rattle.registry_file.proofs.load.registry_of.Goals as goal
 
@@ -18,12 +18,14 @@ returns-in_err-add_line-clause-err g c =
     let read = subst (λ items. AreLines c.args.bytes.now (map fields_of items)) (sym c.deref-line-items.ensures.value) c.in_ok-lines.ensures in
     let next : IsNext disk c.args.keys fields_of c.deref-line-items.result.now c.loop-before.before c.loop-before.registry c.line-item.result =
     record { few = c.loop-before-test.true; is = c.line-item.is; held = c.loop-before.invariant.held } in
-    let refused = subst (λ disk. IsRefusedLine g.F.Files.fails disk c.loop-before.registry (c.loop-before.before + 1) (fields_of c.line-item.result)
+    let refused = subst
+    (λ disk. IsRefusedLine (fails_on g.F.Files.at g.F.Files.fails disk) disk c.loop-before.registry (c.loop-before.before + 1) (fields_of c.line-item.result)
     c.in_err-add_line.field-0.0)
     (fun_ext c.loop-before.invariant.same) c.in_err-add_line.ensures.err in
     let made = err_from_is_err_and c.from_residual-in_err-add_line.result c.from_residual-in_err-add_line.ensures.1 in
     rw (made.1, made.2) (
-    line_fault disk c.args.keys g.F.Files.fails fields_of c.args.bytes.now c.deref-line-items.result.now c.loop-before.before c.loop-before.registry
+    line_fault disk c.args.keys (fails_on g.F.Files.at g.F.Files.fails disk) fields_of
+    c.args.bytes.now c.deref-line-items.result.now c.loop-before.before c.loop-before.registry
     c.line-item.result
     c.in_err-add_line.field-0.0 c.requires read next refused
     )

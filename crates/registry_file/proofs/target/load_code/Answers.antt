@@ -5,6 +5,7 @@ use Rattle.code_file.specs.declared.error.CodeErrorKind.TheVariants.{TooLong}
 use Rattle.code_file.specs.declared.limits.TheConstants.{MAX_BYTES}
 use Rattle.code_file.specs.Grammar.{IsCodeFile}
 use Rattle.verifier.specs.Faults.{IsLoadFault, no_code}
+use Rattle.registry_file.specs.Loading.{fails_on}
 use Rattle.registry_file.proofs.StopLemmas.{code_refused, exists}
 use Rattle.registry_file.proofs.target.load_code.Goals as goal
 
@@ -13,7 +14,8 @@ returns-in_err-load-in-Ok-clause-err g c =
     let made = err_from_is_err_and c.from_residual.result c.from_residual.ensures.1 in
     let refused = subst (λ bytes. IsLoadFault bytes c.in_err-load-in-Ok.field-0.0) c.deref.ensures.value c.in_err-load-in-Ok.ensures.refused in
     rw made.1 (
-    code_refused g.F.Files.fails (g.F.Files.at c.args.files.now c.args.path.now) c.args.path.now c.in_err-load-in-Ok.field-0.0 made.0
+    code_refused (fails_on g.F.Files.at g.F.Files.fails (g.F.Files.at c.args.files.now))
+    (g.F.Files.at c.args.files.now c.args.path.now) c.args.path.now c.in_err-load-in-Ok.field-0.0 made.0
     (c.in-Ok.bytes.items, c.in-Ok.ensures.whole, refused) made.2
     )
 

@@ -1,11 +1,8 @@
-use Rattle.std.proofs.Common.{◌∙◌, ap, string_bytes}
-use Rattle.std.specs.BTreeMap.{get_by_text}
-use Rattle.files_in_memory.specs.InMemory.{found_of}
+use Rattle.std.proofs.Common.{◌∙◌, string_bytes}
 use Rattle.files_in_memory.proofs.MapLemmas.{found_elsewhere}
 use Rattle.files_in_memory.proofs.memory.MemoryFiles.create.Goals as goal
 
 pub returns-clause-others : goal.returns-clause-others
 returns-clause-others c other apart =
-    found_elsewhere c.call.new.self.files (string_bytes c.in_ok-key.key) _ c.insert.new.self c.in_ok-insert.ensures.updates other
+    found_elsewhere c.args.self.now.files (string_bytes c.in_ok-key.key) _ c.insert.new.self c.in_ok-insert.ensures.updates other
     (λ same. apart (same ∙ c.in_ok-key.ensures.ok))
-    ∙ ap (λ files. found_of (get_by_text files other)) c.in_ok-call.ensures.files

@@ -1,5 +1,4 @@
 use Rattle.std.proofs.Common.{◌≡◌, ◌∙◌, Some, ap, sym}
-use Rattle.std.specs.BTreeMap.{get_by_text}
 use Rattle.files.specs.Found.{Absent, File}
 use Rattle.files_in_memory.specs.InMemory.{found_of}
 use Rattle.files_in_memory.proofs.memory.MemoryFiles.read.Goals as goal
@@ -9,12 +8,12 @@ pub returns-in_err-from_slice-in-Some-File-clause-absent : goal.returns-in_err-f
 returns-in_err-from_slice-in-Some-File-clause-absent c none =
     let there : File c.in-Some-File.bytes.items ≡ Absent =
     ap (λ content. found_of (Some content)) (sym c.in-Some-File.field-0-is)
-    ∙ ap found_of (c.in-Some-File.ensures.value ∙ ap (λ files. get_by_text files c.args.path.now) c.in_ok-call.ensures.files) ∙ none in
+    ∙ ap found_of c.in-Some-File.ensures.value ∙ none in
     absurd (cc there)
 
 pub returns-in_ok-from_slice-in-Some-File-clause-absent : goal.returns-in_ok-from_slice-in-Some-File-clause-absent
 returns-in_ok-from_slice-in-Some-File-clause-absent c none =
     let there : File c.in-Some-File.bytes.items ≡ Absent =
     ap (λ content. found_of (Some content)) (sym c.in-Some-File.field-0-is)
-    ∙ ap found_of (c.in-Some-File.ensures.value ∙ ap (λ files. get_by_text files c.args.path.now) c.in_ok-call.ensures.files) ∙ none in
+    ∙ ap found_of c.in-Some-File.ensures.value ∙ none in
     absurd (cc there)

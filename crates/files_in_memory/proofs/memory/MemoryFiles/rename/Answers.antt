@@ -7,13 +7,12 @@ use Rattle.files_in_memory.proofs.memory.MemoryFiles.rename.Goals as goal
 pub returns-clause-there : goal.returns-clause-there
 returns-clause-there c =
     let kept = found_elsewhere c.insert.new.self c.args.from.now _ c.remove.new.self c.remove.ensures.updates c.args.to.now (λ same. c.requires (sym same)) in
-    let moved = found_here c.call.new.self.files (string_bytes c.in_ok-to.to) _ c.insert.new.self c.in_ok-insert.ensures.updates in
+    let moved = found_here c.args.self.now.files (string_bytes c.in_ok-to.to) _ c.insert.new.self c.in_ok-insert.ensures.updates in
     kept ∙ ap (λ path. found_of (get_by_text c.insert.new.self path)) (sym c.in_ok-to.ensures.ok) ∙ moved ∙ c.in_ok-content.ensures
-    ∙ ap found_of (c.in-Some.ensures.value ∙ ap (λ files. get_by_text files c.args.from.now) c.in_ok-call.ensures.files)
+    ∙ ap found_of c.in-Some.ensures.value
 
 pub returns-clause-others : goal.returns-clause-others
 returns-clause-others c other not_from not_to =
     found_elsewhere c.insert.new.self c.args.from.now _ c.remove.new.self c.remove.ensures.updates other not_from
-    ∙ found_elsewhere c.call.new.self.files (string_bytes c.in_ok-to.to) _ c.insert.new.self c.in_ok-insert.ensures.updates other
+    ∙ found_elsewhere c.args.self.now.files (string_bytes c.in_ok-to.to) _ c.insert.new.self c.in_ok-insert.ensures.updates other
     (λ same. not_to (same ∙ c.in_ok-to.ensures.ok))
-    ∙ ap (λ files. found_of (get_by_text files other)) c.in_ok-call.ensures.files

@@ -3,12 +3,15 @@ use Rattle.std.proofs.Common.{ap, ◌∙◌}
 use Rattle.text_model.specs.Texts.{texts_of}
 use Rattle.environment_model.specs.Environment.{Environment}
 use Rattle.kev_read.specs.Filling.{filled}
-use Rattle.rule_explanation.proofs.RowLemmas.{same_environment}
+use Rattle.rule_explanation.proofs.RowLemmas.{same_environment, same_names}
 use Rattle.rule_explanation.proofs.rules_request.RulesRequest.new.Goals as goal
 
 pub invariant_of-result : goal.invariant_of-result
 invariant_of-result c =
     let pairs = c.args.request.now.pairs in
-    let lists = ap texts_of c.deref.ensures.value ∙ c.in_ok-lists.ensures in
-    c.in-Ok.ensures.ok ∙ same_environment _ c.args.rules.now.lists _ pairs lists
-    ∙ ap (λ (env : Environment). filled c.args.rules.now.lists env pairs) c.new-values.ensures.value
+    let lists = c.args.rules.now.lists in
+    let seen = ap texts_of c.deref.ensures.value ∙ c.in_ok-names.ensures in
+    let filled_with = ap texts_of c.deref-2.ensures.value ∙ c.in_ok-names.ensures in (
+      c.in-Ok.ensures.ok ∙ same_environment _ lists _ pairs filled_with ∙ ap (λ (env : Environment). filled lists env pairs) c.new-values.ensures.value,
+      λ name. c.in_ok-lists.ensures name ∙ same_names name _ lists seen,
+    )

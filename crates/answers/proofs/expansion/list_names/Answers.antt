@@ -1,6 +1,6 @@
 use Rattle.std.proofs.Common.{[]}
-use Rattle.commands.proofs.ArgumentLemmas.{one_more_name}
-use Rattle.commands.proofs.list_options.list_names.Goals as goal
+use Rattle.answers.proofs.OptionLemmas.{one_more_name}
+use Rattle.answers.proofs.expansion.list_names.Goals as goal
 
 pub loop-rest-preserved : goal.loop-rest-preserved
 loop-rest-preserved c =
