@@ -17,6 +17,15 @@ KEYS = (
     " rft.volume rft.issue rft.pages rft.spage rft.artnum rft.issn rft.eissn rft.isbn rft_id rfr_id rft.genre"
     " title id doi pmid sid pid date issn isbn ctx_ver ctx_enc rft_val_fmt first x.doi title_url"
 ).split()
+# What a client may say of the site's name, which no page and no redirect has.
+FORWARDED = {
+    "X-Forwarded-Host": "evil.example",
+    "X-Forwarded-Server": "evil.example",
+    "X-Host": "evil.example",
+    "Forwarded": "host=evil.example",
+    "X-Original-URL": "/evil",
+}
+NO_HOSTS = ("evil'-alert(1)-'", 'evil"><script>', "evil&x", "evil%27x", "evil_x", "evil@x")
 HEADING = re.compile(r"<h1>(Storm surges|Full text from [\w, -]+)</h1>")  # with and without groups of targets
 
 
@@ -55,6 +64,34 @@ class Hostile(SiteCase):
             (reply.status, json.loads(reply.text)["citation"]["title"]),
             (200, "a Host: b GET /report HTTP/1.1é"),
         )
+
+    def test_addresses(self) -> None:
+        """The page of an error has no markup of the address, and only that of a list leads back to it."""
+        text = quote(HOSTILE.replace("\0", ""))
+        for target in (f"/{text}", f"/{text}.svg", f"/export/{text}", f"/find/{text}", f"/journals/{text}/1"):
+            reply, name = self.site.get(target), f"hostile address {target[:12]}"
+            has_markup = "<script" in reply.text or "<img" in reply.text
+            self.expect(name, (reply.status, has_markup, reply.headers["X-Evil"]), (404, False, None))
+            is_list = target.startswith("/journals/")
+            self.expect(f"{name}: its text", "alert" in reply.text, is_list)
+            if not is_list:
+                self.tidy(name, reply.text)
+
+    def test_names_of_the_site(self) -> None:
+        """Redirects lead to no host. A page has the host of its request, if that is one, and none that another header
+        names."""
+        for target, place in (("/", "/find"), ("/find/?a=b", "/find?a=b"), ("/openurl/?a=b", "/openurl?a=b")):
+            reply = self.site.get(target, headers={**FORWARDED, "Host": "evil.example"})
+            self.expect(f"a redirect of {target}", (reply.status, reply.headers["Location"]), (301, place))
+        for target in ("/find", "/opensearch.xml", "/journals", "/none"):
+            for host in ("links.library.example.org", *NO_HOSTS):
+                reply = self.site.get(target, headers={**FORWARDED, "Host": host})
+                found = "evil" in reply.text, "evil" in str(reply.headers)
+                self.expect(
+                    f"{target} of {host}: its names", (reply.status in (200, 404), *found), (True, False, False)
+                )
+        page = self.site.get("/find", headers={"Host": "other.example"}).text
+        self.expect("the host of the request", "http://other.example/find" in page)
 
     def test_labels(self) -> None:
         words = {name: HOSTILE for name in targets.names_of_words()}

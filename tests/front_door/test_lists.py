@@ -209,6 +209,8 @@ class Lists(TitlesCase):
             "/find.ris?rft.au=",
             "/find?title=",
             "/find?lang=",
+            "/go?atitle=",
+            "/go?first=1&title=",
             "/journals/a/1?lang=",
             "/cite?genre=",
         ):

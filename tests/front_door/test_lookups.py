@@ -165,6 +165,15 @@ class Lookups(SiteWithLookups):
             self.tidy(f"{name}: the page", reply.text)
         self.expect("a summary that is an error", ALONE in self.site.get("/find?id=pmid:99990002").text)
 
+    def test_commands(self) -> None:
+        """A reply chooses neither another service, nor that it is not kept, nor a header of the page."""
+        for time_of in ("the first", "the second"):
+            page = self.site.get("/find?id=doi:10.5555/commands")
+            self.expect(f"{time_of} time", (page.status, "Tidal Press" in page.text), (200, True))
+            self.expect(f"{time_of} time: no cookie", page.headers["Set-Cookie"], None)
+        asked = [number for number in self.services.asked.elements() if number.startswith("copy:")]
+        self.expect("what is asked", (self.services.asked["10.5555/commands"], asked), (1, []))
+
     def test_endless(self) -> None:
         """A reply that does not end, whatever it says of its length: the page comes, nginx ends the connection, and the
         disk has less than a megabyte of it."""

@@ -10,6 +10,7 @@ import http.client
 import os
 import re
 import socket
+import ssl
 import struct
 import subprocess
 from collections.abc import Collection
@@ -22,6 +23,7 @@ from fixtures.patience import patience
 from fixtures.patience import wait_until
 from fixtures.site_case import SiteCase
 from fixtures.site_case import lines_of
+from fixtures.tls_site import HOST
 from fixtures.tls_site import with_tls
 
 ADDRESS = "127.0.0.77"
@@ -166,6 +168,16 @@ def outside_of_fields(line: str) -> str:
     return f"{it[1]} {path} {it[3]} {it[4]} {it[5].removeprefix(f'info:sid/{SOURCE}')}"
 
 
+def wrong_hello() -> bytes:
+    """A greeting by TLS whose version is none, which nginx calls critical. The version is after nine bytes: the type,
+    version and length of the record, and the type and length of the greeting."""
+    sent = ssl.MemoryBIO()
+    with contextlib.suppress(ssl.SSLWantReadError):
+        ssl.create_default_context().wrap_bio(ssl.MemoryBIO(), sent, server_hostname=HOST).do_handshake()
+    data = sent.read()
+    return data[:9] + b"\0" + data[10:]
+
+
 def counted(site: Site, *words: str) -> str:
     os.makedirs(site.path("counts"), exist_ok=True)
     return subprocess.run(
@@ -285,6 +297,7 @@ class Privacy(SiteCase):
         self.site.write_site(self.plain)
         peer = with_tls(self.site)
         for hello in (
+            wrong_hello(),
             b"\x16\x03\x01\x02\x00\x01\x00\x01\xfc\x03\x03" + NAME.encode() * 60,
             b"\x16\x03\x01\x00\x05\x01",
             f"GET /find?{QUERY} HTTP/1.0\r\n\r\n".encode(),

@@ -32,6 +32,21 @@ ONCE = (
     "X-Content-Type-Options",
     "X-Robots-Tag",
 )
+# Addresses of the server for the machine itself, of which /why alone has a password.
+OF_THE_LOCAL_SERVER = (
+    "/report.txt",
+    "/report",
+    "/_report",
+    "/health",
+    "/why/",
+    "/why/../report.txt",
+    "/why/..%2freport.txt",
+    "/why%2f..%2freport.txt",
+    "/why/%2e%2e/report",
+    "/why;/../report.txt",
+    "/why%3f/../report.txt",
+    "//why/../report",
+)
 SUITES = [  # of TLS 1.2, and whether the site takes them
     ("ECDHE-RSA-AES128-GCM-SHA256", True),
     ("ECDHE-RSA-AES256-GCM-SHA384", True),
@@ -171,7 +186,7 @@ class Tls(SiteCase):
         )
         self.expect("its headers once", [len(reply.headers.get_all(name) or []) for name in ONCE], [1] * len(ONCE))
         self.expect("a form", peer.get("/why", "POST", ARTICLE.encode(), {**FORM, **basic("staff:right")}).status, 405)
-        for path in ("/report.txt", "/report", "/_report"):
+        for path in OF_THE_LOCAL_SERVER:
             self.expect(path, peer.get(path, headers=basic("staff:right")).status, 404)
         reply = self.site.get(f"/why?{ARTICLE}", headers=basic("staff:right"))
         self.expect(

@@ -66,6 +66,7 @@ class Replies(ProvidersCase):
             "page": ("/page.gz", "a web page, not a table: the address may want a login"),
             "to-http": ("/to-http", "a redirect that leads to no https: address"),
             "to-file": ("/to-file", "a redirect that leads to no https: address"),
+            "to-gopher": ("/to-gopher", "a redirect that leads to no https: address"),
             "to-a-user": ("/to-a-user", "a redirect that leads nowhere"),
             "to-nowhere": ("/to-nowhere", "a redirect that leads nowhere"),
             "loop": ("/loop", "more than 5 redirects"),
