@@ -28,7 +28,7 @@ function addressOf(path, args, site) {
     return `${path}?${args ? args + '&' : ''}lang=${site.chosen}`;
 }
 
-// The library's name and logo, which lead home. Staff come to a server that has no home.
+// The library's name and logo, which lead to the form. The server of the staff's pages has no form.
 function headerHtml(library, site) {
     const logo = word(site, 'logo');
     const name = library === '' ? escape(word(site, 'form')) : '';
