@@ -10,6 +10,7 @@ from openlink_update.received import archives, headers, texts
 from openlink_update.received.headers import Parsed
 from openlink_update.tables import cells, date_order, dropped_rows
 from openlink_update.tables.table import Table
+from openlink_update.target_options import NONE, Options
 
 _Cells = tuple[list[str], list[list[str]]]  # a header and rows
 
@@ -64,8 +65,8 @@ def joined(tables: Sequence[_Cells]) -> _Cells:
     return [name for name, _ in places], rows
 
 
-def prepare(files: Sequence[tuple[str, bytes]]) -> Prepared:
-    """Prepares the files of a target, pairs of a path and bytes. Refused if one cannot be read."""
+def prepare(files: Sequence[tuple[str, bytes]], options: Options = NONE) -> Prepared:
+    """Prepares the files of a target with these options, pairs of a path and bytes. Refused if one cannot be read."""
     tables, lines, reasons = [], [], []
     for path, data in files:
         try:

@@ -12,6 +12,7 @@
     allowed.tsv            a target, words of its line that allow warnings, and the number up to which they do
     hosts.tsv              see host_judge.py
     undated.tsv            see undated_links.py
+    options.tsv            a target, and its options: see target_options.py
     abbreviations.tsv      see abbreviations.py
     index/                 the index of titles, for the front door
     prepared/              only until the index and the exports are made: see prepared_tables.py
@@ -28,6 +29,7 @@ import shutil
 from collections.abc import Callable, Iterable, Iterator
 from pathlib import Path
 
+from openlink_update import target_options
 from openlink_update.index import abbreviations, named_parts, title_index
 from openlink_update.index.title_groups import Title
 from openlink_update.input_files import InputFile
@@ -38,6 +40,7 @@ from openlink_update.shown_text import amount
 from openlink_update.tables import date_order, dropped_rows, row_changes
 from openlink_update.tables.preparation import Prepared
 from openlink_update.tables.table import Table
+from openlink_update.target_options import Options
 from openlink_update.versions import earlier_files, host_judge, shared_tables, undated_links
 from openlink_update.versions.earlier_files import EarlierFiles
 from openlink_update.versions.judging import Judge
@@ -60,6 +63,7 @@ class _Files:
     tables: tuple[bytes, ...]
     has_code: bool
     paths: tuple[str, ...] = dataclasses.field(compare=False)  # of the tables
+    options: Options = target_options.NONE
     # All of these, as they were read.
     sources: tuple[InputFile, ...] = dataclasses.field(compare=False, default=())
 
@@ -71,7 +75,7 @@ class _Files:
     @functools.cached_property
     def prepared(self) -> Prepared:
         """Refused if one of the files cannot be read as a table."""
-        return shared_tables.prepare(list(zip(self.paths, self.tables)))
+        return shared_tables.prepare(list(zip(self.paths, self.tables)), self.options)
 
     @functools.cached_property
     def table_or_empty(self) -> Table:
@@ -84,7 +88,7 @@ class _Files:
 
 def _files_of(target: Target) -> _Files:
     """The files that the list names for a target. Refused if one of them cannot be read."""
-    reasons, sources = [], []
+    reasons, sources = [*target.reasons], []
     for number, path in enumerate((target.rules, *target.tables)):
         try:
             found = patterns.path_of(path, target.input.matches) if number else path
@@ -96,7 +100,7 @@ def _files_of(target: Target) -> _Files:
         raise Refused(reasons)
     rules, *data = [it.data for it in sources]
     paths = tuple(str(it.path) for it in sources[1:])
-    return _Files(rules, tuple(data), target.has_code(), paths, tuple(sources))
+    return _Files(rules, tuple(data), target.has_code(), paths, target.options, tuple(sources))
 
 
 def _received_names(version: Path, name: str) -> list[str]:
@@ -114,14 +118,16 @@ def received_in(version: Path) -> RootFolder:
     return RootFolder(version / _RECEIVED)
 
 
-def files_in(received: RootFolder, name: str) -> _Files | None:
-    """The files of a target among those that a version has received, or None if it has none."""
+def files_in(received: RootFolder, name: str, options: Options = target_options.NONE) -> _Files | None:
+    """The files of a target, made with these options, among those that a version has received, or None if it has
+    none."""
     names = received.names()
     tables = _tables_among(names, name)
     for suffix, has_code in ((".rules", False), (".olk", True)):
         if f"{name}{suffix}" in names and tables:
             rules, *data = [_content(received, file) for file in (f"{name}{suffix}", *tables)]
-            return _Files(rules, tuple(data), has_code, tuple(str(received.place((file,))) for file in tables))
+            paths = tuple(str(received.place((file,))) for file in tables)
+            return _Files(rules, tuple(data), has_code, paths, options)
     return None
 
 
@@ -155,6 +161,8 @@ class Maker:
         self._tables, self._prepared = Tables(self._folder, today), PreparedTables(self._folder)
         self._judge = Judge(self._folder, self._older, program, today)
         self._earlier = EarlierFiles(self._older)
+        self._options_before = target_options.options_in(self._older) if self._older else {}
+        self._options: dict[str, Options] = {}  # by target: those that this version was made with
 
     def make(self, targets: list[Target], has_list: bool, pairs: bytes | None = b"") -> None:
         """Makes all but the index, which has the list of titles, or has not. `pairs` are the library's own
@@ -190,6 +198,7 @@ class Maker:
         self._write("allowed.tsv", self._judge.text(self.names).encode())
         self._write(host_judge.NAME, self._judge.hosts.text(self.names).encode())
         self._write(undated_links.NAME, self._judge.undated.text(self.names).encode())
+        self._write(target_options.NAME, target_options.text_of(self._options, self.names).encode())
         self._write(abbreviations.NAME, pairs)
         self._write(earlier_files.NAME, self._earlier.text(self.names, self._today).encode())
         index = self._folder / "index"
@@ -220,7 +229,7 @@ class Maker:
         return targets_in(self._older) if self._older else []
 
     def _files_before(self, name: str) -> _Files | None:
-        return files_in(self._received, name) if self._received else None
+        return files_in(self._received, name, self._options_before.get(name, target_options.NONE)) if self._received else None
 
     def _add(self, target: Target) -> None:
         """Adds a target with its new files, or its old ones, or leaves it out."""
@@ -263,6 +272,7 @@ class Maker:
     def _put(self, target: Target, files: _Files) -> list[str]:
         """Writes the files of a target and compiles its rules. Returns why the program rejects them."""
         name = target.name
+        self._options[name] = files.options
         rules = f"received/{name}{'.olk' if files.has_code else '.rules'}"
         self._discard(name)
         self._write(rules, files.rules)
@@ -356,6 +366,7 @@ def is_same(one: str | Path, other: str | Path, received: RootFolder | None = No
         for version in versions
     ]
     lists = ["registry.tsv", "allowed.tsv", host_judge.NAME, undated_links.NAME, abbreviations.NAME]
+    lists.append(target_options.NAME)
     files = [*lists, "index/format", *names[0]]
     opened = received or received_in(versions[1])
     return names[0] == names[1] and all(

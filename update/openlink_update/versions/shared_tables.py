@@ -23,6 +23,7 @@ from openlink_update.rights.sandbox import Job, Sandbox
 from openlink_update.tables import preparation
 from openlink_update.tables.preparation import Prepared
 from openlink_update.tables.table import Table
+from openlink_update.target_options import NONE, Options
 
 Files = Sequence[tuple[str, bytes]]  # of a target: a path, and bytes
 _MARKS = "marks"
@@ -66,8 +67,11 @@ def _sums_below(folder: InputFolder) -> Iterator[str]:
                 yield _sum_of(folder.read(os.path.join(below, name)))
 
 
-def prepare(files: Files) -> Prepared:
-    """Prepares the files of a target, pairs of a path and bytes, as preparation does."""
+def prepare(files: Files, options: Options = NONE) -> Prepared:
+    """Prepares the files of a target, pairs of a path and bytes, as preparation does. What options of the target make
+    of them is its own."""
+    if options.changes_reading():
+        return preparation.prepare(files, options)
     if asked is not None:
         data = asked(files)
         return preparation.prepare(files) if data is None else _of_stored(json.loads(data))

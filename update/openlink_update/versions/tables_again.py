@@ -7,6 +7,7 @@ from pathlib import Path
 from openlink_update.outcome import DEVICE, Failure, Refused
 from openlink_update.tables import coverage, parts
 from openlink_update.tables.table import Table
+from openlink_update.target_options import NONE, options_in
 from openlink_update.versions.making import files_in, received_in
 from openlink_update.versions.served import divided, names_in, targets_in
 
@@ -14,9 +15,9 @@ from openlink_update.versions.served import divided, names_in, targets_in
 def tables_of(version: Path, day: datetime.date) -> Iterator[tuple[str, Table]]:
     """Yields the tables of all targets of a version that was made on a day, each after the target's name. A large one
     comes in its parts, each after the name of the part. A Failure says which cannot be prepared."""
-    names = names_in(version)
+    names, options = names_in(version), options_in(version)
     for target in targets_in(version):
-        files = files_in(received_in(version), target)
+        files = files_in(received_in(version), target, options.get(target, NONE))
         if files is None:
             raise Failure(f"{version}: no files of {target}", DEVICE)
         try:

@@ -1,14 +1,16 @@
 """The list of targets, targets.tsv: a line for each, in the order of the menu. A line has a name, a rule file, the
-files of its table, and the warnings that are allowed for it, the last two separated by semicolons; the last cell may be
-missing. Paths are relative to the folder of the list; those of tables may have *. Empty lines and lines that begin with
+files of its table, and its options with the words that allow warnings, the last two separated by semicolons; the last
+cell may be missing. Paths are relative to the folder of the list; those of tables may have *. Empty lines and lines that begin with
 # are skipped."""
 import dataclasses
 import os
 import re
 
 from openlink_update.input_files import InputFolder, Line
-from openlink_update.outcome import Failure
+from openlink_update import target_options
+from openlink_update.outcome import Failure, Refused
 from openlink_update.tables import parts
+from openlink_update.target_options import Options
 
 _LIST = "targets.tsv"
 _NAME = re.compile(r"[A-Za-z0-9_.-]{1,64}")
@@ -21,6 +23,8 @@ class Target:
     rules: str  # a path; one that ends in .olk is a code file, which needs no compiler
     tables: tuple[str, ...]  # paths, which may have *
     allowed: frozenset[str]
+    options: Options = target_options.NONE
+    reasons: tuple[str, ...] = ()  # why its line keeps the old files
     input: InputFolder = dataclasses.field(default=InputFolder("."), compare=False)  # that it comes from
 
     @property
@@ -55,16 +59,26 @@ def _target_of(line: Line, folder: InputFolder, place: str) -> Target:
     cells = [cell.strip() for cell in line.cells]
     if len(cells) not in (3, 4) or not all(cells[:3]):
         raise Failure(f"{place}: not a name, a rule file, a table and allowed warnings, with tabs between them")
-    name, rules, tables = cells[:3]
+    name, rules, files = cells[:3]
     if not _NAME.fullmatch(name):
         raise Failure(f"{place}: no target can have the name {name}")
     if parts.base_of(name) != name:
         raise Failure(f"{place}: no target can have the name {name}, which is that of a part of {parts.base_of(name)}")
-    paths = _parts_of(tables)
+    paths = _parts_of(files)
     if not paths:
         raise Failure(f"{place}: no table")
-    allowed = frozenset(_parts_of(cells[3]) if len(cells) == 4 else ())
-    return Target(name, _joined(folder, rules), tuple(_joined(folder, path) for path in paths), allowed, folder)
+    options, allowed, reasons = _fourth_cell(cells[3] if len(cells) == 4 else "", place)
+    tables = tuple(_joined(folder, path) for path in paths)
+    return Target(name, _joined(folder, rules), tables, allowed, options, reasons, folder)
+
+
+def _fourth_cell(cell: str, place: str) -> tuple[Options, frozenset[str], tuple[str, ...]]:
+    """The options of a line, the words that allow something, and what is wrong with the cell."""
+    try:
+        options, allowed = target_options.parse(cell)
+    except Refused as refusal:
+        return target_options.NONE, frozenset(), tuple(f"{place}: {reason}" for reason in refusal.reasons)
+    return options, allowed, ()
 
 
 def _joined(folder: InputFolder, path: str) -> str:
