@@ -20,10 +20,12 @@
 
 An old table is prepared again before a new one is compared with it, so a newer form of preparation does not look like a
 change by the provider."""
+import contextlib
 import dataclasses
 import datetime
 import filecmp
 import functools
+import gc
 import os
 import re
 import shutil
@@ -98,6 +100,17 @@ class _Files:
             return self.prepared.table
         except Refused:
             return Table((), [])
+
+
+@contextlib.contextmanager
+def _collecting_nothing() -> Iterator[None]:
+    """While millions of cells are compared, Python does not look for cycles among them: there are none, and it would
+    take a third of the time."""
+    gc.disable()
+    try:
+        yield
+    finally:
+        gc.enable()
 
 
 def _material_of(files: _Files) -> Material:
@@ -346,8 +359,9 @@ class Maker:
         if self._tables.parts_of(target.name):
             parts = dict(self._tables.divided(target.name, prepared.table))
             self._judge.undated.find(target.name, prepared.table, not new.has_code and not reasons)
-            before_it = old.material if old is not None else None
-            reasons += self._judge.reasons(target, parts, not new.has_code and not reasons, new.material, before_it)
+            before_it, has_rules = old.material if old is not None else None, not new.has_code and not reasons
+            with _collecting_nothing():
+                reasons += self._judge.reasons(target, parts, has_rules, new.material, before_it)
         lines = dropped_rows.reasons_against(prepared.dropped, prepared.count, target.allowed)
         reasons += [f"{target.table}: {line}" for line in lines]
         before, after = len(old.table_or_empty.rows) if old else 0, len(prepared.table.rows)
