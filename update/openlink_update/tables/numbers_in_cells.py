@@ -17,7 +17,7 @@ _BEFORE = re.compile(r"(?:print|online|electronic) *:? *", re.A | re.I)
 _BETWEEN = re.compile(r" *(?:[;,/|&+]| und | and | et | y | or ) *| +(?=(?:[pel]-?)?IS[SB]N)|(?<=[)\]]) +", re.A | re.I)
 _OF_PRINT = re.compile(r"\bp(?:-?ISSN|rint)\b|paper|hard|cloth|\b[ph]bk\b|druck|imprim|impres", re.A | re.I)
 _OF_ONLINE = re.compile(r"\be-?ISSN\b|online|electr|elektr|e-?book|\bweb\b|digital|en l", re.A | re.I)
-_LEAST_OF_TWO = 16  # characters
+_LEAST_OF_TWO = 17  # characters
 _MOST_OF_TWO = 200
 _LEAST_DIGITS, _ISSN, _ISBN = 5, 8, 10
 
