@@ -9,14 +9,13 @@ import shutil
 from collections.abc import Callable, Sequence
 from pathlib import Path
 
+from openlink_update import COMMANDS
 from openlink_update.fetch import downloads, sources
 from openlink_update.fetch.downloads import Download
-from openlink_update.fetch.fetch_folder import STATE, FetchFolder
-from openlink_update.fetch.fetch_state import State
+from openlink_update.fetch.fetch_folder import STATE, FetchFolder, State
 from openlink_update.fetch.sources import Source
 from openlink_update.input_files import InputFolder
 from openlink_update.outcome import ALL_NEW, DEVICE, KEPT, USAGE, Failure, Interrupted, Unreadable, raise_signals
-from openlink_update.places import COMMANDS
 from openlink_update.rights import sandbox
 from openlink_update.rights.lent_files import Lent
 from openlink_update.rights.limits import Limits

@@ -18,7 +18,7 @@ from typing import Protocol
 
 from openlink_update.input_files import InputFolder
 from openlink_update.outcome import DEVICE, Failure, reset_signals
-from openlink_update.rights import library_user, network_filter
+from openlink_update.rights import library_user
 from openlink_update.rights.lent_files import MOST_MESSAGE, Lender, Lent, LentFolder
 from openlink_update.rights.library_user import LibraryUser
 from openlink_update.rights.limits import DiskLimit, Limits
@@ -301,6 +301,8 @@ def _be_child(user: LibraryUser, limits: Limits, job: Job, peer: socket.socket, 
         limits.apply()
         user.become(parent)
         if not job.has_network:
+            from openlink_update.rights import network_filter  # no fetch needs it
+
             network_filter.close()
         peer.send(_message_of(job.work, _Root(job, peer)))
     finally:

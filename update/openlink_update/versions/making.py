@@ -229,7 +229,11 @@ class Maker:
         return targets_in(self._older) if self._older else []
 
     def _files_before(self, name: str) -> _Files | None:
-        return files_in(self._received, name, self._options_before.get(name, target_options.NONE)) if self._received else None
+        return (
+            files_in(self._received, name, self._options_before.get(name, target_options.NONE))
+            if self._received
+            else None
+        )
 
     def _add(self, target: Target) -> None:
         """Adds a target with its new files, or its old ones, or leaves it out."""
