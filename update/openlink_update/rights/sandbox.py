@@ -288,6 +288,7 @@ def _ignore(_: "sys.UnraisableHookArgs") -> None:
 def _be_child(user: LibraryUser, limits: Limits, job: Job, peer: socket.socket, parent: int) -> None:
     """What the child does, until it ends."""
     try:
+        close_network = None if job.has_network else _closing_network()  # a user without rights may load no module
         reset_signals()
         sys.unraisablehook = _ignore  # out of memory, it would print parts of lines
         gc.freeze()  # or a file that its parent has left could be closed here, by a number that is another's then
@@ -300,13 +301,18 @@ def _be_child(user: LibraryUser, limits: Limits, job: Job, peer: socket.socket, 
             file.write("1000")  # if memory runs out, the kernel ends it before its parent
         limits.apply()
         user.become(parent)
-        if not job.has_network:
-            from openlink_update.rights import network_filter  # no fetch needs it
-
-            network_filter.close()
+        if close_network is not None:
+            close_network()
         peer.send(_message_of(job.work, _Root(job, peer)))
     finally:
         os._exit(0)
+
+
+def _closing_network() -> Callable[[], None]:
+    """What closes the network for this process. No fetch loads it."""
+    from openlink_update.rights import network_filter
+
+    return network_filter.close
 
 
 def _message_of(work: _Work, root: _Root) -> bytes:
