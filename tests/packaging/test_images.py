@@ -50,7 +50,8 @@ class Images(Case):
         self.expect("rights that are given", [it for it in words if it.startswith(("--cap-add", "--privileged"))], [])
         self.expect("no program gives more", _given(words, "--security-opt"), ["no-new-privileges"])
         self.expect("the root is for reading alone", "--read-only" in words)
-        self.expect("what is written", _given(words, "--tmpfs"), [f"{it}:mode=1777" for it in written])
+        self.expect("what is written", _given(words, "--tmpfs"), written)
+        self.expect("who may write there", re.findall(r"&& chmod 1777 (.*)", text), [" ".join(written)])
 
     @needs.python_module("yaml", "python3-yaml")
     def test_all_have_one_user_who_is_not_root(self) -> None:
