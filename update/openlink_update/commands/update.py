@@ -3,6 +3,7 @@ import os
 from pathlib import Path
 
 from openlink_update import allowed_folders, run_notes, update_options
+from openlink_update.desk import writing
 from openlink_update.fetch import fetching, sources
 from openlink_update.input_files import ALLOWED, InputFolder
 from openlink_update.library_sandbox import sandbox_of
@@ -97,6 +98,8 @@ def _update_one(options: Options) -> int:
         recorder.write(library, status)
     run_notes.hear(None)
     lock.close()
+    if not options.dry_run:
+        writing.write(library, site, user, options.program)
     return status
 
 
