@@ -9,7 +9,7 @@ import shutil
 from collections.abc import Callable, Sequence
 from pathlib import Path
 
-from openlink_update import COMMANDS
+from openlink_update import COMMANDS, run_notes
 from openlink_update.fetch import downloads, sources
 from openlink_update.fetch.downloads import Download
 from openlink_update.fetch.fetch_folder import STATE, FetchFolder, State
@@ -241,6 +241,9 @@ class _Fetch:
         for lines in groups:
             for file, line in sorted(lines, key=lambda pair: order.index(pair[0])):
                 self._report(line if file is None else f"{file}: {line}")
+                run_notes.note_fetch(file or "", line)
         failures = sum(file is not None for file, _ in self._faults)
         number = f"{amount(count, 'file')} asked for"
-        self._report(f"{number}, {len(self._changes)} new or changed, {failures} not fetched")
+        end = f"{number}, {len(self._changes)} new or changed, {failures} not fetched"
+        run_notes.note_fetch("", end)
+        self._report(end)

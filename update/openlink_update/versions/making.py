@@ -29,13 +29,14 @@ import shutil
 from collections.abc import Callable, Iterable, Iterator
 from pathlib import Path
 
-from openlink_update import target_options
+from openlink_update import run_notes, target_options
 from openlink_update.index import abbreviations, named_parts, title_index
 from openlink_update.index.title_groups import Title
 from openlink_update.input_files import InputFile
 from openlink_update.outcome import Failure, Refused
 from openlink_update.received import patterns
 from openlink_update.root_folder import RootFolder
+from openlink_update.run_notes import TargetState
 from openlink_update.shown_text import amount
 from openlink_update.tables import date_order, dropped_rows, row_changes
 from openlink_update.tables.preparation import Prepared
@@ -151,7 +152,9 @@ class Maker:
         """`received` opens the files that the older version has received, if this process may not."""
         self._received = received or (received_in(Path(older)) if older is not None else None)
         self._folder, self._older = Path(folder), None if older is None else Path(older)
-        self._program, self._today, self._report = program, today, report
+        self._program, self._today, self._print = program, today, report
+        self._said: list[str] = []  # of the target that is being made
+        self._moved = 0, 0  # of its rows: those that were added, and that are gone
         self.names: list[str] = []
         self.kept: list[str] = []
         self.left_out: list[str] = []
@@ -172,6 +175,7 @@ class Maker:
         for name in self._names_before():
             if name not in [target.name for target in targets]:
                 self._report(f"{name}: gone, since the list does not name it")
+                run_notes.note_target(TargetState(name, run_notes.GONE))
         if not self.names:
             raise Failure("no target is left")
         self._finish(has_list, self._pairs_before() if pairs is None else pairs)
@@ -235,8 +239,19 @@ class Maker:
             else None
         )
 
+    def _report(self, line: str) -> None:
+        self._said.append(line)
+        self._print(line)
+
     def _add(self, target: Target) -> None:
-        """Adds a target with its new files, or its old ones, or leaves it out."""
+        """Adds a target with its new files, or its old ones, or leaves it out, and notes what became of it."""
+        self._said, self._moved = [], (0, 0)
+        state, files = self._added(target)
+        rows = len(files.table_or_empty.rows) if files else 0
+        run_notes.note_target(TargetState(target.name, state, rows, *self._moved, tuple(self._said)))
+
+    def _added(self, target: Target) -> tuple[str, _Files | None]:
+        """The state of a target that is added, and the files that are used."""
         old, new = self._files_before(target.name), None
         try:
             new = _files_of(target)
@@ -256,11 +271,14 @@ class Maker:
             self._judge.keep(target, parts, not old.has_code, is_used=not reasons)
         else:
             self._discard(target.name)
-            return
+            return run_notes.LEFT_OUT, None
         is_changed = new is not None and not reasons and new != old
         lines = self._judge.undated.lines(target.name, is_changed)
         for line in [*self._judge.hosts.lines(target.name), *lines]:
             self._report(f"{target.name}: {line}")
+        if is_changed:
+            return run_notes.CHANGED if old else run_notes.NEW, new
+        return run_notes.KEPT if reasons else run_notes.SAME, old
 
     def _put_again(self, target: Target, old: _Files) -> None:
         """Puts the files of the version before, which were good then."""
@@ -342,7 +360,7 @@ class Maker:
         else:
             changes = [] if new.rules == old.rules else ["rules changed"]
             if new.tables != old.tables:
-                added, gone = row_changes.changes(old.table_or_empty, table)
+                added, gone = self._moved = row_changes.changes(old.table_or_empty, table)
                 changes.append(f"{amount(added, 'row')} added, {gone} gone")
             self._report(f"{name}: {', '.join(changes)}")
         lines = self._judge.write_changes(name) if old else []
