@@ -1,7 +1,6 @@
 """Holdings tables: as they come, prepared, and as they are served."""
 
 __all__ = [
-    "cells",
     "coverage",
     "date_order",
     "dropped_rows",

@@ -10,7 +10,7 @@ from openlink_update import shown_text
 from openlink_update.input_files import cells_in
 from openlink_update.tables.identifiers import form_of, standard
 from openlink_update.outcome import Refused
-from openlink_update.tables.cells import IDENTIFIERS
+from openlink_update.received.column_names import IDENTIFIERS
 from openlink_update.tables.parts import base_of
 from openlink_update.versions import host_judge
 from openlink_update.versions.host_judge import HostJudge
