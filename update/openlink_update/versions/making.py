@@ -12,6 +12,7 @@
     allowed.tsv            a target, words of its line that allow warnings, and the number up to which they do
     hosts.tsv              see host_judge.py
     undated.tsv            see undated_links.py
+    slips.tsv, slip_limits.tsv    see slip_judge.py
     options.tsv            a target, and its options: see target_options.py
     abbreviations.tsv      see abbreviations.py
     index/                 the index of titles, for the front door
@@ -38,11 +39,14 @@ from openlink_update.received import patterns
 from openlink_update.root_folder import RootFolder
 from openlink_update.run_notes import TargetState
 from openlink_update.shown_text import amount
-from openlink_update.tables import date_order, dropped_rows, row_changes
+from openlink_update.slips import odd_rows, slip_judge
+from openlink_update.slips.material import Material
+from openlink_update.tables import dropped_rows, row_changes
 from openlink_update.tables.preparation import Prepared
 from openlink_update.tables.table import Table
 from openlink_update.target_options import Options
 from openlink_update.versions import earlier_files, host_judge, shared_tables, undated_links
+from openlink_update.versions.allowed_words import FEWER
 from openlink_update.versions.earlier_files import EarlierFiles
 from openlink_update.versions.judging import Judge
 from openlink_update.versions.prepared_tables import PreparedTables
@@ -50,7 +54,6 @@ from openlink_update.versions.program import Program
 from openlink_update.versions.served import Tables, targets_in
 from openlink_update.versions.target_list import Target
 
-_FEWER = "less than half of the rows"
 _RECEIVED = "received"
 _PART = 2**20  # bytes that are compared at a time
 _OF_THE_OWNER = 0o600  # nginx needs no table as it came: what a library has received is its own
@@ -79,12 +82,27 @@ class _Files:
         return shared_tables.prepare(list(zip(self.paths, self.tables)), self.options)
 
     @functools.cached_property
+    def material(self) -> Material:
+        """What slips are looked for in; without rows if the table cannot be prepared."""
+        try:
+            it = self.prepared
+        except Refused:
+            it = Prepared(Table((), []), [], [], 0, [])
+        unended = next(filter(None, map(odd_rows.unended_line, self.tables)), "")
+        rules = None if self.has_code else self.rules
+        return Material(it.table, it.dropped, it.reversed, it.count, rules, self.options.proxy, unended)
+
+    @functools.cached_property
     def table_or_empty(self) -> Table:
         """The table, or nothing in place of one that cannot be prepared: a version may be older than preparation."""
         try:
             return self.prepared.table
         except Refused:
             return Table((), [])
+
+
+def _material_of(files: _Files) -> Material:
+    return files.material
 
 
 def _files_of(target: Target) -> _Files:
@@ -202,6 +220,9 @@ class Maker:
         self._write("allowed.tsv", self._judge.text(self.names).encode())
         self._write(host_judge.NAME, self._judge.hosts.text(self.names).encode())
         self._write(undated_links.NAME, self._judge.undated.text(self.names).encode())
+        self._write(slip_judge.NAME, self._judge.slips.text(self.names).encode())
+        self._write(slip_judge.LIMITS, self._judge.slips.limits_text(self.names).encode())
+        self._judge.finish()
         self._write(target_options.NAME, target_options.text_of(self._options, self.names).encode())
         self._write(abbreviations.NAME, pairs)
         self._write(earlier_files.NAME, self._earlier.text(self.names, self._today).encode())
@@ -262,19 +283,20 @@ class Maker:
             self._say_refusal(target.name, old, reasons)
         if new is not None and not reasons and new != old:
             self.names.append(target.name)
+            self._judge.accept(target.name, new.prepared.table)
             self._say_changes(target.name, old, new)
         elif old is not None:
             self.names.append(target.name)
             self._put_again(target, old)
             self._judge.undated.find(target.name, old.prepared.table, not old.has_code)
             parts = self._tables.parts_of(target.name)
-            self._judge.keep(target, parts, not old.has_code, is_used=not reasons)
+            self._judge.keep(target, parts, not old.has_code, not reasons, functools.partial(_material_of, old))
         else:
             self._discard(target.name)
             return run_notes.LEFT_OUT, None
         is_changed = new is not None and not reasons and new != old
         lines = self._judge.undated.lines(target.name, is_changed)
-        for line in [*self._judge.hosts.lines(target.name), *lines]:
+        for line in [*self._judge.hosts.lines(target.name), *self._judge.slips.lines(target.name), *lines]:
             self._report(f"{target.name}: {line}")
         if is_changed:
             return run_notes.CHANGED if old else run_notes.NEW, new
@@ -342,15 +364,15 @@ class Maker:
         if self._tables.parts_of(target.name):
             parts = dict(self._tables.divided(target.name, prepared.table))
             self._judge.undated.find(target.name, prepared.table, not new.has_code and not reasons)
-            reasons += self._judge.reasons(target, parts, not new.has_code and not reasons, old is not None)
-        lines = (
-            *dropped_rows.reasons_against(prepared.dropped, prepared.count, target.allowed),
-            *date_order.reasons_against(prepared.reversed, prepared.count, target.allowed),
-        )
+            before_it = old.material if old is not None else None
+            reasons += self._judge.reasons(target, parts, not new.has_code and not reasons, new.material, before_it)
+        lines = dropped_rows.reasons_against(prepared.dropped, prepared.count, target.allowed)
         reasons += [f"{target.table}: {line}" for line in lines]
         before, after = len(old.table_or_empty.rows) if old else 0, len(prepared.table.rows)
-        if after * 2 < before and _FEWER not in target.allowed:
-            reasons.append(f"{target.table}: {_FEWER}: {after}, and {before} before; to allow it: {_FEWER}")
+        if after < target.options.least:
+            reasons.append(f"{target.table}: {amount(after, 'row')}, and at least {target.options.least} must be there")
+        if after * 2 < before and FEWER not in target.allowed:
+            reasons.append(f"{target.table}: {FEWER}: {after}, and {before} before; to allow it: {FEWER}")
         return reasons
 
     def _say_changes(self, name: str, old: _Files | None, new: _Files) -> None:
@@ -388,7 +410,7 @@ def is_same(one: str | Path, other: str | Path, received: RootFolder | None = No
         for version in versions
     ]
     lists = ["registry.tsv", "allowed.tsv", host_judge.NAME, undated_links.NAME, abbreviations.NAME]
-    lists.append(target_options.NAME)
+    lists += [target_options.NAME, slip_judge.NAME, slip_judge.LIMITS]
     files = [*lists, "index/format", *names[0]]
     opened = received or received_in(versions[1])
     return names[0] == names[1] and all(
