@@ -4,7 +4,7 @@ import datetime
 import functools
 from collections.abc import Callable, Iterable, Mapping
 
-from openlink_update.tables.cells import IDENTIFIERS
+from openlink_update.received.column_names import IDENTIFIERS
 from openlink_update.tables.identifiers import form_of, is_issn
 from openlink_update.tables.table import Table
 

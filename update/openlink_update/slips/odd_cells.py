@@ -4,7 +4,8 @@ from collections import Counter
 from collections.abc import Callable
 
 from openlink_update.slips.material import FEW, TITLE, Found, Material, Pair
-from openlink_update.tables.cells import ANY, IDENTIFIERS
+from openlink_update.received.column_names import IDENTIFIERS
+from openlink_update.tables.cells import ANY
 from openlink_update.tables.check_digits import is_wrong
 from openlink_update.tables.coverage import day_in
 

@@ -2,7 +2,8 @@
 from collections.abc import Callable, Iterable, Mapping
 
 from openlink_update.slips.material import TITLE
-from openlink_update.tables.cells import ANY, IDENTIFIERS
+from openlink_update.received.column_names import IDENTIFIERS
+from openlink_update.tables.cells import ANY
 from openlink_update.tables.table import Table, cell
 
 _MOST_NUMBERS = 1_000_000  # that are kept in memory

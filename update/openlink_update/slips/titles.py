@@ -5,7 +5,7 @@ from collections.abc import Iterator
 from functools import lru_cache
 
 from openlink_update.slips.material import FEW, TITLE, Found, Material, Pair
-from openlink_update.tables.cells import IDENTIFIERS
+from openlink_update.received.column_names import IDENTIFIERS
 
 # How the second byte of a letter in UTF-8 reads in windows-1252 and ISO 8859-1.
 _SECOND = "\x80-\xbf€‚ƒ„…†‡ˆ‰Š‹ŒŽ‘’“”•–—˜™š›œžŸ"

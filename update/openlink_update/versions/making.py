@@ -87,7 +87,7 @@ class _Files:
         try:
             it = self.prepared
         except Refused:
-            it = Prepared(Table((), []), [], [], 0, [])
+            it = Prepared(Table((), []), [], [], 0, [], [])
         unended = next(filter(None, map(odd_rows.unended_line, self.tables)), "")
         rules = None if self.has_code else self.rules
         return Material(it.table, it.dropped, it.reversed, it.count, rules, self.options.proxy, unended)
