@@ -4,14 +4,14 @@ import datetime
 from collections.abc import Sequence
 
 from openlink_update import run_notes
-from openlink_update.desk.targets import Target
+from openlink_update.desk.targets import Slip, Target
 from openlink_update.desk.words_in import Language
 from openlink_update.run_notes import ProbeResult, TargetState
 from openlink_update.run_records import RunRecord
 from openlink_update.versions.library import STAMP
 
 _UPDATE = "update"
-_MOST_FIRST, _MOST_LINES, _MOST_PROBES, _MOST_FETCHES, _MOST_RUNS = 40, 8, 200, 300, 12
+_MOST_FIRST, _MOST_LINES, _MOST_PROBES, _MOST_FETCHES, _MOST_RUNS, _MOST_SLIPS = 40, 8, 200, 300, 12, 20
 _MOST_DAYS = 9  # without an update that ended well
 _STATES = {
     run_notes.NEW: "stateNew",
@@ -50,6 +50,14 @@ class Row:
     @property
     def rows(self) -> int:
         return self.target.rows if self.target else self.said.rows if self.said else 0
+
+    @property
+    def files(self) -> tuple[str, ...]:
+        return self.target.files if self.target else ()
+
+    @property
+    def slips(self) -> tuple[Slip, ...]:
+        return self.target.slips[:_MOST_SLIPS] if self.target else ()
 
     @property
     def needs_her(self) -> bool:
