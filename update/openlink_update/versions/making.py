@@ -3,6 +3,7 @@
     registry.tsv           a line for each target
     received/NAME.rules    the rule file (NAME.olk: the code file) and the files of the table as they came
     received/NAME.txt      (the second one NAME.txt.2)
+    received/NAME.txt.filtered    what a filter gave for it, if the target has one
     code/NAME.olk          the compiled rules
     tables/NAME.txt        the table as preparation makes it, with its moving walls and coverage to the day; NAME.2.txt,
                            .. are further parts
@@ -34,8 +35,10 @@ from openlink_update import run_notes, target_options
 from openlink_update.index import abbreviations, named_parts, title_index
 from openlink_update.index.title_groups import Title
 from openlink_update.input_files import InputFile
-from openlink_update.outcome import Failure, Refused
+from openlink_update.outcome import Failure, Refused, Unreadable
 from openlink_update.received import patterns
+from openlink_update.rights.filters import Filter
+from openlink_update.rights.sandbox import no_filter
 from openlink_update.root_folder import RootFolder
 from openlink_update.run_notes import TargetState
 from openlink_update.shown_text import amount
@@ -54,7 +57,7 @@ from openlink_update.versions.program import Program
 from openlink_update.versions.served import Tables, targets_in
 from openlink_update.versions.target_list import Target
 
-_RECEIVED = "received"
+_RECEIVED, _FILTERED = "received", ".filtered"
 _PART = 2**20  # bytes that are compared at a time
 _OF_THE_OWNER = 0o600  # nginx needs no table as it came: what a library has received is its own
 
@@ -68,6 +71,7 @@ class _Files:
     has_code: bool
     paths: tuple[str, ...] = dataclasses.field(compare=False)  # of the tables
     options: Options = target_options.NONE
+    given: tuple[bytes, ...] = ()  # what a filter made of the tables, if the target has one
     # All of these, as they were read.
     sources: tuple[InputFile, ...] = dataclasses.field(compare=False, default=())
 
@@ -76,10 +80,20 @@ class _Files:
         paths = [source.path for source in self.sources if source.is_changed()]
         return [f"{path}: it changed while it was read: update again when it is written" for path in paths]
 
+    def filter_lines(self) -> list[str]:
+        """What is said of the filter."""
+        pairs = zip(self.tables, self.given)
+        return [f"filter {self.options.filter}: {len(came):,} bytes became {len(made):,}" for came, made in pairs]
+
     @functools.cached_property
     def prepared(self) -> Prepared:
         """Refused if one of the files cannot be read as a table."""
-        return shared_tables.prepare(list(zip(self.paths, self.tables)), self.options)
+        return shared_tables.prepare(list(zip(self.paths, self.read)), self.options)
+
+    @property
+    def read(self) -> tuple[bytes, ...]:
+        """The bytes of the tables that are prepared."""
+        return self.given or self.tables
 
     @functools.cached_property
     def material(self) -> Material:
@@ -88,7 +102,7 @@ class _Files:
             it = self.prepared
         except Refused:
             it = Prepared(Table((), []), [], [], 0, [], [])
-        unended = next(filter(None, map(odd_rows.unended_line, self.tables)), "")
+        unended = next(filter(None, map(odd_rows.unended_line, self.read)), "")
         rules = None if self.has_code else self.rules
         return Material(it.table, it.dropped, it.reversed, it.count, rules, self.options.proxy, unended)
 
@@ -105,8 +119,8 @@ def _material_of(files: _Files) -> Material:
     return files.material
 
 
-def _files_of(target: Target) -> _Files:
-    """The files that the list names for a target. Refused if one of them cannot be read."""
+def _files_of(target: Target, filtered: Filter) -> _Files:
+    """The files that the list names for a target. Refused if one of them cannot be read, or if its filter fails."""
     reasons, sources = [*target.reasons], []
     for number, path in enumerate((target.rules, *target.tables)):
         try:
@@ -119,7 +133,21 @@ def _files_of(target: Target) -> _Files:
         raise Refused(reasons)
     rules, *data = [it.data for it in sources]
     paths = tuple(str(it.path) for it in sources[1:])
-    return _Files(rules, tuple(data), target.has_code(), paths, target.options, tuple(sources))
+    given = _given(target.options.filter, list(zip(paths, data)), filtered)
+    return _Files(rules, tuple(data), target.has_code(), paths, target.options, given, tuple(sources))
+
+
+def _given(name: str, files: list[tuple[str, bytes]], filtered: Filter) -> tuple[bytes, ...]:
+    """What the filter with a name gives for files; nothing without a name. Refused if it fails for one."""
+    given, reasons = list[bytes](), list[str]()
+    for path, data in files if name else ():
+        try:
+            given.append(filtered(name, data))
+        except Unreadable as fault:
+            reasons.append(f"{path}: filter {name}: {fault}")
+    if reasons:
+        raise Refused(reasons)
+    return tuple(given)
 
 
 def _received_names(version: Path, name: str) -> list[str]:
@@ -146,7 +174,11 @@ def files_in(received: RootFolder, name: str, options: Options = target_options.
         if f"{name}{suffix}" in names and tables:
             rules, *data = [_content(received, file) for file in (f"{name}{suffix}", *tables)]
             paths = tuple(str(received.place((file,))) for file in tables)
-            return _Files(rules, tuple(data), has_code, paths, options)
+            made = [f"{file}{_FILTERED}" for file in tables] if options.filter else []
+            if not set(made) <= set(names):
+                return None
+            given = tuple(_content(received, file) for file in made)
+            return _Files(rules, tuple(data), has_code, paths, options, given)
     return None
 
 
@@ -166,8 +198,11 @@ class Maker:
         today: datetime.date,
         report: Callable[[str], object],
         received: RootFolder | None = None,
+        filtered: Filter = no_filter,
     ) -> None:
-        """`received` opens the files that the older version has received, if this process may not."""
+        """`received` opens the files that the older version has received, if this process may not; `filtered` runs a
+        filter."""
+        self._filtered = filtered
         self._received = received or (received_in(Path(older)) if older is not None else None)
         self._folder, self._older = Path(folder), None if older is None else Path(older)
         self._program, self._today, self._print = program, today, report
@@ -275,7 +310,7 @@ class Maker:
         """The state of a target that is added, and the files that are used."""
         old, new = self._files_before(target.name), None
         try:
-            new = _files_of(target)
+            new = _files_of(target, self._filtered)
             reasons = [] if new == old else self._reasons_against(target, old, new) + new.changed()
         except Refused as refusal:
             reasons = refusal.reasons
@@ -313,6 +348,11 @@ class Maker:
     def _write(self, name: str, data: bytes) -> None:
         (self._folder / name).write_bytes(data)
 
+    def _write_closed(self, name: str, data: bytes) -> None:
+        path = self._folder / name
+        path.touch(_OF_THE_OWNER)
+        path.write_bytes(data)
+
     def _put(self, target: Target, files: _Files) -> list[str]:
         """Writes the files of a target and compiles its rules. Returns why the program rejects them."""
         name = target.name
@@ -321,9 +361,10 @@ class Maker:
         self._discard(name)
         self._write(rules, files.rules)
         for number, data in enumerate(files.tables, 1):
-            path = self._folder / f"received/{name}.txt{f'.{number}' if number > 1 else ''}"
-            path.touch(_OF_THE_OWNER)
-            path.write_bytes(data)
+            path = f"received/{name}.txt{f'.{number}' if number > 1 else ''}"
+            self._write_closed(path, data)
+            if files.given:
+                self._write_closed(f"{path}{_FILTERED}", files.given[number - 1])
         try:
             prepared = files.prepared
         except Refused as refusal:
@@ -345,6 +386,7 @@ class Maker:
             (self._folder / place).unlink(missing_ok=True)
         for place in received:
             (self._folder / place).unlink()
+            (self._folder / f"{place}{_FILTERED}").unlink(missing_ok=True)
 
     def _rejected(self, path: str, *words: str) -> list[str]:
         """Why a command rejects a file that came from a path, as a list of at most one reason."""
@@ -381,12 +423,12 @@ class Maker:
             self._report(f"{name}: new, {amount(len(table.rows), 'row')}")
         else:
             changes = [] if new.rules == old.rules else ["rules changed"]
-            if new.tables != old.tables:
+            if new.read != old.read:
                 added, gone = self._moved = row_changes.changes(old.table_or_empty, table)
                 changes.append(f"{amount(added, 'row')} added, {gone} gone")
             self._report(f"{name}: {', '.join(changes)}")
         lines = self._judge.write_changes(name) if old else []
-        prepared = new.prepared.lines if old is None or new.tables != old.tables else []
+        prepared = new.filter_lines() + new.prepared.lines if old is None or new.read != old.read else []
         day = self._earlier.day_of(name)
         if old and day and table != old.table_or_empty:
             self._report(f"  the table of {day} again")
