@@ -98,13 +98,13 @@ class _Files:
     @functools.cached_property
     def material(self) -> Material:
         """What slips are looked for in; without rows if the table cannot be prepared."""
+        rules, proxy = None if self.has_code else self.rules, self.options.proxy
+        unended = next(filter(None, map(odd_rows.unended_line, self.tables)), "")
         try:
             it = self.prepared
         except Refused:
-            it = Prepared(Table((), []), [], [], 0, [], [])
-        unended = next(filter(None, map(odd_rows.unended_line, self.read)), "")
-        rules = None if self.has_code else self.rules
-        return Material(it.table, it.dropped, it.reversed, it.count, rules, self.options.proxy, unended)
+            return Material(Table((), []), [], [], 0, rules, proxy, unended)
+        return Material(it.table, it.dropped, it.reversed, it.count, rules, proxy, unended)
 
     @functools.cached_property
     def table_or_empty(self) -> Table:
