@@ -17,7 +17,6 @@ from openlink_update.places import PROVIDERS
 from openlink_update.rules import heads
 from openlink_update.rules import pages
 from openlink_update.tables import coverage
-from openlink_update.tables.identifiers import form_of
 from openlink_update.tables.table import Table
 
 DAY = datetime.date(2026, 11, 27)
@@ -55,7 +54,15 @@ def faults_of(text: str) -> list[str]:
     is_tried = re.fullmatch(r"never|\d{4}-\d\d-\d\d", found.get("tried", ""))
     faults += [] if is_tried else [f"tried {found.get('tried')}"]
     faults += [] if UNSUPPORTED in head else ["unsupported"]
-    return faults + [f"probe: {number}" for number in numbers_in(found.get("probe", "")) if not form_of(number)]
+    return faults + [f"probe: {number}" for number in numbers_in(found.get("probe", "")) if not is_right(number)]
+
+
+def is_right(number: str) -> bool:
+    """Whether the check digit of an ISSN or ISBN is right."""
+    digits = [10 if it == "X" else int(it) for it in number.replace("-", "")]
+    if len(digits) == 8:
+        return sum(it * weight for it, weight in zip(digits, range(8, 0, -1))) % 11 == 0
+    return len(digits) == 13 and sum(it * (1 + 2 * (at % 2)) for at, it in enumerate(digits)) % 10 == 0
 
 
 def numbers_in(query: str) -> list[str]:

@@ -3,6 +3,7 @@
     registry.tsv           a line for each target
     received/NAME.rules    the rule file (NAME.olk: the code file) and the files of the table as they came
     received/NAME.txt      (the second one NAME.txt.2)
+    rules/NAME.rules       the rules behind a proxy, if the target has one: see proxies.py
     code/NAME.olk          the compiled rules
     tables/NAME.txt        the table as preparation makes it, with its moving walls and coverage to the day; NAME.2.txt,
                            .. are further parts
@@ -30,18 +31,19 @@ from collections.abc import Callable, Iterable, Iterator
 from pathlib import Path
 
 from openlink_update import target_options
-from openlink_update.index import abbreviations, named_parts, title_index
+from openlink_update.index import abbreviations, named_parts, target_heads, title_index
 from openlink_update.index.title_groups import Title
 from openlink_update.input_files import InputFile
 from openlink_update.outcome import Failure, Refused
 from openlink_update.received import patterns
 from openlink_update.root_folder import RootFolder
+from openlink_update.rules import pages, proxies, shipped
 from openlink_update.shown_text import amount
 from openlink_update.tables import date_order, dropped_rows, row_changes
 from openlink_update.tables.preparation import Prepared
 from openlink_update.tables.table import Table
 from openlink_update.target_options import Options
-from openlink_update.versions import earlier_files, host_judge, shared_tables, undated_links
+from openlink_update.versions import earlier_files, host_judge, served, shared_tables, undated_links
 from openlink_update.versions.earlier_files import EarlierFiles
 from openlink_update.versions.judging import Judge
 from openlink_update.versions.prepared_tables import PreparedTables
@@ -88,11 +90,14 @@ class _Files:
 
 def _files_of(target: Target) -> _Files:
     """The files that the list names for a target. Refused if one of them cannot be read."""
-    reasons, sources = [*target.reasons], []
+    if target.reasons:
+        raise Refused([*target.reasons])
+    reasons, sources = [], []
     for number, path in enumerate((target.rules, *target.tables)):
         try:
             found = patterns.path_of(path, target.input.matches) if number else path
-            sources.append(target.input.file(found))
+            is_shipped = number == 0 and target.is_shipped
+            sources.append(shipped.file(path) if is_shipped else target.input.file(found))
         except OSError as fault:
             is_pattern = "*" in path and isinstance(fault, FileNotFoundError)
             reasons.append(f"{fault.filename or path}: {'no file has such a name' if is_pattern else fault.strerror}")
@@ -203,11 +208,12 @@ class Maker:
         self._write(earlier_files.NAME, self._earlier.text(self.names, self._today).encode())
         index = self._folder / "index"
         title_index.begin(index, has_list)
+        target_heads.write(index, ((name, self._rules(name)) for name in self.names))
         named_parts.write(index, ((name, (self._folder / f"code/{name}.olk").read_bytes()) for name in self.names))
 
     def make_index(self, has_list: bool) -> None:
         """Makes the index, which takes longest."""
-        offers = {name: self._judge.hosts.offer(name) for name in self.names}
+        offers = {name: self._judge.hosts.offer(name, self._options[name].proxy) for name in self.names}
         pairs = abbreviations.pairs_of(self._folder)
         self.titles = title_index.make(self._folder / "index", has_list, self.prepared_parts(), offers, pairs)
         for line in abbreviations.unknown(self._folder, self.titles):
@@ -229,7 +235,11 @@ class Maker:
         return targets_in(self._older) if self._older else []
 
     def _files_before(self, name: str) -> _Files | None:
-        return files_in(self._received, name, self._options_before.get(name, target_options.NONE)) if self._received else None
+        return (
+            files_in(self._received, name, self._options_before.get(name, target_options.NONE))
+            if self._received
+            else None
+        )
 
     def _add(self, target: Target) -> None:
         """Adds a target with its new files, or its old ones, or leaves it out."""
@@ -269,6 +279,11 @@ class Maker:
     def _write(self, name: str, data: bytes) -> None:
         (self._folder / name).write_bytes(data)
 
+    def _rules(self, name: str) -> bytes:
+        """The rule file of a target as it came; nothing if it is a code file."""
+        path = self._folder / f"received/{name}.rules"
+        return path.read_bytes() if path.exists() else b""
+
     def _put(self, target: Target, files: _Files) -> list[str]:
         """Writes the files of a target and compiles its rules. Returns why the program rejects them."""
         name = target.name
@@ -284,23 +299,42 @@ class Maker:
             prepared = files.prepared
         except Refused as refusal:
             return refusal.reasons
-        reasons = self._tables.put(target, prepared.table)
+        reasons = self._tables.put(target, prepared.table, pages.are_named(files.rules))
         self._earlier.put(name, self._prepared.put(name, prepared.table))
         if prepared.dropped:
             self._write(f"dropped/{name}.txt", prepared.dropped_table())
-        if files.has_code:
-            self._write(f"code/{name}.olk", files.rules)
-            return reasons + self._rejected(target.rules, "verify", f"code/{name}.olk")
-        return reasons + self._rejected(target.rules, "compile", rules, f"code/{name}.olk")
+        return reasons + (self._verified(target, files) if files.has_code else self._compiled(target, files))
+
+    def _verified(self, target: Target, files: _Files) -> list[str]:
+        """Why a code file cannot be used."""
+        code = f"code/{target.name}.olk"
+        self._write(code, files.rules)
+        faults = [f"{target.rules}: proxy: only rules can have one, and this is a code file"]
+        return self._rejected(target.rules, "verify", code) + (faults if files.options.proxy else [])
+
+    def _compiled(self, target: Target, files: _Files) -> list[str]:
+        """Compiles the rules of a target, with its proxy if it has one. Returns why they cannot be used."""
+        received, code = f"received/{target.name}.rules", f"code/{target.name}.olk"
+        reasons = self._rejected(target.rules, "compile", received, code)
+        if reasons:
+            return reasons
+        try:
+            rules = proxies.with_proxy(files.rules, files.options.proxy, files.prepared.table)
+        except Refused as refusal:
+            return [f"{target.rules}: {reason}" for reason in refusal.reasons]
+        if rules == files.rules:
+            return []
+        (self._folder / served.RULES).mkdir(exist_ok=True)
+        self._write(served.rules_behind(target.name), rules)
+        return self._rejected(target.rules, "compile", served.rules_behind(target.name), code)
 
     def _discard(self, name: str) -> None:
         """Removes what a target has in this version."""
         self._tables.discard(name)
-        received = (f"received/{file}" for file in _received_names(self._folder, name))
-        for place in (f"received/{name}.rules", f"received/{name}.olk", f"code/{name}.olk", f"dropped/{name}.txt"):
+        received = [f"received/{file}" for file in _received_names(self._folder, name)]
+        rules = [f"received/{name}.rules", f"received/{name}.olk", served.rules_behind(name), f"code/{name}.olk"]
+        for place in (*rules, f"dropped/{name}.txt", *received):
             (self._folder / place).unlink(missing_ok=True)
-        for place in received:
-            (self._folder / place).unlink()
 
     def _rejected(self, path: str, *words: str) -> list[str]:
         """Why a command rejects a file that came from a path, as a list of at most one reason."""
@@ -337,6 +371,7 @@ class Maker:
             self._report(f"{name}: new, {amount(len(table.rows), 'row')}")
         else:
             changes = [] if new.rules == old.rules else ["rules changed"]
+            changes += [] if new.options.proxy == old.options.proxy else ["proxy changed"]
             if new.tables != old.tables:
                 added, gone = row_changes.changes(old.table_or_empty, table)
                 changes.append(f"{amount(added, 'row')} added, {gone} gone")

@@ -1,0 +1,3 @@
+"""What the pages of the desk show."""
+
+__all__ = ["collection"]
