@@ -14,9 +14,11 @@ from pathlib import Path
 from openlink_update import shown_text
 from openlink_update.index.title_addresses import NO_OFFER, Offer, Proxy
 from openlink_update.input_files import cells_in
+from openlink_update.rules import proxies
 from openlink_update.tables import link_hosts
 from openlink_update.tables.link_hosts import Links, Templates
 from openlink_update.tables.table import Table
+from openlink_update.versions import served
 from openlink_update.versions.undated_links import UndatedLinks
 
 NAME = "hosts.tsv"
@@ -157,14 +159,17 @@ class HostJudge:
             for host, day in sorted(self._now.get(target, {}).items())
         )
 
-    def offer(self, name: str) -> Offer:
-        """Which addresses of titles' pages readers get: those on hosts that are allowed."""
+    def offer(self, name: str, prefix: str = "") -> Offer:
+        """Which addresses of titles' pages readers get: those on hosts that are allowed, behind the proxy with this
+        prefix, if the rules are behind it."""
         kinds = self._undated.kinds(name)
         if not kinds:
             return NO_OFFER
         texts = sorted(link_hosts.texts_before_addresses(self._rules(name)))
         is_known = not texts or len(texts) == 1 and texts[0][0].lower().startswith("https:")
         proxy = Proxy(*texts[0]) if texts else Proxy()
+        if (self._folder / served.rules_behind(name)).exists():
+            is_known, proxy = not texts, Proxy(prefix, proxies.is_encoding(prefix))
         return Offer(kinds, frozenset(self._now.get(name, {})) - {""}, proxy if is_known else None)
 
     def _rules(self, name: str) -> bytes:

@@ -19,7 +19,7 @@ from openlink_update.tables.embargo import Embargo
 from openlink_update.tables.row_dates import NONE, date_in
 from openlink_update.tables.table import Table, cell
 from openlink_update.versions.program import Program
-from openlink_update.versions.served import names_in, path_of, tables_in
+from openlink_update.versions.served import names_in, path_of, rules_of, tables_in
 from openlink_update.versions.target_list import Target
 
 from openlink_update.slips.material import Material
@@ -263,7 +263,8 @@ class Judge:
         if has_rules and not reasons:
             known = [line for _, line in found]
             for part in parts:
-                lines = self._lines(target.rules, reasons, "lint", f"received/{target.name}.rules", path_of(part))
+                rules = rules_of(self._folder, target.name)
+                lines = self._lines(target.rules, reasons, "lint", rules, path_of(part))
                 found += [it for it in lines if it not in found and it[1] not in known]
         return found, reasons
 
