@@ -197,3 +197,4 @@ _READERS: dict[str, Callable[[Options, str], Options]] = {
     "filter": _filter,
     "least": _least,
 }
+NAMES = tuple(_READERS)

@@ -1,6 +1,8 @@
 """Holdings tables: as they come, prepared, and as they are served."""
 
 __all__ = [
+    "cells",
+    "check_digits",
     "coverage",
     "date_order",
     "dropped_rows",
