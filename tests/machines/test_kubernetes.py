@@ -17,8 +17,8 @@ from fixtures import yaml_files
 from machines import objects
 
 FOLDER, SITE = "packaging/kubernetes", "front_door/http.conf"
-CONTAINERFILE, START = "packaging/container/Containerfile", "packaging/container/start"
-UNITS = {"": 1, "k": 10 ** 3, "M": 10 ** 6, "G": 10 ** 9, "Ki": 2 ** 10, "Mi": 2 ** 20, "Gi": 2 ** 30}
+START = "packaging/container/start"
+UNITS = {"": 1, "k": 10**3, "M": 10**6, "G": 10**9, "Ki": 2**10, "Mi": 2**20, "Gi": 2**30}
 WRITTEN = {"/run", "/var/lib/nginx"}  # by the script `start` and by nginx
 TIMES, WORKER_MB = 5, 60  # of the tables' bytes, for a process; the most that a worker of nginx had
 
@@ -55,8 +55,10 @@ def selectors(it):
     if it["kind"] != "Deployment":
         return []
     spread = [place["labelSelector"] for place in spec["template"]["spec"].get("topologySpreadConstraints", ())]
-    return [spec["template"]["metadata"]["labels"],
-            *(place["matchLabels"] for place in (spec.get("selector"), *spread) if place)]
+    return [
+        spec["template"]["metadata"]["labels"],
+        *(place["matchLabels"] for place in (spec.get("selector"), *spread) if place),
+    ]
 
 
 def built(folder):
@@ -108,8 +110,9 @@ class Set:
 
     def pods_of(self, labels):
         """The Deployments whose pods have these labels."""
-        return [it for it in self.of("Deployment")
-                if labels.items() <= it["spec"]["template"]["metadata"]["labels"].items()]
+        return [
+            it for it in self.of("Deployment") if labels.items() <= it["spec"]["template"]["metadata"]["labels"].items()
+        ]
 
     def faults_of_deployment(self, it):
         spec, pod = it["spec"], it["spec"]["template"]["spec"]
@@ -138,8 +141,11 @@ class Set:
 
     def faults_of_mounts(self, container, pod):
         names = [volume["name"] for volume in pod.get("volumes", ())]
-        lines = [f"{container['name']} mounts {it['name']}, which is no volume"
-                 for it in container.get("volumeMounts", ()) if it["name"] not in names]
+        lines = [
+            f"{container['name']} mounts {it['name']}, which is no volume"
+            for it in container.get("volumeMounts", ())
+            if it["name"] not in names
+        ]
         for volume in pod.get("volumes", ()):
             name = volume.get("configMap", {}).get("name")
             if name and not self.named("ConfigMap", name):
@@ -151,8 +157,11 @@ class Set:
         if len(pods) != 1:
             return [f"the Service {it['metadata']['name']} selects the pods of {len(pods)} Deployments"]
         names = [port["name"] for port in pods[0]["spec"]["template"]["spec"]["containers"][0].get("ports", ())]
-        return [f"no port of the container is named {port['targetPort']}" for port in it["spec"]["ports"]
-                if port["targetPort"] not in names]
+        return [
+            f"no port of the container is named {port['targetPort']}"
+            for port in it["spec"]["ports"]
+            if port["targetPort"] not in names
+        ]
 
     def faults_of_ingress(self, it):
         lines = []
@@ -164,8 +173,9 @@ class Set:
                 if wanted["port"].get("name") not in names:
                     lines.append(f"the Ingress leads to no port of a Service: {wanted}")
         hosts = [host for tls in it["spec"].get("tls", ()) for host in tls.get("hosts", ())]
-        return lines + [f"no certificate for {rule['host']}" for rule in it["spec"]["rules"]
-                        if rule["host"] not in hosts]
+        return lines + [
+            f"no certificate for {rule['host']}" for rule in it["spec"]["rules"] if rule["host"] not in hosts
+        ]
 
     def faults_of_budget(self, it):
         pods = self.pods_of(it["spec"]["selector"]["matchLabels"])
@@ -174,15 +184,15 @@ class Set:
         least, number = it["spec"].get("minAvailable", 0), pods[0]["spec"].get("replicas", 1)
         return [] if 0 < least < number else [f"of {number} pods {least} must be there"]
 
-
     def faults_of_policy(self, it):
         """It is for all pods of the library, and opens the port of readers alone."""
         spec = it["spec"]
         pods = self.pods_of(spec["podSelector"]["matchLabels"])
         if len(pods) != 1:
             return [f"the network policy is for the pods of {len(pods)} Deployments"]
-        lines = [f"the network policy does not bound {it}" for it in ("Ingress", "Egress")
-                 if it not in spec["policyTypes"]]
+        lines = [
+            f"the network policy does not bound {it}" for it in ("Ingress", "Egress") if it not in spec["policyTypes"]
+        ]
         names = [port["name"] for port in pods[0]["spec"]["template"]["spec"]["containers"][0].get("ports", ())]
         opened = [port["port"] for rule in spec["ingress"] for port in rule["ports"]]
         return lines + ([] if opened == names else [f"the network policy opens {opened}, and readers come to {names}"])
@@ -206,8 +216,8 @@ def is_json(text):
 def faults_of_container(it, site):
     """Its ports, its health page, and its memory."""
     ports = [port["containerPort"] for port in it.get("ports", ())]
-    exposed = [int(port) for port in re.findall(r"^EXPOSE (\d+)", text_of(CONTAINERFILE), re.M)]
-    lines = [] if ports == site.listens == exposed else [f"ports {ports}, the site {site.listens}, the image {exposed}"]
+    lines = [] if ports == site.listens else [f"ports {ports}, the site {site.listens}"]
+    lines += [f"port {port} needs a right of root" for port in ports if port < 1024]
     page = re.search(r"^\s*listen (127\.0\.0\.1:\d+);", text_of(SITE), re.M)[1]
     for name in ("startupProbe", "readinessProbe", "livenessProbe"):
         probe = it.get(name, {"exec": {"command": [""]}})
@@ -252,13 +262,16 @@ def faults_of_version(pod):
 def faults_of_rights(pod):
     """What the pod may do and need not; and what it writes beside its root, which is for reading alone."""
     lines = [] if pod.get("automountServiceAccountToken") is False else ["the pod has a token of the cluster"]
-    if pod.get("securityContext", {}).get("seccompProfile") != {"type": "RuntimeDefault"}:
+    of_pod = pod.get("securityContext", {})
+    if of_pod.get("seccompProfile") != {"type": "RuntimeDefault"}:
         lines.append("the pod may make all system calls")
+    if of_pod.get("runAsNonRoot") is not True or not of_pod.get("runAsUser") or not of_pod.get("runAsGroup"):
+        lines.append("the pod may run as root")
     for it in (*pod["initContainers"], *pod["containers"]):
         rights = it.get("securityContext", {})
         if not rights.get("readOnlyRootFilesystem") or rights.get("allowPrivilegeEscalation") is not False:
             lines.append(f"{it['name']} may write its root, or gain rights")
-        if rights.get("capabilities", {}).get("drop") != ["ALL"]:
+        if rights.get("capabilities") != {"drop": ["ALL"]} or rights.get("runAsNonRoot") is False:
             lines.append(f"{it['name']} keeps rights of root")
     written = {it["mountPath"] for it in pod["containers"][0]["volumeMounts"] if not it.get("readOnly")}
     return lines + ([] if written == WRITTEN else [f"the container writes to {sorted(written)}"])
@@ -279,7 +292,8 @@ def edited(old, new, name="base/deployment.yaml"):
 # Mistakes, each with a part of the line that names it.
 MISTAKES = [
     (("name: openlink-site\n", "name: openlink-sites\n"), "there is no ConfigMap openlink-sites"),
-    (("containerPort: 80\n", "containerPort: 8080\n"), "ports [8080], the site [80]"),
+    (("containerPort: 8080\n", "containerPort: 80\n"), "ports [80], the site [8080]"),
+    (("containerPort: 8080\n", "containerPort: 80\n"), "port 80 needs a right of root"),
     (("- http://127.0.0.1:8079/health", "- http://127.0.0.1:8078/health"), "startupProbe does not ask"),
     (("readinessProbe:", "readynessProbe:"), "readynessProbe is unknown"),
     (("              readOnly: true\n", ""), "the version is not mounted for reading alone"),
@@ -296,21 +310,41 @@ MISTAKES = [
     (("policy/v1", "policy/v1beta1", "base/disruption-budget.yaml"), "'policy/v1beta1' has another form"),
     (("  - service.yaml\n", "", "base/kustomization.yaml"), "there is no Service"),
     (("      - openlink.conf", "      - targets.json", "base/kustomization.yaml"), "no ConfigMap has openlink.conf"),
-    (("listen 80;", "listen 8080;", "base/openlink.conf"), "the site [8080]"),
+    (("listen 8080;", "listen 80;", "base/openlink.conf"), "the site [80]"),
+    (("runAsNonRoot: true", "runAsNonRoot: false"), "the pod may run as root"),
+    (("runAsUser: 10001", "runAsUser: 0"), "the pod may run as root"),
+    (("        runAsGroup: 10001\n", ""), "the pod may run as root"),
+    (
+        (
+            "                - ALL\n          volumeMounts:\n            - name: version\n              mountPath: /etc/openlink\n"
+            "              readOnly",
+            "                - ALL\n              add:\n                - KILL\n          volumeMounts:\n"
+            "            - name: version\n              mountPath: /etc/openlink\n              readOnly",
+        ),
+        "openlink keeps rights of root",
+    ),
     (("automountServiceAccountToken: false", "automountServiceAccountToken: true"), "a token of the cluster"),
     (("        seccompProfile:\n          type: RuntimeDefault\n", "        seccompProfile: {}\n"), "type is missing"),
     (("readOnlyRootFilesystem: true", "readOnlyRootFilesystem: false"), "version may write its root"),
     (("                - ALL\n", "                - KILL\n"), "version keeps rights of root"),
-    (("              mountPath: /run\n", "              mountPath: /run\n              readOnly: true\n"),
-     "writes to ['/var/lib/nginx']"),
+    (
+        ("              mountPath: /run\n", "              mountPath: /run\n              readOnly: true\n"),
+        "writes to ['/var/lib/nginx']",
+    ),
     (("    - Egress\n", "", "base/network-policy.yaml"), "does not bound Egress"),
     (("port: http\n", "port: page\n", "base/network-policy.yaml"), "the network policy opens ['page']"),
     (("  - network-policy.yaml\n", "", "base/kustomization.yaml"), "there is no NetworkPolicy"),
 ]
 # Mistakes of an overlay, which only kubectl shows.
 MISTAKES_OF_OVERLAY = [
-    (("      app.kubernetes.io/instance: second\n", "      app.kubernetes.io/instance: example\n",
-      "second/kustomization.yaml"), "selects the pods of 2 Deployments"),
+    (
+        (
+            "      app.kubernetes.io/instance: second\n",
+            "      app.kubernetes.io/instance: example\n",
+            "second/kustomization.yaml",
+        ),
+        "selects the pods of 2 Deployments",
+    ),
     (("    - host: links.second", "    - host: links.third", "second/host.yaml"), "no certificate for links.third"),
 ]
 
@@ -333,12 +367,18 @@ class Objects(Case):
         value than they seem to."""
         with tempfile.TemporaryDirectory() as folder:
             path = os.path.join(folder, "a.yaml")
-            for text, wanted in (("a: 1\nb:\n- c: x # y\n  d: \"e # f\"\n- -g\n",
-                                  {"a": 1, "b": [{"c": "x", "d": "e # f"}, "-g"]}),
-                                 ("a:\n  b: true\nc:\n", {"a": {"b": True}, "c": None}),
-                                 ("a: {b: 1}\n", {"a": {"b": 1}}), ("a: 1\na: 2\n", None), ("a: 1\n   b: 2\n", None),
-                                 ("a: b: c\n", None), ("a: yes\n", None), ("a: |\n  b\n", {"a": "b\n"}),
-                                 ("a:\tb\n", None), ("a: 'b'\n", {"a": "b"})):
+            for text, wanted in (
+                ('a: 1\nb:\n- c: x # y\n  d: "e # f"\n- -g\n', {"a": 1, "b": [{"c": "x", "d": "e # f"}, "-g"]}),
+                ("a:\n  b: true\nc:\n", {"a": {"b": True}, "c": None}),
+                ("a: {b: 1}\n", {"a": {"b": 1}}),
+                ("a: 1\na: 2\n", None),
+                ("a: 1\n   b: 2\n", None),
+                ("a: b: c\n", None),
+                ("a: yes\n", None),
+                ("a: |\n  b\n", {"a": "b\n"}),
+                ("a:\tb\n", None),
+                ("a: 'b'\n", {"a": "b"}),
+            ):
                 with open(path, "w") as file:
                     file.write(text)
                 try:
@@ -354,9 +394,11 @@ class Objects(Case):
         for name, found in (("base", base), ("second", second), ("base and second", base + second)):
             self.expect(f"built: {name}", Set(copy.deepcopy(found)).faults(), [])
         plain = Set(base_of(f"{FOLDER}/base"))
-        self.expect("the base is as its files have it", {it["kind"]: it["spec"] for it in plain.all if "spec" in it
-                                                          and it["kind"] != "Deployment"},
-                    {it["kind"]: it["spec"] for it in base if "spec" in it and it["kind"] != "Deployment"})
+        self.expect(
+            "the base is as its files have it",
+            {it["kind"]: it["spec"] for it in plain.all if "spec" in it and it["kind"] != "Deployment"},
+            {it["kind"]: it["spec"] for it in base if "spec" in it and it["kind"] != "Deployment"},
+        )
         hosts = [it["spec"]["rules"][0]["host"] for it in Set(base + second).of("Ingress")]
         self.expect("hosts", len(set(hosts)), 2)
         for edit, wanted in MISTAKES_OF_OVERLAY:

@@ -9,14 +9,13 @@ import shutil
 from collections.abc import Callable, Sequence
 from pathlib import Path
 
+from openlink_update import COMMANDS, run_notes
 from openlink_update.fetch import downloads, sources
 from openlink_update.fetch.downloads import Download
-from openlink_update.fetch.fetch_folder import STATE, FetchFolder
-from openlink_update.fetch.fetch_state import State
+from openlink_update.fetch.fetch_folder import STATE, FetchFolder, State
 from openlink_update.fetch.sources import Source
 from openlink_update.input_files import InputFolder
 from openlink_update.outcome import ALL_NEW, DEVICE, KEPT, USAGE, Failure, Interrupted, Unreadable, raise_signals
-from openlink_update.places import COMMANDS
 from openlink_update.rights import sandbox
 from openlink_update.rights.lent_files import Lent
 from openlink_update.rights.limits import Limits
@@ -230,6 +229,9 @@ class _Fetch:
         for lines in groups:
             for file, line in sorted(lines, key=lambda pair: order.index(pair[0])):
                 self._report(line if file is None else f"{file}: {line}")
+                run_notes.note_fetch(file or "", line)
         failures = sum(file is not None for file, _ in self._faults)
         number = f"{amount(count, 'file')} asked for"
-        self._report(f"{number}, {len(self._changes)} new or changed, {failures} not fetched")
+        end = f"{number}, {len(self._changes)} new or changed, {failures} not fetched"
+        run_notes.note_fetch("", end)
+        self._report(end)
