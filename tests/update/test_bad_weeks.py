@@ -186,7 +186,7 @@ class BadWeeks(Case):
             self.expect(
                 "nothing is left", (library.left_behind(), library.run()[0], library.weeks_served()), ([], 0, {"B"})
             )
-            library.input.write("probes.tsv", b"rft.issn=3030-0009&date=1994\tcatalogue\n")
+            library.input.write("probes.tsv", b"rft.issn=3030-0002&date=1994\tcatalogue\n")
             library.input.deliver("A")
             status, printed = library.run()
             self.expect(

@@ -9,6 +9,7 @@ import shutil
 from fixtures import needs
 from fixtures.cases import Case
 from fixtures.library import Library
+from fixtures.made_titles import issn
 from fixtures.weeks import TITLE
 
 LIST = "js_var $openlink_list {};"
@@ -107,7 +108,7 @@ class IndexWeeks(Case):
     def test_title_pages(self) -> None:
         """Rules without a link for a title alone are said, and readers get the addresses of their rows, which go back
         with the version."""
-        query = "/find.json?rft.genre=journal&rft.issn=3030-0009"
+        query = "/find.json?rft.genre=journal&rft.issn=3030-0002"
 
         def pages(library: Library) -> list[str]:
             return [page["url"] for page in json.loads(library.site.get(query).text).get("pages", [])]
@@ -157,8 +158,8 @@ class IndexWeeks(Case):
         with Library() as library:
             rows = [
                 TITLE.replace("Papers on Piers", f"Papers {number}")
-                .replace("3030-0009", f"{4000000 + number}X")
-                .replace("3030-0017", "")
+                .replace("3030-0002", issn(4000000 + number))
+                .replace("3030-0010", "")
                 .encode()
                 for number in range(3000)
             ]
