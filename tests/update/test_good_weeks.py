@@ -213,14 +213,14 @@ class GoodWeeks(Case):
     def test_warnings(self) -> None:
         """A warning that the list allows, by its words; and walls that move with the month."""
         with Library() as library:
-            library.input.add_row("book-house", b"A book\t\t9781234562427\t\t\t\t\t\t\twww.books.example.net/x")
+            library.input.add_row("book-house", b"A book\t\t9781234562427\t\t\t\t\t\t\tbooks.example.net/x")
             status, printed = library.run()
             self.expect("a warning", status, 1)
             self.expect_lines(
                 "a warning",
                 printed,
                 f"  {library.input.path('book-house.txt')}: title_url not a web link 1, first 3 "
-                '"www.books.example.net/x"',
+                '"books.example.net/x"',
             )
             library.input.allowed["book-house"] = "rows; title_url not a web link"
             library.input.write_list()
