@@ -22,13 +22,22 @@ PACKAGE = "openlink_update"
 COMMANDS = ("update", "fetch", "library", "holdings", "probe", "targets", "update.d/targets_file.py")
 AMONG = ("weekly_run.py", "shown_text.py", "input_files.py", "fetch/sources.py", "versions/library.py")
 LEAST, LEAST_SUBPACKAGES = 55, 9
-MOST_MODULES, MOST_WITH_A_REPLY = 19, 23  # that openlink-fetch loads, its subpackages aside
+MOST_MODULES, MOST_WITH_A_REPLY = 16, 22  # that openlink-fetch loads, its subpackages aside
 FORBIDDEN = ("sys.path", "SourceFileLoader", "spec_from_", "type: ignore", "cast(")
 USERS = ("tests", "benches")  # beside the package: what a test uses is public
 SETTINGS = str(TOP / "pyproject.toml")
 TOOLS = {
-    "mypy": ["mypy", "--config-file", SETTINGS, "--no-incremental", "--cache-dir", os.devnull,
-             "--no-error-summary", "--scripts-are-modules", "--disallow-any-explicit"],
+    "mypy": [
+        "mypy",
+        "--config-file",
+        SETTINGS,
+        "--no-incremental",
+        "--cache-dir",
+        os.devnull,
+        "--no-error-summary",
+        "--scripts-are-modules",
+        "--disallow-any-explicit",
+    ],
     "black": ["black", "--config", SETTINGS, "--check", "--quiet"],
     "pyflakes3": ["pyflakes3"],
 }

@@ -9,6 +9,8 @@ import re
 import sys
 from collections.abc import Iterable
 
+from openlink_update import run_notes
+
 # Controls of ASCII but the end of a line, those of Latin-1, and those that end a line or set its direction.
 _UNSAFE = re.compile("[\x00-\x09\x0b-\x1f\x7f-\x9f\u061c\u200e\u200f\u2028-\u202e\u2066-\u2069]")
 _MOST_OF_A_LINE = 8000  # characters that are printed: the journal divides lines of more than 48 KB
@@ -78,9 +80,11 @@ def prepare_streams() -> None:
 
 
 def report(line: str, stream: str = "stdout") -> None:
-    """Prints a line, without the controls and commands that a table or a server may have put in it. That nobody reads
-    it, or that it cannot be written, does not end a run."""
-    _print(lines_to_print(line), stream)
+    """Prints a line, without the controls and commands that a table or a server may have put in it, and notes it for
+    the record of the run. That nobody reads it, or that it cannot be written, does not end a run."""
+    text = lines_to_print(line)
+    run_notes.note(run_notes.LINE, text)
+    _print(text, stream)
 
 
 def report_cells(*cells: str) -> None:
