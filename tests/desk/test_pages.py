@@ -209,6 +209,17 @@ class Pages(Case):
                 "a long rule file", "The first 1,000 lines" in Page(files[f"target-{states[0].name}.en.html"]).text
             )
 
+    def test_bounds(self) -> None:
+        """Lines of rules, and probes of a target."""
+        for lines, probes in ((1000, 50), (1001, 51)):
+            with MadeDesk() as desk:
+                desk.add_target("press", rules="rule\n" * lines)
+                own = tuple(ProbeResult(it, f"issn={it}", "press", True) for it in range(probes))
+                desk.records = [record(probes=own)]
+                page = Page(desk.make()["target-press.en.html"])
+                self.expect(f"{lines} lines", (page.text.count("rule\n"), "The file has more" in page.text), (1000, lines > 1000))
+                self.expect(f"{probes} probes", page.text.count("issn="), 50)
+
     def test_damaged_version(self) -> None:
         """No file of the state or of the version that is missing or damaged ends the desk."""
         with MadeDesk() as desk:
