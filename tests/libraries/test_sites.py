@@ -132,7 +132,7 @@ class Sites(Case):
         """Each request is in the log of one library; what was asked for in vain is only where it is switched on."""
         machine, east, wing = self.machine, self.east, self.wing
         logs = [machine.path("var/log/nginx", f"openlink.{it.name}.{end}") for it in (east, wing) for end in (
-            "log", "wanted.log")]
+            "log", "wanted.log", "followed.log")]
 
         def lines():
             return [read(path).count("from=info:sid/here") for path in logs]
@@ -140,11 +140,11 @@ class Sites(Case):
         for library, count in ((east, 3), (wing, 2)):
             for _ in range(count):
                 machine.get(library.host, "/find?sid=here&issn=1234-5679&date=1999")
-        wait_until(lambda: lines() == [3, 0, 2, 0], 5)
-        self.expect("lines", lines(), [3, 0, 2, 0])
-        self.expect("asked for in vain", [read(logs[1]), re.sub("[0-9]{4}-[0-9]{2} ", "", read(logs[3]))],
+        wait_until(lambda: lines() == [3, 0, 0, 2, 0, 0], 5)
+        self.expect("lines", lines(), [3, 0, 0, 2, 0, 0])
+        self.expect("asked for in vain", [read(logs[1]), re.sub("[0-9]{4}-[0-9]{2} ", "", read(logs[4]))],
                     ["", "1234-5679 1999\n" * 2])
-        self.expect("modes", [os.stat(path).st_mode & 0o777 for path in logs], [0o640] * 4)
+        self.expect("modes", [os.stat(path).st_mode & 0o777 for path in logs], [0o640] * 6)
         self.expect("no other log of readers", sorted(glob.glob(machine.path("var/log/nginx", "openlink*"))),
                     sorted([*logs, machine.path("var/log/nginx", "openlink-error.log")]))
 

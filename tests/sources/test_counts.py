@@ -64,7 +64,10 @@ month|counted|name|number
 """.replace("|", "\t")
 HEAD = TABLE.partition("\n")[0] + "\n"
 OTHER_LINES = "openlink-counts: 9 of 24 lines have another form\n"
-USAGE = "usage: openlink-counts [--wanted [--index FOLDER]] [FILE..]\n"
+USAGE = """\
+usage: openlink-counts [--format tsv|json|xlsx] [--cost FILE] [--counter FILE].. [FILE..]
+       openlink-counts --wanted [--index FOLDER] [FILE..]
+"""
 
 Given = tuple[int, str, str]
 

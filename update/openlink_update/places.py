@@ -1,7 +1,6 @@
-"""Where the commands and the front door are. The front door is in the folder `nginx` beside the commands as they are
-installed, and in `front_door` of the repository."""
-from pathlib import Path
+"""Where the front door is: in the folder `nginx` beside the commands as they are installed, and in `front_door` of the
+repository."""
+from openlink_update import COMMANDS
 
-COMMANDS = Path(__file__).resolve().parent.parent
 _INSTALLED = COMMANDS / "nginx"
 FRONT_DOOR = _INSTALLED if _INSTALLED.is_dir() else COMMANDS.parent / "front_door"

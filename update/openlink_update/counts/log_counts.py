@@ -10,7 +10,7 @@ OTHERS, and a log of any size takes the same memory."""
 import re
 from collections import Counter, defaultdict
 from collections.abc import Iterable, Iterator, Sequence
-from typing import BinaryIO
+from typing import Protocol
 
 OTHERS = "(others)"
 _NO_SOURCE = b"(none)"
@@ -20,9 +20,9 @@ REQUESTS, PROBES, WITHOUT_FULL_TEXT, WITHOUT_LINK = "requests", "probes", "witho
 ERRORS, SOURCE, SOURCE_WITHOUT = "errors", "source", "source without full text"
 SHOWN, FOLLOWED, FOLLOWED_TITLE, IN_VAIN = "shown", "followed", "followed title", "asked in vain"
 _KINDS = (
-    REQUESTS, PROBES, WITHOUT_FULL_TEXT, WITHOUT_LINK, ERRORS, SOURCE, SOURCE_WITHOUT, SHOWN, FOLLOWED, FOLLOWED_TITLE,
-    IN_VAIN,
-)  # fmt: skip
+    *(REQUESTS, PROBES, WITHOUT_FULL_TEXT, WITHOUT_LINK, ERRORS),
+    *(SOURCE, SOURCE_WITHOUT, SHOWN, FOLLOWED, FOLLOWED_TITLE, IN_VAIN),
+)
 
 _BLOCK = 2**20  # bytes that are read at once
 _MOST_LINE = 2**17  # bytes; nginx writes shorter ones
@@ -62,6 +62,13 @@ _REQUEST_LINES = re.compile(
 _FOLLOWED_LINES = re.compile(
     rb"^(?:(\d{4}-[01]\d) target=([A-Za-z0-9_.-]{1,100}) (" + _ISSN_OR_ISBN + rb"|-)|(.+))$\n?", re.M
 )
+
+
+class Readable(Protocol):
+    """A file of bytes, or what is read like one."""
+
+    def read(self, size: int, /) -> bytes:
+        ...
 
 
 class _Names:
@@ -231,7 +238,7 @@ class Counts:
                 self._add_targets(month, status == _REDIRECT, names, number)
 
 
-def counts_of(files: Iterable[BinaryIO]) -> Counts:
+def counts_of(files: Iterable[Readable]) -> Counts:
     """What these files hold, each from its beginning on."""
     counts = Counts()
     for file in files:
@@ -240,7 +247,7 @@ def counts_of(files: Iterable[BinaryIO]) -> Counts:
     return counts
 
 
-def blocks_of(file: BinaryIO) -> Iterator[bytes]:
+def blocks_of(file: Readable) -> Iterator[bytes]:
     """The lines of a file, in blocks of whole lines. Of one that is longer than any of a log a part is left out."""
     rest = b""
     while chunk := file.read(_BLOCK):

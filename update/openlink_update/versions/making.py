@@ -3,6 +3,7 @@
     registry.tsv           a line for each target
     received/NAME.rules    the rule file (NAME.olk: the code file) and the files of the table as they came
     received/NAME.txt      (the second one NAME.txt.2)
+    received/NAME.txt.filtered    what a filter gave for it, if the target has one
     code/NAME.olk          the compiled rules
     tables/NAME.txt        the table as preparation makes it, with its moving walls and coverage to the day; NAME.2.txt,
                            .. are further parts
@@ -12,6 +13,7 @@
     allowed.tsv            a target, words of its line that allow warnings, and the number up to which they do
     hosts.tsv              see host_judge.py
     undated.tsv            see undated_links.py
+    slips.tsv, slip_limits.tsv    see slip_judge.py
     options.tsv            a target, and its options: see target_options.py
     abbreviations.tsv      see abbreviations.py
     index/                 the index of titles, for the front door
@@ -33,16 +35,21 @@ from openlink_update import run_notes, target_options
 from openlink_update.index import abbreviations, named_parts, title_index
 from openlink_update.index.title_groups import Title
 from openlink_update.input_files import InputFile
-from openlink_update.outcome import Failure, Refused
+from openlink_update.outcome import Failure, Refused, Unreadable
 from openlink_update.received import patterns
+from openlink_update.rights.filters import Filter
+from openlink_update.rights.sandbox import no_filter
 from openlink_update.root_folder import RootFolder
 from openlink_update.run_notes import TargetState
 from openlink_update.shown_text import amount
-from openlink_update.tables import date_order, dropped_rows, row_changes
+from openlink_update.slips import odd_rows, slip_judge
+from openlink_update.slips.material import Material
+from openlink_update.tables import dropped_rows, row_changes
 from openlink_update.tables.preparation import Prepared
 from openlink_update.tables.table import Table
 from openlink_update.target_options import Options
 from openlink_update.versions import earlier_files, host_judge, shared_tables, undated_links
+from openlink_update.versions.allowed_words import FEWER
 from openlink_update.versions.earlier_files import EarlierFiles
 from openlink_update.versions.judging import Judge
 from openlink_update.versions.prepared_tables import PreparedTables
@@ -50,8 +57,7 @@ from openlink_update.versions.program import Program
 from openlink_update.versions.served import Tables, targets_in
 from openlink_update.versions.target_list import Target
 
-_FEWER = "less than half of the rows"
-_RECEIVED = "received"
+_RECEIVED, _FILTERED = "received", ".filtered"
 _PART = 2**20  # bytes that are compared at a time
 _OF_THE_OWNER = 0o600  # nginx needs no table as it came: what a library has received is its own
 
@@ -65,6 +71,7 @@ class _Files:
     has_code: bool
     paths: tuple[str, ...] = dataclasses.field(compare=False)  # of the tables
     options: Options = target_options.NONE
+    given: tuple[bytes, ...] = ()  # what a filter made of the tables, if the target has one
     # All of these, as they were read.
     sources: tuple[InputFile, ...] = dataclasses.field(compare=False, default=())
 
@@ -73,10 +80,31 @@ class _Files:
         paths = [source.path for source in self.sources if source.is_changed()]
         return [f"{path}: it changed while it was read: update again when it is written" for path in paths]
 
+    def filter_lines(self) -> list[str]:
+        """What is said of the filter."""
+        pairs = zip(self.tables, self.given)
+        return [f"filter {self.options.filter}: {len(came):,} bytes became {len(made):,}" for came, made in pairs]
+
     @functools.cached_property
     def prepared(self) -> Prepared:
         """Refused if one of the files cannot be read as a table."""
-        return shared_tables.prepare(list(zip(self.paths, self.tables)), self.options)
+        return shared_tables.prepare(list(zip(self.paths, self.read)), self.options)
+
+    @property
+    def read(self) -> tuple[bytes, ...]:
+        """The bytes of the tables that are prepared."""
+        return self.given or self.tables
+
+    @functools.cached_property
+    def material(self) -> Material:
+        """What slips are looked for in; without rows if the table cannot be prepared."""
+        try:
+            it = self.prepared
+        except Refused:
+            it = Prepared(Table((), []), [], [], 0, [], [])
+        unended = next(filter(None, map(odd_rows.unended_line, self.read)), "")
+        rules = None if self.has_code else self.rules
+        return Material(it.table, it.dropped, it.reversed, it.count, rules, self.options.proxy, unended)
 
     @functools.cached_property
     def table_or_empty(self) -> Table:
@@ -87,8 +115,12 @@ class _Files:
             return Table((), [])
 
 
-def _files_of(target: Target) -> _Files:
-    """The files that the list names for a target. Refused if one of them cannot be read."""
+def _material_of(files: _Files) -> Material:
+    return files.material
+
+
+def _files_of(target: Target, filtered: Filter) -> _Files:
+    """The files that the list names for a target. Refused if one of them cannot be read, or if its filter fails."""
     reasons, sources = [*target.reasons], []
     for number, path in enumerate((target.rules, *target.tables)):
         try:
@@ -101,7 +133,21 @@ def _files_of(target: Target) -> _Files:
         raise Refused(reasons)
     rules, *data = [it.data for it in sources]
     paths = tuple(str(it.path) for it in sources[1:])
-    return _Files(rules, tuple(data), target.has_code(), paths, target.options, tuple(sources))
+    given = _given(target.options.filter, list(zip(paths, data)), filtered)
+    return _Files(rules, tuple(data), target.has_code(), paths, target.options, given, tuple(sources))
+
+
+def _given(name: str, files: list[tuple[str, bytes]], filtered: Filter) -> tuple[bytes, ...]:
+    """What the filter with a name gives for files; nothing without a name. Refused if it fails for one."""
+    given, reasons = list[bytes](), list[str]()
+    for path, data in files if name else ():
+        try:
+            given.append(filtered(name, data))
+        except Unreadable as fault:
+            reasons.append(f"{path}: filter {name}: {fault}")
+    if reasons:
+        raise Refused(reasons)
+    return tuple(given)
 
 
 def _received_names(version: Path, name: str) -> list[str]:
@@ -128,7 +174,11 @@ def files_in(received: RootFolder, name: str, options: Options = target_options.
         if f"{name}{suffix}" in names and tables:
             rules, *data = [_content(received, file) for file in (f"{name}{suffix}", *tables)]
             paths = tuple(str(received.place((file,))) for file in tables)
-            return _Files(rules, tuple(data), has_code, paths, options)
+            made = [f"{file}{_FILTERED}" for file in tables] if options.filter else []
+            if not set(made) <= set(names):
+                return None
+            given = tuple(_content(received, file) for file in made)
+            return _Files(rules, tuple(data), has_code, paths, options, given)
     return None
 
 
@@ -148,8 +198,11 @@ class Maker:
         today: datetime.date,
         report: Callable[[str], object],
         received: RootFolder | None = None,
+        filtered: Filter = no_filter,
     ) -> None:
-        """`received` opens the files that the older version has received, if this process may not."""
+        """`received` opens the files that the older version has received, if this process may not; `filtered` runs a
+        filter."""
+        self._filtered = filtered
         self._received = received or (received_in(Path(older)) if older is not None else None)
         self._folder, self._older = Path(folder), None if older is None else Path(older)
         self._program, self._today, self._print = program, today, report
@@ -202,6 +255,9 @@ class Maker:
         self._write("allowed.tsv", self._judge.text(self.names).encode())
         self._write(host_judge.NAME, self._judge.hosts.text(self.names).encode())
         self._write(undated_links.NAME, self._judge.undated.text(self.names).encode())
+        self._write(slip_judge.NAME, self._judge.slips.text(self.names).encode())
+        self._write(slip_judge.LIMITS, self._judge.slips.limits_text(self.names).encode())
+        self._judge.finish()
         self._write(target_options.NAME, target_options.text_of(self._options, self.names).encode())
         self._write(abbreviations.NAME, pairs)
         self._write(earlier_files.NAME, self._earlier.text(self.names, self._today).encode())
@@ -254,7 +310,7 @@ class Maker:
         """The state of a target that is added, and the files that are used."""
         old, new = self._files_before(target.name), None
         try:
-            new = _files_of(target)
+            new = _files_of(target, self._filtered)
             reasons = [] if new == old else self._reasons_against(target, old, new) + new.changed()
         except Refused as refusal:
             reasons = refusal.reasons
@@ -262,19 +318,20 @@ class Maker:
             self._say_refusal(target.name, old, reasons)
         if new is not None and not reasons and new != old:
             self.names.append(target.name)
+            self._judge.accept(target.name, new.prepared.table)
             self._say_changes(target.name, old, new)
         elif old is not None:
             self.names.append(target.name)
             self._put_again(target, old)
             self._judge.undated.find(target.name, old.prepared.table, not old.has_code)
             parts = self._tables.parts_of(target.name)
-            self._judge.keep(target, parts, not old.has_code, is_used=not reasons)
+            self._judge.keep(target, parts, not old.has_code, not reasons, functools.partial(_material_of, old))
         else:
             self._discard(target.name)
             return run_notes.LEFT_OUT, None
         is_changed = new is not None and not reasons and new != old
         lines = self._judge.undated.lines(target.name, is_changed)
-        for line in [*self._judge.hosts.lines(target.name), *lines]:
+        for line in [*self._judge.hosts.lines(target.name), *self._judge.slips.lines(target.name), *lines]:
             self._report(f"{target.name}: {line}")
         if is_changed:
             return run_notes.CHANGED if old else run_notes.NEW, new
@@ -291,6 +348,11 @@ class Maker:
     def _write(self, name: str, data: bytes) -> None:
         (self._folder / name).write_bytes(data)
 
+    def _write_closed(self, name: str, data: bytes) -> None:
+        path = self._folder / name
+        path.touch(_OF_THE_OWNER)
+        path.write_bytes(data)
+
     def _put(self, target: Target, files: _Files) -> list[str]:
         """Writes the files of a target and compiles its rules. Returns why the program rejects them."""
         name = target.name
@@ -299,9 +361,10 @@ class Maker:
         self._discard(name)
         self._write(rules, files.rules)
         for number, data in enumerate(files.tables, 1):
-            path = self._folder / f"received/{name}.txt{f'.{number}' if number > 1 else ''}"
-            path.touch(_OF_THE_OWNER)
-            path.write_bytes(data)
+            path = f"received/{name}.txt{f'.{number}' if number > 1 else ''}"
+            self._write_closed(path, data)
+            if files.given:
+                self._write_closed(f"{path}{_FILTERED}", files.given[number - 1])
         try:
             prepared = files.prepared
         except Refused as refusal:
@@ -323,6 +386,7 @@ class Maker:
             (self._folder / place).unlink(missing_ok=True)
         for place in received:
             (self._folder / place).unlink()
+            (self._folder / f"{place}{_FILTERED}").unlink(missing_ok=True)
 
     def _rejected(self, path: str, *words: str) -> list[str]:
         """Why a command rejects a file that came from a path, as a list of at most one reason."""
@@ -342,15 +406,15 @@ class Maker:
         if self._tables.parts_of(target.name):
             parts = dict(self._tables.divided(target.name, prepared.table))
             self._judge.undated.find(target.name, prepared.table, not new.has_code and not reasons)
-            reasons += self._judge.reasons(target, parts, not new.has_code and not reasons, old is not None)
-        lines = (
-            *dropped_rows.reasons_against(prepared.dropped, prepared.count, target.allowed),
-            *date_order.reasons_against(prepared.reversed, prepared.count, target.allowed),
-        )
+            before_it = old.material if old is not None else None
+            reasons += self._judge.reasons(target, parts, not new.has_code and not reasons, new.material, before_it)
+        lines = dropped_rows.reasons_against(prepared.dropped, prepared.count, target.allowed)
         reasons += [f"{target.table}: {line}" for line in lines]
         before, after = len(old.table_or_empty.rows) if old else 0, len(prepared.table.rows)
-        if after * 2 < before and _FEWER not in target.allowed:
-            reasons.append(f"{target.table}: {_FEWER}: {after}, and {before} before; to allow it: {_FEWER}")
+        if after < target.options.least:
+            reasons.append(f"{target.table}: {amount(after, 'row')}, and at least {target.options.least} must be there")
+        if after * 2 < before and FEWER not in target.allowed:
+            reasons.append(f"{target.table}: {FEWER}: {after}, and {before} before; to allow it: {FEWER}")
         return reasons
 
     def _say_changes(self, name: str, old: _Files | None, new: _Files) -> None:
@@ -359,12 +423,12 @@ class Maker:
             self._report(f"{name}: new, {amount(len(table.rows), 'row')}")
         else:
             changes = [] if new.rules == old.rules else ["rules changed"]
-            if new.tables != old.tables:
+            if new.read != old.read:
                 added, gone = self._moved = row_changes.changes(old.table_or_empty, table)
                 changes.append(f"{amount(added, 'row')} added, {gone} gone")
             self._report(f"{name}: {', '.join(changes)}")
         lines = self._judge.write_changes(name) if old else []
-        prepared = new.prepared.lines if old is None or new.tables != old.tables else []
+        prepared = new.filter_lines() + new.prepared.lines if old is None or new.read != old.read else []
         day = self._earlier.day_of(name)
         if old and day and table != old.table_or_empty:
             self._report(f"  the table of {day} again")
@@ -388,7 +452,7 @@ def is_same(one: str | Path, other: str | Path, received: RootFolder | None = No
         for version in versions
     ]
     lists = ["registry.tsv", "allowed.tsv", host_judge.NAME, undated_links.NAME, abbreviations.NAME]
-    lists.append(target_options.NAME)
+    lists += [target_options.NAME, slip_judge.NAME, slip_judge.LIMITS]
     files = [*lists, "index/format", *names[0]]
     opened = received or received_in(versions[1])
     return names[0] == names[1] and all(
