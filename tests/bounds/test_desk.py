@@ -24,9 +24,13 @@ from openlink_update.desk import lint_lines
 from openlink_update.desk import logs
 from openlink_update.desk import months
 from openlink_update.desk import targets
+from openlink_update.desk import titles_page
 from openlink_update.desk import week
 from openlink_update.desk import words_in
 from openlink_update.desk import year
+from openlink_update.desk.collection import Collection
+from openlink_update.desk.collection import Decade
+from openlink_update.desk.collection import Holdings
 from openlink_update.run_notes import ProbeResult
 from openlink_update.run_notes import TargetState
 from openlink_update.versions import library as libraries
@@ -94,6 +98,18 @@ class Weeks(Case):
         self.expect_both("bars", 10, lambda count: len(names(count).chart.bars))
         label = [charts.rows([charts.Pair("x" * count, 1)]).labels[0].text for count in (40, 41)]
         self.expect("a label", label, ["x" * 40, "x" * 40 + ".."])
+
+
+class Titles(Case):
+    def test_bars(self) -> None:
+        for count, wanted in ((20, 20), (21, 20)):
+            each = tuple(Holdings(f"t{it:02}", 9, 0, (), ()) for it in range(count))
+            chart = titles_page.titles_of(Collection(9, each, ())).chart
+            self.expect(f"{count} targets", len(chart.bars), wanted)
+        for count, wanted in ((12, 12), (13, 12)):
+            decades = tuple(Decade(1800 + 10 * it, 1) for it in range(count))
+            shown = titles_page.titles_of(Collection(1, (), decades))
+            self.expect(f"{count} decades", (len(shown.decades_chart.bars), len(shown.decades)), (wanted, count))
 
 
 class State(Case):

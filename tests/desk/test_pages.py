@@ -154,6 +154,31 @@ class Pages(Case):
             desk.make()
             self.expect("and again for others", desk.notes.read_text().count("lint"), 2)
 
+    def test_collection(self) -> None:
+        """The titles of two targets that share one, by hand; the chart of decades, and the tables."""
+        head = "publication_title\tprint_identifier\tcoverage_from\tcoverage_to\n"
+        rows = {"one": "A\t2901-0012\t19950101\t20051231\nB\t2915-0272\t20010101\t20031231\n",
+                "two": "A\t2901-0012\t19950101\t19991231\nC\t2929-0538\t20110101\t99999999\nD\t2936-0667\t0\t0\n"}
+        with MadeDesk() as desk:
+            for name, text in rows.items():
+                desk.add_target(name)
+                desk.write(f"tables/{name}.txt", head + text)
+            files = desk.make()
+            check(self, "the collection", files)
+            page = Page(files["collection.en.html"])
+            self.expect("all titles", "Titles: 4" in page.text, True)
+            table = list(csv.reader(io.StringIO(files["collection.tsv"]), dialect="excel-tab"))
+            self.expect("the targets", [row[:3] for row in table[1:]], [["one", "2", "1"], ["two", "3", "2"]])
+            self.expect("the decades", [table[0][3:], *(row[3:] for row in table[1:])],
+                        [["1990", "2000", "2010", "2020"], ["1", "2", "0", "0"], ["1", "0", "1", "1"]])
+            overlaps = list(csv.reader(io.StringIO(files["overlaps.tsv"]), dialect="excel-tab"))
+            self.expect("overlaps", overlaps[1:], [["one", "two", "1", "50"], ["two", "one", "1", "33"]])
+            self.expect("the charts", page.elements.count("figure"), 2)
+            cells = [it.strip() for it in page.texts if it.strip()]
+            at = cells.index("2020–2029")
+            self.expect("decades on the page", cells[at : at + 8],
+                        ["2020–2029", "1", "2010–2019", "1", "2000–2009", "2", "1990–1999", "1"])
+
     def test_hostile_texts(self) -> None:
         """Names of targets are as a list of targets allows them; all other texts may be anything."""
         with MadeDesk() as desk:

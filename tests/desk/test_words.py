@@ -42,8 +42,7 @@ class Words(Case):
         texts.append(Path(week.__file__).read_text("utf-8"))
         used = set(re.findall(r"[\"'](\w+)[\"']", "".join(texts)))
         used |= {"changes", "dropped"}  # the lists of a target, by the names of their folders
-        waiting = {"collection", "titles", "unique", "overlap", "other", "decades", "decade"}
-        self.expect("words that no page has", set(ENGLISH) - used - waiting, set())
+        self.expect("words that no page has", set(ENGLISH) - used, set())
 
     def test_numbers(self) -> None:
         numbers = {t.tag: t.number(1234567) for t in words_in.languages_of(["en", "de", "fr", "zh-Hans"])}
