@@ -8,6 +8,7 @@ import contact from './contact.js';
 import copies from './copies.js';
 import exchange from './exchange.js';
 import form from './form.js';
+import heads from './heads.js';
 import index from './index.js';
 import lists from './lists.js';
 import log from './log.js';
@@ -25,6 +26,7 @@ async function answer(r, q, reply) {
     if (q.isEmpty()) return reply(menu.groupsOf(query.NONE, site), site);
     const menus = await program.menusOf(r, q);
     if (menus.status !== 200) return exchange.sendFault(r, program.faultStatus(menus), site);
+    await heads.add(r, site, menus.links, q.titles);
     const groups = menu.groupsOf(menus.links, site);
     logLinks(r, q, groups);
     return reply(groups, site);
@@ -122,6 +124,7 @@ async function list(r) {
     const found = LIST.exec(r.uri);
     if (!site.hasList || found === null) return exchange.sendFault(r, 404, site);
     const kind = found[1] === 'books' ? 'b' : 'j';
+    await heads.read(r, site);
     if (found[2] !== undefined) return letter(r, kind, found[2], Number(found[3]), site);
     const q = new query.Query(exchange.argsOf(r));
     const text = texts.clean(q.first('q').slice(0, MOST_SOUGHT));

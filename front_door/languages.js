@@ -127,6 +127,7 @@ function siteIn(targets, header, asked, library) {
     const folder = own(targets, 'folder');
     return { language, main: languages[0], dir: isRightToLeft(language) ? 'rtl' : 'ltr',
         known: Object.create(null), marks: Object.create(null), labels: Object.create(null), languages,
+        heads: Object.create(null),
         chosen: isChosen ? asked : '',
         file: wordsIn(language, library), mainFile: wordsIn(languages[0], library), library,
         words: objectUnder(targets, 'words'), groups: objectUnder(targets, 'groups'),

@@ -52,8 +52,8 @@ function addCoverage(link, row, site) {
     link.coverage = data;
     link.covered = coverage.textOf(row, site);
 }
-// All groups of the site with these links. A target without a group is in the first, and one that targets.json does not
-// name in the last, unless there is only one.
+// All groups of the site with these links. A target without a group is in the first. One that targets.json does not name
+// is in the group that the head of its rules says, if the site has it, and else in the last, unless there is only one.
 function groupsOf(links, site) {
     const groups = emptyGroups(site);
     const places = Object.create(null);
@@ -63,11 +63,16 @@ function groupsOf(links, site) {
     links.forEach((found) => {
         if (!texts.isWeb(found.url)) return;
         const target = languages.objectUnder(site.targets, found.target);
-        const group = target === undefined ? others : places[words.textAt(own(target, 'group'))] || groups[0];
+        const group = own(places, groupNameOf(found.target, site)) || (target === undefined ? others : groups[0]);
         group.links.push(linkOf(found, target, site));
     });
     if (!groups.includes(others)) groups.push(others);
     return groups;
+}
+
+function groupNameOf(name, site) {
+    const target = languages.objectUnder(site.targets, name) || words.headOf(site, name);
+    return words.textAt(own(target, 'group'));
 }
 
 // The groups that a reader sees: those with links, except where `onlyWithout` names a group that has some.
@@ -147,8 +152,8 @@ function knowledgeOf(q, groups, site) {
 function heldIn(q, group, site) {
     return (row) => {
         const target = languages.objectUnder(site.targets, row.target);
-        const name = words.textAt(own(target, 'group'));
-        const isOfGroup = site.groups === undefined || (target !== undefined && (name === '' || name === group.name));
+        const name = groupNameOf(row.target, site);
+        const isOfGroup = site.groups === undefined || name === group.name || (target !== undefined && name === '');
         return isOfGroup && coverage.mayHave(row, q.first('rft.date').slice(0, 4));
     };
 }

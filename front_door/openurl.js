@@ -40,6 +40,7 @@ const WRITING = [
     date,            // a date becomes YEAR-MONTH-DAY, YEAR-MONTH or YEAR; its first and last day are x.from and x.to
     volumes.volume,  // volume and issue are numbers without a word, and a supplement of a volume is its issue
     volumes.page,    // first and last page are found in ranges, and the number of an article is its page
+    encodedDoi,      // a DOI that no proxy may decode is also there encoded, as x.doi_encoded
     encoding         // what had another encoding is UTF-8 now, and says so
 ];
 
@@ -297,6 +298,13 @@ function date(q) {
     const days = dates.daysOf(found[0]);
     q.lead('x.from', days[0]);
     q.lead('x.to', days[1]);
+}
+
+// A proxy decodes an address once. Then a DOI with another character is another address.
+const PLAIN_DOI = /^[\w.~\/:;()!$&'*+,=@-]*$/;
+function encodedDoi(q) {
+    const doi = q.first('x.doi');
+    if (!is(PLAIN_DOI, doi)) q.put('x.doi_encoded', [encodeURIComponent(doi)]);
 }
 
 function encoding(q) {

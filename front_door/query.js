@@ -20,7 +20,7 @@ function encode(text) { return is(UNRESERVED, text) ? text : encodeURIComponent(
 
 // The columns of a KBART table, and those that the update adds. An empty cell is undefined, so a request that could
 // write one would choose the link.
-const ADDED_COLUMNS = ' coverage_from coverage_to ';
+const ADDED_COLUMNS = ' coverage_from coverage_to title_page ';
 const COLUMNS = ' ' + ('publication_title print_identifier online_identifier date_first_issue_online '
     + 'num_first_vol_online num_first_issue_online date_last_issue_online num_last_vol_online '
     + 'num_last_issue_online title_url first_author title_id embargo_info coverage_depth notes '

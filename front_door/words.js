@@ -47,10 +47,13 @@ function labelled(site, label, text) { return label + markOf(site, 'labelled', '
 function labelOf(site, target) {
     const label = site.labels[target];
     if (label !== undefined) return label;
-    return (site.labels[target] = languages.textOf(own(own(site.targets, target), 'label'), site) || target);
+    const text = languages.textOf(own(own(site.targets, target), 'label'), site) || own(headOf(site, target), 'label');
+    return (site.labels[target] = text || target);
 }
+// What the head of its rules says of a target that targets.json does not name, if heads.js has read it.
+function headOf(site, target) { return own(site.heads, target); }
 
 export default {
-    word, filled, counted, numberOf, separatorOf, listed, labelled, labelOf,
+    word, filled, counted, numberOf, separatorOf, listed, labelled, labelOf, headOf,
     textAt: languages.textAt, inLanguage: languages.textOf
 };

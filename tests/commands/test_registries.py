@@ -76,12 +76,17 @@ def lines(names):
 
 
 # Only the second row has a link. It has no cell for the last date, so the request's value counts.
-RULES = ("list list\nrule\nwhen date_first_issue_online is \"2000\"\n"
-         "link {+title_url}{?print_identifier,date_first_issue_online,date_last_issue_online,rft.issn,x,list*}\n")
-WITH_CELLS = ("rft.issn=1234567x&title_url=http%3A%2F%2Fevil.example&list=a&x=1&list=b&x=2"
-              "&date_last_issue_online=2005")
-LINK = ("http://e.org/b?print_identifier=1234-567X&date_first_issue_online=2000&date_last_issue_online=2005"
-        "&rft.issn=1234567x&x=1&list=a&list=b")
+RULES = (
+    'list list\nrule\nwhen date_first_issue_online is "2000"\n'
+    "link {+title_url}{?print_identifier,date_first_issue_online,date_last_issue_online,rft.issn,x,list*}\n"
+)
+WITH_CELLS = (
+    "rft.issn=1234567x&title_url=http%3A%2F%2Fevil.example&list=a&x=1&list=b&x=2" "&date_last_issue_online=2005"
+)
+LINK = (
+    "http://e.org/b?print_identifier=1234-567X&date_first_issue_online=2000&date_last_issue_online=2005"
+    "&rft.issn=1234567x&x=1&list=a&list=b"
+)
 
 
 class Registries(ProgramCase):

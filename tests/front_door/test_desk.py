@@ -10,13 +10,39 @@ from pathlib import Path
 from fixtures.nginx_site import Reply
 from fixtures.site_case import SiteCase
 
-PAGES = {"index.html": "text/html; charset=utf-8", "week.en.html": "text/html; charset=utf-8", "desk.css": "text/css",
-         "target-...en.html": "text/html; charset=utf-8", "year.tsv": "text/tab-separated-values; charset=utf-8"}
+PAGES = {
+    "index.html": "text/html; charset=utf-8",
+    "week.en.html": "text/html; charset=utf-8",
+    "desk.css": "text/css",
+    "target-...en.html": "text/html; charset=utf-8",
+    "year.tsv": "text/tab-separated-values; charset=utf-8",
+}
 LISTS = ("dropped/press.txt", "changes/a.b.txt", "dropped/...txt")
 # What is in the folders and not for browsers, and ways out of them.
-HIDDEN = ("state/months.tsv", "state/", "lint", "lock", "..", "../lock", "%2e%2e/lock", "..%2flock", "state%2fmonths.tsv",
-          "week.en.html/", "week.en.html/x", "none.html", "received/press.rules", "dropped/", "dropped/../registry.tsv",
-          "dropped/..%2fregistry.tsv", "changes/none.txt", "tables/press.txt", "index.html%00", ".html", "x.json", "//etc/passwd")
+HIDDEN = (
+    "state/months.tsv",
+    "state/",
+    "lint",
+    "lock",
+    "..",
+    "../lock",
+    "%2e%2e/lock",
+    "..%2flock",
+    "state%2fmonths.tsv",
+    "week.en.html/",
+    "week.en.html/x",
+    "none.html",
+    "received/press.rules",
+    "dropped/",
+    "dropped/../registry.tsv",
+    "dropped/..%2fregistry.tsv",
+    "changes/none.txt",
+    "tables/press.txt",
+    "index.html%00",
+    ".html",
+    "x.json",
+    "//etc/passwd",
+)
 PASSWORD = {"Authorization": "Basic " + base64.b64encode(b"staff:right").decode()}
 
 
@@ -44,11 +70,16 @@ class Desk(SiteCase):
     def test_own_port(self) -> None:
         for name, kind in PAGES.items():
             reply = self.get(f"/desk/{name}")
-            self.expect(name, (reply.status, reply.text, reply.headers["Content-Type"]), (200, f"the file {name}\n", kind))
+            self.expect(
+                name, (reply.status, reply.text, reply.headers["Content-Type"]), (200, f"the file {name}\n", kind)
+            )
         for name in LISTS:
             reply = self.get(f"/desk/{name}")
-            self.expect(name, (reply.status, reply.text, reply.headers["Content-Type"]),
-                        (200, f"the list {name}\n", "text/tab-separated-values; charset=utf-8"))
+            self.expect(
+                name,
+                (reply.status, reply.text, reply.headers["Content-Type"]),
+                (200, f"the list {name}\n", "text/tab-separated-values; charset=utf-8"),
+            )
         self.expect("the folder", self.get("/desk/").text, "the file index.html\n")
         reply = self.get("/desk")
         self.expect("without a slash", (reply.status, reply.headers["Location"]), (301, "/desk/"))
@@ -65,8 +96,11 @@ class Desk(SiteCase):
                 self.expect(f"{method} {path}", self.get(path, method).status, status)
             headers = self.get(path).headers
             policy = headers["Content-Security-Policy"]
-            self.expect(f"{path}: no script and no inline style", ("script-src" in policy, "unsafe" in policy, policy[:18]),
-                        (False, False, "default-src 'none'"))
+            self.expect(
+                f"{path}: no script and no inline style",
+                ("script-src" in policy, "unsafe" in policy, policy[:18]),
+                (False, False, "default-src 'none'"),
+            )
             self.expect(f"{path}: nobody keeps it", headers["Cache-Control"], "private, no-store")
         self.expect("the style is kept", self.get("/desk/desk.css").headers["Cache-Control"], "private, max-age=3600")
 

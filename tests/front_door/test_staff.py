@@ -180,15 +180,21 @@ class Staff(SiteCase):
         """Beside each reason is what to do; and the form for another request leads to this page."""
         text = self.get("issn=2901-0012&date=2003&volume=12").text
         said = dict(re.findall(r'<h3 id="target-([^"]*)">.*</h3>\n<p>.*?: <code [^>]*>.*?</code> (.*)</p>', text))
-        words = {"link": "Nothing to do", "no row": "The table has no row with a number", "no link": "The table has the title"}
+        words = {
+            "link": "Nothing to do",
+            "no row": "The table has no row with a number",
+            "no link": "The table has the title",
+        }
         _, reasons, bold, _ = page_parts(text)
         used = {name: re.sub(r"^link .*", "link", reasons[name][bold[name][0]]) for name in reasons}
         self.expect("all kinds of reasons", set(used.values()), set(words))
         for name, reason in used.items():
             self.expect(f"what to do about {name}: {reason}", said[name].startswith(words[reason]), True)
         self.expect("the form", re.findall(r'<form action="([^"]*)" method="get"', text), ["/why"])
-        self.expect("it is folded", '<details><summary>Find by citation</summary>' in text, True)
-        self.expect("but for no request", '<details open><summary>Find by citation</summary>' in self.get("").text, True)
+        self.expect("it is folded", "<details><summary>Find by citation</summary>" in text, True)
+        self.expect(
+            "but for no request", "<details open><summary>Find by citation</summary>" in self.get("").text, True
+        )
         self.expect("the way to the desk", '<a href="/desk/">Librarian’s desk</a>' in text, True)
 
     def test_hostile_titles(self) -> None:

@@ -27,8 +27,17 @@ FORBIDDEN = ("sys.path", "SourceFileLoader", "spec_from_", "type: ignore", "cast
 USERS = ("tests", "benches")  # beside the package: what a test uses is public
 SETTINGS = str(TOP / "pyproject.toml")
 TOOLS = {
-    "mypy": ["mypy", "--config-file", SETTINGS, "--no-incremental", "--cache-dir", os.devnull,
-             "--no-error-summary", "--scripts-are-modules", "--disallow-any-explicit"],
+    "mypy": [
+        "mypy",
+        "--config-file",
+        SETTINGS,
+        "--no-incremental",
+        "--cache-dir",
+        os.devnull,
+        "--no-error-summary",
+        "--scripts-are-modules",
+        "--disallow-any-explicit",
+    ],
     "black": ["black", "--config", SETTINGS, "--check", "--quiet"],
     "pyflakes3": ["pyflakes3"],
 }

@@ -150,9 +150,7 @@ class Fetched(Case):
             trace = Trace(f"{aside}/calls", folder.top)
             status, printed = folder.fetch(before=trace.before)
             calls = trace.calls()
-        self.expect(
-            f"two files: {printed}", (status, left(trace.losses(folder.top, calls))), (0, Losses([], [], []))
-        )
+        self.expect(f"two files: {printed}", (status, left(trace.losses(folder.top, calls))), (0, Losses([], [], [])))
         spoilt = without_each_sync(trace, folder.top, calls)
         self.expect("calls that wait for the disk", len(spoilt), 8)  # file and folder, of two files and two states
         for place, losses in spoilt:

@@ -50,9 +50,11 @@ class Renames(Case):
                     number += 1
                     status, printed = library.run()
                     week = OTHER[week]
-                    self.expect(f"{name}, the run after {number - 1}: {printed}",
-                                (status, library.weeks_served(), library.left_behind()),
-                                (0, {week}, []))
+                    self.expect(
+                        f"{name}, the run after {number - 1}: {printed}",
+                        (status, library.weeks_served(), library.left_behind()),
+                        (0, {week}, []),
+                    )
                 self.expect(f"{name}: moments", (moments, number), (expected, expected + 1))
 
     def test_walls_killed_at_renames(self) -> None:
@@ -67,11 +69,17 @@ class Renames(Case):
                 age_walls(library)
                 moments = killed_at(library, number, "--walls")
                 served(self, f"walls, killed at moment {number}", library)
-                whole = [os.path.exists(library.path("versions", name, "index", "format"))
-                         for name in library.versions() if not name.endswith(".new")]
+                whole = [
+                    os.path.exists(library.path("versions", name, "index", "format"))
+                    for name in library.versions()
+                    if not name.endswith(".new")
+                ]
                 self.expect(f"walls, complete versions after {number}", set(whole), {True})
                 number += 1
                 status, printed = library.run("--walls")
-                self.expect(f"walls, the run after {number - 1}: {printed}",
-                            (status, library.weeks_served(), library.left_behind()), (0, {"A"}, []))
+                self.expect(
+                    f"walls, the run after {number - 1}: {printed}",
+                    (status, library.weeks_served(), library.left_behind()),
+                    (0, {"A"}, []),
+                )
             self.expect("walls: moments", (moments, number), (22, 23))

@@ -5,6 +5,7 @@ from pathlib import Path
 from openlink_update import COMMANDS
 from openlink_update.fetch.fetch_folder import FETCH
 from openlink_update.input_files import InputFolder
+from openlink_update.places import PROVIDERS
 from openlink_update.rights import sandbox
 from openlink_update.rights.limits import Limits
 from openlink_update.rights.sandbox import Sandbox
@@ -24,5 +25,8 @@ def sandbox_of(options: Options, library: Library, site: Site, folder: Path) -> 
     )
     program = Path(shutil.which(options.program) or options.program)
     return sandbox.of(
-        options.among or options.library, library.folder, limits, [library.folder, COMMANDS, program, *site.files()]
+        options.among or options.library,
+        library.folder,
+        limits,
+        [library.folder, COMMANDS, PROVIDERS, program, *site.files()],
     )

@@ -5,8 +5,22 @@ from links import FULL, Request
 
 SECONDS = 30  # for a reply
 HEADING = re.compile(r'<h2>(.*?)</h2>|<ul class="actions">|<li><a href="(http[^"]*)">(.*?)</a>')
-DATES = ("1976", "1979-12", "1984-05", "1991-02-03", "2003", "2011-07", "2012-12-31", "2021", "2022-03-01", "2025",
-         "2026-07", "2026-12-15", "2027-05", "")
+DATES = (
+    "1976",
+    "1979-12",
+    "1984-05",
+    "1991-02-03",
+    "2003",
+    "2011-07",
+    "2012-12-31",
+    "2021",
+    "2022-03-01",
+    "2025",
+    "2026-07",
+    "2026-12-15",
+    "2027-05",
+    "",
+)
 BY_TITLE, BY_STRANGER = 0.1, 0.05  # shares of requests by a title, and for what nobody has
 
 
@@ -52,8 +66,11 @@ def json_links(text):
     data = json.loads(text)
     if "groups" not in data:
         raise ValueError(text)
-    return [(group["name"], link["target"], link["label"], link["url"], link.get("coverage"))
-            for group in data["groups"] for link in group["links"]]
+    return [
+        (group["name"], link["target"], link["label"], link["url"], link.get("coverage"))
+        for group in data["groups"]
+        for link in group["links"]
+    ]
 
 
 def page_links(text):
@@ -81,10 +98,17 @@ def state_text(request, span, start, end):
     """A state that was allowed while a reader waited: when, its links, and the rows of the number."""
     state, since, until = span
     until = "on" if until is None else f"to {until - end:+.3f} s from the reply"
-    rows = {name: [(row.first, row.last, row.volume, row.embargo, row.id) for row in rows]
-            for name, rows in state.rows_of(request).items()}
-    return "\n    ".join([f"  right is {state.name}, from {since - start:+.3f} s from the request {until}:",
-                          str([link[:4] for link in state.links(request)]), str(rows)])
+    rows = {
+        name: [(row.first, row.last, row.volume, row.embargo, row.id) for row in rows]
+        for name, rows in state.rows_of(request).items()
+    }
+    return "\n    ".join(
+        [
+            f"  right is {state.name}, from {since - start:+.3f} s from the request {until}:",
+            str([link[:4] for link in state.links(request)]),
+            str(rows),
+        ]
+    )
 
 
 def is_right(kind, reply, expected, is_settled):
@@ -98,8 +122,9 @@ def is_right(kind, reply, expected, is_settled):
         return False
     if kind == "/find.json":
         links = json_links(text)
-        return ([link[:4] for link in links] == [link[:4] for link in expected]
-                and (not is_settled or [it[4] for it in links] == [coverage_of(it[4]) for it in expected]))
+        return [link[:4] for link in links] == [link[:4] for link in expected] and (
+            not is_settled or [it[4] for it in links] == [coverage_of(it[4]) for it in expected]
+        )
     return page_links(text) == [(group, label, address) for group, _, label, address, _ in expected]
 
 
@@ -143,8 +168,11 @@ class Reader(threading.Thread):
         except (ValueError, LookupError) as fault:
             reply = (*reply, repr(fault))
         texts = [state_text(request, span, start, end) for span in spans]
-        self.wrong.append("\n".join([f"{kind}?{request.query()}: {str(reply)[:1500]}",
-                                     f"  the reply took {end - start:.3f} s", *texts]))
+        self.wrong.append(
+            "\n".join(
+                [f"{kind}?{request.query()}: {str(reply)[:1500]}", f"  the reply took {end - start:.3f} s", *texts]
+            )
+        )
 
     def reply(self, target):
         # From an address of its own: nginx goes on counting the connections of a worker that was killed as open.

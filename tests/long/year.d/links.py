@@ -51,6 +51,7 @@ def rules_of(provider):
 @dataclasses.dataclass(frozen=True)
 class Held:
     """What the library has of a provider."""
+
     rows: tuple
     rules: str
     edition: int
@@ -60,9 +61,9 @@ class Held:
 @dataclasses.dataclass(frozen=True)
 class Request:
     number: str
-    date: str = ""    # a year, a month or a day
+    date: str = ""  # a year, a month or a day
     volume: str = ""
-    title: str = ""   # in place of the number
+    title: str = ""  # in place of the number
 
     def query(self):
         number = {"issn" if len(self.number) == 9 else "isbn": self.number}

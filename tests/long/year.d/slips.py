@@ -11,9 +11,10 @@ NO_PAGE = "a web page, not a table"
 @dataclasses.dataclass
 class Slip:
     """What a kind of slip makes of a provider's file."""
+
     outcome: str
-    says: tuple         # parts of lines of the mail, which begin with spaces if the update says them
-    reply: str = ""     # how the server replies in place of the file
+    says: tuple  # parts of lines of the mail, which begin with spaces if the update says them
+    reply: str = ""  # how the server replies in place of the file
     data: bytes = None  # the file
     rows: tuple = None  # what is served of a file that is used
 
@@ -46,13 +47,15 @@ def other_form(form):
 def changed(lines, column, change, share=1.0):
     """The cells of a column are changed in that share of the rows, the last ones."""
     place, first = tables.COLUMNS.index(column), 1 + round((len(lines) - 1) * (1 - share))
-    return [line[:place] + [change(line[place])] + line[place + 1:] if number >= first else line
-            for number, line in enumerate(lines)]
+    return [
+        line[:place] + [change(line[place])] + line[place + 1 :] if number >= first else line
+        for number, line in enumerate(lines)
+    ]
 
 
 def half(lines):
     data = text(lines)
-    return data[:len(data) * 2 // 5]
+    return data[: len(data) * 2 // 5]
 
 
 def shifted(lines):
@@ -91,8 +94,12 @@ def unquoted(lines):
 def doubled(provider, source):
     lines = cells(provider)
     again = len(lines) - 1
-    return Slip(USED, (f"  the same as an earlier row, left out: {again} rows",), data=text(lines + lines[1:]),
-                rows=provider.rows)
+    return Slip(
+        USED,
+        (f"  the same as an earlier row, left out: {again} rows",),
+        data=text(lines + lines[1:]),
+        rows=provider.rows,
+    )
 
 
 def few_without_numbers(provider, source):
@@ -104,8 +111,9 @@ def few_without_numbers(provider, source):
     place = tables.COLUMNS.index("title_id")
     data = text([[*line[:1], "", "", *line[3:]] if line[place] in lost else line for line in lines])
     count = sum(line[place] in lost for line in lines)
-    return Slip(USED, (f"  dropped: {count} row",), data=data, rows=tuple(
-        row for row in provider.rows if row.id not in lost))
+    return Slip(
+        USED, (f"  dropped: {count} row",), data=data, rows=tuple(row for row in provider.rows if row.id not in lost)
+    )
 
 
 def embargo_in_words(provider, source):
@@ -115,18 +123,21 @@ def embargo_in_words(provider, source):
 
 
 def dates_of_two_readings(provider, source):
-    lines = changed(cells(provider), "date_first_issue_online",
-                    lambda cell: f"03/01/{cell[:4]}" if len(cell) == 10 else cell)
-    rows = tuple(dataclasses.replace(row, first=row.first[:4] if len(row.first) == 10 else row.first)
-                 for row in provider.rows)
+    lines = changed(
+        cells(provider), "date_first_issue_online", lambda cell: f"03/01/{cell[:4]}" if len(cell) == 10 else cell
+    )
+    rows = tuple(
+        dataclasses.replace(row, first=row.first[:4] if len(row.first) == 10 else row.first) for row in provider.rows
+    )
     return Slip(USED, ("  dates cut to their year: ",), data=text(lines), rows=rows)
 
 
 def too_large(provider, source):
     """The provider's rows and 200,000 more, without titles: two parts."""
     more = [["", f"{number:07}0", *[""] * 14, "serial"] for number in range(3_000_000, 3_200_000)]
-    return Slip(USED, (f"  2 parts: {provider.name}, {provider.name}.2",), data=text(cells(provider) + more),
-                rows=provider.rows)
+    return Slip(
+        USED, (f"  2 parts: {provider.name}, {provider.name}.2",), data=text(cells(provider) + more), rows=provider.rows
+    )
 
 
 KINDS = {
@@ -149,31 +160,45 @@ KINDS = {
     "a page as a table": no_table(lambda provider: b"\n<!DOCTYPE html><html><body>Sorry</body></html>", NO_PAGE),
     "two tables in an archive": no_table(
         lambda provider: tables.zipped({"journals.txt": text(cells(provider)), "books.txt": text(cells(provider))}),
-        "a zip file with 2 members: name one by `member PATTERN` in sources.tsv"),
-    "half of a gzip file": no_table(lambda provider: tables.gzipped(text(cells(provider)))[:-200],
-                                    "a gzip file that is cut short or damaged"),
-    "a spreadsheet": no_table(lambda provider: tables.zipped({"[Content_Types].xml": "x", "xl/workbook.xml": "x"}),
-                              "a spreadsheet: save it as text with tabs"),
-    "UTF-16 without its mark": no_table(lambda provider: tables.text_of(cells(provider)).encode("utf-16-le"),
-                                        "it has bytes of zero"),
+        "a zip file with 2 members: name one by `member PATTERN` in sources.tsv",
+    ),
+    "half of a gzip file": no_table(
+        lambda provider: tables.gzipped(text(cells(provider)))[:-200], "a gzip file that is cut short or damaged"
+    ),
+    "a spreadsheet": no_table(
+        lambda provider: tables.zipped({"[Content_Types].xml": "x", "xl/workbook.xml": "x"}),
+        "a spreadsheet: save it as text with tabs",
+    ),
+    "UTF-16 without its mark": no_table(
+        lambda provider: tables.text_of(cells(provider)).encode("utf-16-le"), "it has bytes of zero"
+    ),
     "half of a file": bad_table(half, "  {file}: numbers gone ", "  {file}: less than half of the rows: "),
     "cells shifted by one": bad_table(lambda lines: text(shifted(lines)), "  {file}: "),
-    "other names of columns": bad_table(lambda lines: text(renamed(lines)), "  {file}: no column print_identifier",
-                                        "  {file}: no column online_identifier", "  {file}: identifiers 0"),
+    "other names of columns": bad_table(
+        lambda lines: text(renamed(lines)),
+        "  {file}: no column print_identifier",
+        "  {file}: no column online_identifier",
+        "  {file}: identifiers 0",
+    ),
     "a collapse of numbers": bad_table(lambda lines: text(without_numbers(lines)), " rows dropped, and "),
     "rounded numbers": bad_table(lambda lines: text(rounded(lines)), " rows dropped, and "),
     "dates swapped": bad_table(lambda lines: text(swapped(lines)), "  {file}: first dates after the last ones: "),
-    "dates in words": bad_table(lambda lines: text(changed(lines, "date_first_issue_online", lambda _: "soon")),
-                                "  {file}: date_first_issue_online not a date "),
+    "dates in words": bad_table(
+        lambda lines: text(changed(lines, "date_first_issue_online", lambda _: "soon")),
+        "  {file}: date_first_issue_online not a date ",
+    ),
     "addresses without https": bad_table(
         lambda lines: text(changed(lines, "title_url", lambda cell: cell.removeprefix("https://"))),
-        "  {file}: title_url not a web link "),
-    "tabs in cells": bad_table(lambda lines: text(changed(lines, "notes", lambda _: "a\tb")),
-                               "  {file}: rows longer than the header "),
+        "  {file}: title_url not a web link ",
+    ),
+    "tabs in cells": bad_table(
+        lambda lines: text(changed(lines, "notes", lambda _: "a\tb")), "  {file}: rows longer than the header "
+    ),
     "quotes that do not match": bad_table(unquoted, ": quotes that do not match"),
     "a column of the update": bad_table(
         lambda lines: text([[*lines[0], "coverage_from"], *([*line, "0"] for line in lines[1:])]),
-        "  {file}: it has a column coverage_from, which only the update may write"),
+        "  {file}: it has a column coverage_from, which only the update may write",
+    ),
     "another form: windows-1252": other_form("windows-1252"),
     "another form: UTF-16": other_form("UTF-16"),
     "another form: commas": other_form("commas"),

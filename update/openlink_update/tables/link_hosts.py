@@ -15,7 +15,10 @@ _EXPRESSION = re.compile(r"\{[+#./;?&]?([^}]*)\}")
 _ADDRESS = re.compile(r"https?://[/\\]*([^/\\?#]*)", re.I)
 _HOST = re.compile(r"[/\\]*([^/\\?#]*)")
 # What a template has before the address of a title's page, as links through a proxy do.
-_BEFORE = re.compile(r"(https?://[^{}]*?=)(?:(\{title_url\}|https?%3A)|\{\+title_url\}|https?://)", re.I)
+_BEFORE = re.compile(
+    r"(https?://[^{}]*?=)(?:(\{title_(?:url|page)\}|https?%3A)|\{\+title_(?:url|page)\}|https?://)", re.I
+)
+_COLUMN_OF = {"title_page": "title_url"}  # by a name that the update adds: the column whose addresses it has
 _TITLE = "publication_title"
 
 
@@ -43,7 +46,8 @@ class Templates:
         templates = _LINK.findall(rules.decode("utf-8", "replace"))
         authorities = [it[1] for it in map(_AUTHORITY.match, templates) if it]
         free = [it for it in authorities if "{+" in it or "{" in it and "." not in it.rpartition("}")[2]]
-        names = chain.from_iterable(map(_names_in, templates))
+        named = chain.from_iterable(map(_names_in, templates))
+        names = (_COLUMN_OF.get(name, name) for name in named)
         hosts = chain.from_iterable(map(_names_in, free))
         return cls(frozenset(names), frozenset(hosts), frozenset(_host(it) for it in authorities if "{" not in it))
 

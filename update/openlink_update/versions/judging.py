@@ -19,13 +19,13 @@ from openlink_update.tables.embargo import Embargo
 from openlink_update.tables.row_dates import NONE, date_in
 from openlink_update.tables.table import Table, cell
 from openlink_update.versions.program import Program
-from openlink_update.versions.served import names_in, path_of, tables_in
+from openlink_update.versions.served import names_in, path_of, rules_of, tables_in
 from openlink_update.versions.target_list import Target
 
 from openlink_update.slips.material import Material
 from openlink_update.slips.other_titles import OtherTitles
 from openlink_update.slips.slip_judge import SlipJudge
-from openlink_update.versions.allowed_words import ANY_OF_LINT, CAME, GONE, UP_TO
+from openlink_update.versions.allowed_words import ANY_OF_LINT, CAME, GONE, SAME, UP_TO, is_word_of_hosts
 from openlink_update.versions.undated_links import UndatedLinks
 
 _MOST_GONE = 10  # in 100
@@ -54,7 +54,7 @@ class _Change:
 
 def _limits_of(allowed: Collection[str]) -> _Limits:
     """The words of a target's line, each with the number up to which it allows a warning, or None if it has none."""
-    numbers = [text for text in sorted(allowed) if not host_judge.is_word(text)]
+    numbers = [text for text in sorted(allowed) if not is_word_of_hosts(text)]
     limits: _Limits = {text: None for text in numbers if not UP_TO.fullmatch(text)}
     return {**limits, **{it[1]: int(it[2]) for it in map(UP_TO.fullmatch, numbers) if it}}
 
@@ -221,7 +221,7 @@ class Judge:
             self._changes[target.name] = self._changes_between(old, parts, *before_and_now)
             came = _titles_of(self._changes[target.name][0])
             found += _reasons_of_came(len(set().union(*map(_titles_in, old))), len(came), limits)
-        found += self.hosts.reasons(target.name, target.allowed, limits.get(host_judge.SAME), old, list(parts.values()))
+        found += self.hosts.reasons(target.name, target.allowed, limits.get(SAME), old, list(parts.values()))
         return reasons + [f"{target.table}: {reason}" for reason in found]
 
     def _totals_of_slips(self, name: str, limits: Collection[str]) -> dict[str, int]:
@@ -263,7 +263,8 @@ class Judge:
         if has_rules and not reasons:
             known = [line for _, line in found]
             for part in parts:
-                lines = self._lines(target.rules, reasons, "lint", f"received/{target.name}.rules", path_of(part))
+                rules = rules_of(self._folder, target.name)
+                lines = self._lines(target.rules, reasons, "lint", rules, path_of(part))
                 found += [it for it in lines if it not in found and it[1] not in known]
         return found, reasons
 

@@ -4,6 +4,7 @@
     received/NAME.rules    the rule file (NAME.olk: the code file) and the files of the table as they came
     received/NAME.txt      (the second one NAME.txt.2)
     received/NAME.txt.filtered    what a filter gave for it, if the target has one
+    rules/NAME.rules       the rules behind a proxy, if the target has one: see proxies.py
     code/NAME.olk          the compiled rules
     tables/NAME.txt        the table as preparation makes it, with its moving walls and coverage to the day; NAME.2.txt,
                            .. are further parts
@@ -32,7 +33,7 @@ from collections.abc import Callable, Iterable, Iterator
 from pathlib import Path
 
 from openlink_update import run_notes, target_options
-from openlink_update.index import abbreviations, named_parts, title_index
+from openlink_update.index import abbreviations, named_parts, target_heads, title_index
 from openlink_update.index.title_groups import Title
 from openlink_update.input_files import InputFile
 from openlink_update.outcome import Failure, Refused, Unreadable
@@ -41,6 +42,7 @@ from openlink_update.rights.filters import Filter
 from openlink_update.rights.sandbox import no_filter
 from openlink_update.root_folder import RootFolder
 from openlink_update.run_notes import TargetState
+from openlink_update.rules import pages, proxies, shipped
 from openlink_update.shown_text import amount
 from openlink_update.slips import odd_rows, slip_judge
 from openlink_update.slips.material import Material
@@ -48,7 +50,7 @@ from openlink_update.tables import dropped_rows, row_changes
 from openlink_update.tables.preparation import Prepared
 from openlink_update.tables.table import Table
 from openlink_update.target_options import Options
-from openlink_update.versions import earlier_files, host_judge, shared_tables, undated_links
+from openlink_update.versions import earlier_files, host_judge, served, shared_tables, undated_links
 from openlink_update.versions.allowed_words import FEWER
 from openlink_update.versions.earlier_files import EarlierFiles
 from openlink_update.versions.judging import Judge
@@ -98,13 +100,13 @@ class _Files:
     @functools.cached_property
     def material(self) -> Material:
         """What slips are looked for in; without rows if the table cannot be prepared."""
+        rules, proxy = None if self.has_code else self.rules, self.options.proxy
+        unended = next(filter(None, map(odd_rows.unended_line, self.read)), "")
         try:
             it = self.prepared
         except Refused:
-            it = Prepared(Table((), []), [], [], 0, [], [])
-        unended = next(filter(None, map(odd_rows.unended_line, self.read)), "")
-        rules = None if self.has_code else self.rules
-        return Material(it.table, it.dropped, it.reversed, it.count, rules, self.options.proxy, unended)
+            return Material(Table((), []), [], [], 0, rules, proxy, unended)
+        return Material(it.table, it.dropped, it.reversed, it.count, rules, proxy, unended)
 
     @functools.cached_property
     def table_or_empty(self) -> Table:
@@ -121,11 +123,14 @@ def _material_of(files: _Files) -> Material:
 
 def _files_of(target: Target, filtered: Filter) -> _Files:
     """The files that the list names for a target. Refused if one of them cannot be read, or if its filter fails."""
-    reasons, sources = [*target.reasons], []
+    if target.reasons:
+        raise Refused([*target.reasons])
+    reasons, sources = [], []
     for number, path in enumerate((target.rules, *target.tables)):
         try:
             found = patterns.path_of(path, target.input.matches) if number else path
-            sources.append(target.input.file(found))
+            is_shipped = number == 0 and target.is_shipped
+            sources.append(shipped.file(path) if is_shipped else target.input.file(found))
         except OSError as fault:
             is_pattern = "*" in path and isinstance(fault, FileNotFoundError)
             reasons.append(f"{fault.filename or path}: {'no file has such a name' if is_pattern else fault.strerror}")
@@ -263,11 +268,12 @@ class Maker:
         self._write(earlier_files.NAME, self._earlier.text(self.names, self._today).encode())
         index = self._folder / "index"
         title_index.begin(index, has_list)
+        target_heads.write(index, ((name, self._rules(name)) for name in self.names))
         named_parts.write(index, ((name, (self._folder / f"code/{name}.olk").read_bytes()) for name in self.names))
 
     def make_index(self, has_list: bool) -> None:
         """Makes the index, which takes longest."""
-        offers = {name: self._judge.hosts.offer(name) for name in self.names}
+        offers = {name: self._judge.hosts.offer(name, self._options[name].proxy) for name in self.names}
         pairs = abbreviations.pairs_of(self._folder)
         self.titles = title_index.make(self._folder / "index", has_list, self.prepared_parts(), offers, pairs)
         for line in abbreviations.unknown(self._folder, self.titles):
@@ -353,6 +359,11 @@ class Maker:
         path.touch(_OF_THE_OWNER)
         path.write_bytes(data)
 
+    def _rules(self, name: str) -> bytes:
+        """The rule file of a target as it came; nothing if it is a code file."""
+        path = self._folder / f"received/{name}.rules"
+        return path.read_bytes() if path.exists() else b""
+
     def _put(self, target: Target, files: _Files) -> list[str]:
         """Writes the files of a target and compiles its rules. Returns why the program rejects them."""
         name = target.name
@@ -369,23 +380,43 @@ class Maker:
             prepared = files.prepared
         except Refused as refusal:
             return refusal.reasons
-        reasons = self._tables.put(target, prepared.table)
+        reasons = self._tables.put(target, prepared.table, pages.are_named(files.rules))
         self._earlier.put(name, self._prepared.put(name, prepared.table))
         if prepared.dropped:
             self._write(f"dropped/{name}.txt", prepared.dropped_table())
-        if files.has_code:
-            self._write(f"code/{name}.olk", files.rules)
-            return reasons + self._rejected(target.rules, "verify", f"code/{name}.olk")
-        return reasons + self._rejected(target.rules, "compile", rules, f"code/{name}.olk")
+        return reasons + (self._verified(target, files) if files.has_code else self._compiled(target, files))
+
+    def _verified(self, target: Target, files: _Files) -> list[str]:
+        """Why a code file cannot be used."""
+        code = f"code/{target.name}.olk"
+        self._write(code, files.rules)
+        faults = [f"{target.rules}: proxy: only rules can have one, and this is a code file"]
+        return self._rejected(target.rules, "verify", code) + (faults if files.options.proxy else [])
+
+    def _compiled(self, target: Target, files: _Files) -> list[str]:
+        """Compiles the rules of a target, with its proxy if it has one. Returns why they cannot be used."""
+        received, code = f"received/{target.name}.rules", f"code/{target.name}.olk"
+        reasons = self._rejected(target.rules, "compile", received, code)
+        if reasons:
+            return reasons
+        try:
+            rules = proxies.with_proxy(files.rules, files.options.proxy, files.prepared.table)
+        except Refused as refusal:
+            return [f"{target.rules}: {reason}" for reason in refusal.reasons]
+        if rules == files.rules:
+            return []
+        (self._folder / served.RULES).mkdir(exist_ok=True)
+        self._write(served.rules_behind(target.name), rules)
+        return self._rejected(target.rules, "compile", served.rules_behind(target.name), code)
 
     def _discard(self, name: str) -> None:
         """Removes what a target has in this version."""
         self._tables.discard(name)
-        received = (f"received/{file}" for file in _received_names(self._folder, name))
-        for place in (f"received/{name}.rules", f"received/{name}.olk", f"code/{name}.olk", f"dropped/{name}.txt"):
+        received = [f"received/{file}" for file in _received_names(self._folder, name)]
+        rules = [f"received/{name}.rules", f"received/{name}.olk", served.rules_behind(name), f"code/{name}.olk"]
+        for place in (*rules, f"dropped/{name}.txt", *received):
             (self._folder / place).unlink(missing_ok=True)
         for place in received:
-            (self._folder / place).unlink()
             (self._folder / f"{place}{_FILTERED}").unlink(missing_ok=True)
 
     def _rejected(self, path: str, *words: str) -> list[str]:
@@ -423,6 +454,7 @@ class Maker:
             self._report(f"{name}: new, {amount(len(table.rows), 'row')}")
         else:
             changes = [] if new.rules == old.rules else ["rules changed"]
+            changes += [] if new.options.proxy == old.options.proxy else ["proxy changed"]
             if new.read != old.read:
                 added, gone = self._moved = row_changes.changes(old.table_or_empty, table)
                 changes.append(f"{amount(added, 'row')} added, {gone} gone")

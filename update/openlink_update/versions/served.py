@@ -7,10 +7,13 @@ from collections.abc import Iterable, Iterator, Sequence
 from pathlib import Path
 
 from openlink_update.outcome import Failure, Refused
+from openlink_update.rules import pages
 from openlink_update.tables import coverage, parts, preparation
 from openlink_update.tables.registry import entries_of
 from openlink_update.tables.table import Table
 from openlink_update.versions.target_list import Target
+
+RULES = "rules"  # the folder of rules behind a proxy
 
 
 def names_in(version: str | Path) -> list[str]:
@@ -26,6 +29,17 @@ def targets_in(version: str | Path) -> list[str]:
 def path_of(part: str) -> str:
     """The path of a table below a version."""
     return f"tables/{part}.txt"
+
+
+def rules_behind(name: str) -> str:
+    """The path of a target's rules behind a proxy below a version, which has them if the target has one."""
+    return f"{RULES}/{name}.rules"
+
+
+def rules_of(version: Path, name: str) -> str:
+    """The path of the rules of a target below a version, as they are compiled."""
+    behind = rules_behind(name)
+    return behind if (version / behind).exists() else f"received/{name}.rules"
 
 
 def tables_in(version: Path, names: Iterable[str]) -> Iterator[Table]:
@@ -48,10 +62,11 @@ class Tables:
         self._places: dict[str, dict[str, Sequence[int]]] = {}  # by target and part
         self.lines: dict[str, list[str]] = {}  # by target: what was found while its table was made
 
-    def put(self, target: Target, prepared: Table) -> list[str]:
-        """Makes the table of a target from the prepared one. Returns why it cannot be used."""
+    def put(self, target: Target, prepared: Table, has_pages: bool = False) -> list[str]:
+        """Makes the table of a target from the prepared one, with the column of pages or without. Returns why it cannot
+        be used."""
         try:
-            table, lines = coverage.served(prepared, self._today)
+            table, lines = coverage.served(pages.added(prepared) if has_pages else prepared, self._today)
             data = table.to_bytes()
             places = parts.parts_of(target.name, table, len(data))
         except Refused as refusal:

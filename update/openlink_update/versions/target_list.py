@@ -1,7 +1,7 @@
 """The list of targets, targets.tsv: a line for each, in the order of the menu. A line has a name, a rule file, the
 files of its table, and its options with the words that allow warnings, the last two separated by semicolons; the last
-cell may be missing. Paths are relative to the folder of the list; those of tables may have *. Empty lines and lines that begin with
-# are skipped."""
+cell may be missing. In place of a rule file, `provider:NAME` names rules that ship: see shipped.py. Paths are relative
+to the folder of the list; those of tables may have *. Empty lines and lines that begin with # are skipped."""
 import dataclasses
 import os
 import re
@@ -9,6 +9,7 @@ import re
 from openlink_update.input_files import InputFolder, Line
 from openlink_update import target_options
 from openlink_update.outcome import Failure, Refused
+from openlink_update.rules import shipped
 from openlink_update.tables import parts
 from openlink_update.target_options import Options
 from openlink_update.versions import allowed_words
@@ -27,6 +28,7 @@ class Target:
     options: Options = target_options.NONE
     reasons: tuple[str, ...] = ()  # why its line keeps the old files
     input: InputFolder = dataclasses.field(default=InputFolder("."), compare=False)  # that it comes from
+    is_shipped: bool = False  # whether the rules are among those that ship, and not in the input
 
     @property
     def table(self) -> str:
@@ -70,7 +72,20 @@ def _target_of(line: Line, folder: InputFolder, place: str) -> Target:
         raise Failure(f"{place}: no table")
     options, allowed, reasons = _fourth_cell(cells[3] if len(cells) == 4 else "", place)
     tables = tuple(_joined(folder, path) for path in paths)
-    return Target(name, _joined(folder, rules), tables, allowed, options, reasons, folder)
+    path, is_shipped, fault = _rules_of(rules, folder)
+    reasons += (f"{place}: {fault}",) if fault else ()
+    return Target(name, path, tables, allowed, options, reasons, folder, is_shipped)
+
+
+def _rules_of(cell: str, folder: InputFolder) -> tuple[str, bool, str]:
+    """The path of the rules that a cell names, whether they are among those that ship, and what is wrong with it."""
+    name = cell.removeprefix(shipped.WORD).strip()
+    if not cell.startswith(shipped.WORD):
+        return _joined(folder, cell), False, ""
+    fault = shipped.fault_of(name, folder)
+    if fault or shipped.is_own(name, folder):
+        return _joined(folder, shipped.own_path(name)), False, fault
+    return shipped.path_of(name), True, ""
 
 
 def _fourth_cell(cell: str, place: str) -> tuple[Options, frozenset[str], tuple[str, ...]]:

@@ -1,0 +1,147 @@
+"""Lines of targets.tsv that name rules that ship, and the library's own in their place."""
+from __future__ import annotations
+
+import os
+from pathlib import Path
+
+from fixtures import needs
+from fixtures.cases import Case
+from fixtures.made_titles import issn
+from fixtures.made_versions import Weeks
+from fixtures.made_versions import table
+from openlink_update import places
+from openlink_update.rules import shipped
+
+ROWS = table(("A", issn(1), "", "1990", "", "https://press.example.com/a", "t1"))
+OWN = "rule\nlink https://own.example.org/{print_identifier}\n"
+QUERY = f"rft.issn={issn(1)}"
+
+
+class ShippedCopy:
+    """Another folder of rules that ship, while it is open."""
+
+    def __init__(self, folder: str) -> None:
+        self.folder = Path(folder)
+
+    def __enter__(self) -> ShippedCopy:
+        self.folder.mkdir()
+        self._before, shipped.PROVIDERS = shipped.PROVIDERS, self.folder
+        return self
+
+    def __exit__(self, *_: object) -> None:
+        shipped.PROVIDERS = self._before
+
+
+def line(weeks: Weeks, rules: str) -> None:
+    weeks.write("press.txt", ROWS)
+    weeks.write("targets.tsv", f"press\t{rules}\tpress.txt\n".encode())
+
+
+@needs.program()
+class Lines(Case):
+    def test_taken(self) -> None:
+        """The rules that ship, then the library's own, then those that ship again; and better ones with an upgrade."""
+        with Weeks() as weeks, ShippedCopy(weeks.path("shipped")):
+            (Path(weeks.folder) / "shipped/press-x.rules").write_text("rule\nlink https://one.example.org/\n")
+            line(weeks, "provider:press-x")
+            self.expect(
+                "new",
+                (weeks.make()[0], weeks.menu(QUERY)),
+                ("press: new, 1 row", {"press": "https://one.example.org/"}),
+            )
+            (Path(weeks.folder) / "shipped/press-x.rules").write_text("rule\nlink https://two.example.org/\n")
+            self.expect(
+                "an upgrade",
+                (weeks.make(), weeks.menu(QUERY)),
+                (["press: rules changed"], {"press": "https://two.example.org/"}),
+            )
+            os.mkdir(weeks.path("input", "providers"))
+            weeks.write("providers/press-x.rules", OWN.encode())
+            self.expect(
+                "her own",
+                (weeks.make(), weeks.menu(QUERY)),
+                (["press: rules changed"], {"press": f"https://own.example.org/{issn(1)}"}),
+            )
+            os.remove(weeks.path("input", "providers", "press-x.rules"))
+            self.expect(
+                "again",
+                (weeks.make(), weeks.menu(QUERY)),
+                (["press: rules changed"], {"press": "https://two.example.org/"}),
+            )
+
+    def test_links(self) -> None:
+        """Her own is opened by the one door: a link, a pipe or a folder keeps the target's old rules."""
+        for name, make in (
+            ("a link", lambda path: os.symlink("/etc/passwd", path)),
+            ("a link that leads to the shipped ones", lambda path: os.symlink(places.PROVIDERS / "doi.rules", path)),
+            ("a pipe", os.mkfifo),
+            ("a folder", os.mkdir),
+        ):
+            with Weeks() as weeks:
+                line(weeks, "provider:doi")
+                weeks.make()
+                before = weeks.read("received/press.rules")
+                os.mkdir(weeks.path("input", "providers"))
+                make(weeks.path("input", "providers", "doi.rules"))
+                said = weeks.make()
+                self.expect(f"{name}: kept", said[0], "press: kept its old rules and table")
+                self.expect(f"{name}: why", "providers/doi.rules" in said[1])
+                self.expect(f"{name}: the rules", weeks.read("received/press.rules"), before)
+
+    def test_unknown(self) -> None:
+        """A line for a name that none have: it says which are like it, or where to look."""
+        for name, hint in (
+            ("wily", "did you mean provider:wiley"),
+            ("elsvier", "did you mean provider:elsevier"),
+            ("qqqqqqqq", f"{places.PROVIDERS} has those that ship"),
+            ("../../etc/passwd", f"{places.PROVIDERS} has those that ship"),
+            ("", f"{places.PROVIDERS} has those that ship"),
+            ("WILEY", None),
+            ("x" * 5000, None),
+        ):
+            with Weeks() as weeks:
+                line(weeks, f"provider:{name}")
+                said = weeks.make()
+                self.expect(f"{name[:20]}: left out", said[0], "press: left out, since it has no old files")
+                place = f"  {weeks.path('input', 'targets.tsv')}: line 1: no rules are provider:{name[:64]}: "
+                self.expect(f"{name[:20]}: why", (said[1].startswith(place), len(said[1]) < 500), (True, True))
+                if hint is not None:
+                    self.expect(f"{name[:20]}: the hint", said[1].removeprefix(place), hint)
+
+    def test_all(self) -> None:
+        """Each of the rules that ship can be named."""
+        names = sorted(path.stem for path in places.PROVIDERS.iterdir())
+        with Weeks() as weeks:
+            weeks.write("press.txt", ROWS)
+            weeks.write("targets.tsv", "".join(f"t-{it}\tprovider:{it}\tpress.txt\n" for it in names).encode())
+            weeks.make()
+            self.expect("all of them", [it.removeprefix("t-") for it in weeks.maker.names], names)
+            self.expect("none is left out", weeks.maker.left_out, [])
+
+    def test_pages(self) -> None:
+        """A column that only the update may write is refused, and a table whose rules do not name it has none."""
+        with Weeks() as weeks:
+            weeks.week("press", ROWS, rules=OWN)
+            self.expect("none", "title_page" in weeks.rows("press")[0], False)
+            weeks.week("press", ROWS, rules="rule\nlink {+title_page}\n")
+            header, rows = weeks.rows("press")
+            self.expect("the page", rows[0][header.index("title_page")], "https://press.example.com/a")
+            brought = ROWS.replace(b"title_id", b"title_page")
+            wanted = ["it has a column title_page, which only the update may write"]
+            self.expect("brought", weeks.week("press", brought, rules="rule\nlink {+title_page}\n"), wanted)
+
+    def test_addresses(self) -> None:
+        """The column has only web addresses, and is never empty; the judge of hosts knows where it leads."""
+        cells = ("https://a.example/1", " HTTP://b.example/2 ", "", "www.c.example", "javascript:alert(1)", "none:")
+        rows = [(f"T{at}", issn(at + 1), "", "1990", "", text, f"t{at}") for at, text in enumerate(cells)]
+        rules = "rule\nlink {+title_page}\n"
+        with Weeks() as weeks:
+            weeks.week("press", table(*rows), "title_url not a web link", rules=rules)
+            header, served = weeks.rows("press")
+            found = [row[header.index("title_page")] for row in served]
+            self.expect(
+                "the cells", found, ["https://a.example/1", "HTTP://b.example/2", "none:", "none:", "none:", "none:"]
+            )
+            evil = [(*row[:5], row[5].replace("a.example", "evil.example"), row[6]) for row in rows]
+            reason = weeks.week("press", table(*evil), "title_url not a web link", rules=rules)
+            self.expect("a new host", reason[0].startswith("new host evil.example in 1 of 6 rows"))
