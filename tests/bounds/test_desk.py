@@ -1,4 +1,4 @@
-"""The numbers that bound the desk's pages and the records of runs: the last good value of each, and the first beyond."""
+"""The numbers that bound the desk's pages and the records of runs: the last good value of each, and the next one."""
 from __future__ import annotations
 
 import itertools
@@ -87,7 +87,9 @@ class Weeks(Case):
         def by_month(count: int) -> year._Year:
             return of(*((month(it), "requests", "", 1) for it in range(count)))
 
-        self.expect("months", [(len(by_month(it).last.months), len(by_month(it).years)) for it in (12, 13)], [(12, 0), (12, 1)])
+        self.expect(
+            "months", [(len(by_month(it).last.months), len(by_month(it).years)) for it in (12, 13)], [(12, 0), (12, 1)]
+        )
         self.expect_both("years", 10, lambda count: len(by_month(12 + count * 12).years))
 
         def names(count: int) -> year._Names:
@@ -124,12 +126,22 @@ class State(Case):
         for name, most, at in (("that is over", 300, 1), ("of the last two", 5000, 4)):
             for beyond in (0, 1):
                 with MadeDesk() as desk:
-                    lines = [LINE.format(month=month(it), found="1/1", targets="t", source="s") for it in range(6) if it != at]
-                    lines += [LINE.format(month=month(at), found="1/1", targets="t", source=f"s{it}") for it in range(most + beyond)]
+                    lines = [
+                        LINE.format(month=month(it), found="1/1", targets="t", source="s")
+                        for it in range(6)
+                        if it != at
+                    ]
+                    lines += [
+                        LINE.format(month=month(at), found="1/1", targets="t", source=f"s{it}")
+                        for it in range(most + beyond)
+                    ]
                     desk.log("openlink.log.1", lines, 1)
                     rows = [row for row in self.counted(desk).stored if row[:2] == (month(at), "source")]
-                    self.expect(f"a month {name}, {most + beyond}", (len(rows), "(others)" in {row[2] for row in rows}),
-                                (most + beyond, bool(beyond)))
+                    self.expect(
+                        f"a month {name}, {most + beyond}",
+                        (len(rows), "(others)" in {row[2] for row in rows}),
+                        (most + beyond, bool(beyond)),
+                    )
 
     def test_months(self) -> None:
         for count in (120, 121):
@@ -166,7 +178,9 @@ class State(Case):
             (desk.before / "lint.tsv").write_text(text)
             for most, wanted in ((len(text), 2), (text.index("\tline 2"), 1)):
                 with mock.patch.object(lint_lines, "_MOST_BYTES", most):
-                    self.expect(f"{most} bytes of lint", len(lint_lines._read(desk.before / "lint.tsv")["t"].lines), wanted)
+                    self.expect(
+                        f"{most} bytes of lint", len(lint_lines._read(desk.before / "lint.tsv")["t"].lines), wanted
+                    )
 
 
 class Versions(Case):
@@ -208,9 +222,14 @@ class Versions(Case):
                 with mock.patch.object(time, "monotonic", return_value=time.monotonic() + seconds):
                     self.expect(f"after {seconds} seconds", len(lint.of(target)), wanted)
             rules = RULES.splitlines() * 2
-            beside = lint_lines.beside(rules, ["rule 2, guard 2: x", "rule 2, link: x", "rule 1 always", "rule 1234567 x", "x"])
-            self.expect("places", beside, ({6: ["rule 2, guard 2: x"], 7: ["rule 2, link: x"], 0: ["rule 1 always"]},
-                                           ["rule 1234567 x", "x"]))
+            beside = lint_lines.beside(
+                rules, ["rule 2, guard 2: x", "rule 2, link: x", "rule 1 always", "rule 1234567 x", "x"]
+            )
+            self.expect(
+                "places",
+                beside,
+                ({6: ["rule 2, guard 2: x"], 7: ["rule 2, link: x"], 0: ["rule 1 always"]}, ["rule 1234567 x", "x"]),
+            )
 
 
 class Records(Case):
@@ -267,7 +286,9 @@ class Records(Case):
             self.made(desk.top)
             self.expect("kept", len(list(folder.glob("*.update.json"))), 12)
             for size in (10, 11):
-                (folder / f"20270101T000000Z.{'w' * size}.json").write_text('{"work": "w", "begun": "20260101T000000Z"}')
+                (folder / f"20270101T000000Z.{'w' * size}.json").write_text(
+                    '{"work": "w", "begun": "20260101T000000Z"}'
+                )
             names = [record.work for record in run_records.records_in(desk.top)]
             self.expect("names of work", names.count("w"), 1)
 

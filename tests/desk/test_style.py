@@ -1,5 +1,5 @@
-"""The colours of the desk: texts and bars stand out from what is behind them, and the two parts of a bar stay apart, for
-the colour-blind and in print too."""
+"""The colours of the desk: texts and bars stand out from what is behind them, and the two parts of a bar stay apart,
+for the colour-blind and in print too."""
 from __future__ import annotations
 
 import re
@@ -52,8 +52,15 @@ class Style(Case):
     def test_contrasts(self) -> None:
         for name, colours in schemes().items():
             self.expect(f"{name}: colours", len(colours), 9)
-            for text, behind, least in (("ink", "bad", 4.5), ("link", "bad", 4.5), ("ink", "paper", 4.5), ("part-a", "paper", 3),
-                                        ("edge", "paper", 3), ("part-a", "part-b", 2.5), ("edge", "part-b", 2)):
+            for text, behind, least in (
+                ("ink", "bad", 4.5),
+                ("link", "bad", 4.5),
+                ("ink", "paper", 4.5),
+                ("part-a", "paper", 3),
+                ("edge", "paper", 3),
+                ("part-a", "part-b", 2.5),
+                ("edge", "part-b", 2),
+            ):
                 ratio = contrast(colours[text], colours[behind])
                 self.expect(f"{name}: {text} on {behind}: {ratio:.2f}", ratio >= least, True)
 

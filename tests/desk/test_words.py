@@ -1,5 +1,5 @@
-"""The words of the desk: each language of the reader's page has all of them, with the places for values, and none is left
-in English; and the templates use each."""
+"""The words of the desk: each language of the reader's page has all of them, with the places for values, and none is
+left in English; and the templates use each."""
 from __future__ import annotations
 
 import re
