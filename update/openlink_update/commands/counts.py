@@ -109,7 +109,7 @@ def _counts(arguments: _Arguments) -> int:
         return _WRONG
     logs, reports = arguments.logs, list(arguments.reports)
     if reports:
-        reports += filter(_begins_as_report, logs)
+        reports = list(dict.fromkeys([*reports, *filter(_begins_as_report, logs)]))
         logs = [name for name in logs if name not in reports]
     faults: list[str] = []
     cost = _read(arguments.cost, costs.costs_in, costs.MOST_BYTES, faults) if arguments.cost else None
