@@ -23,7 +23,6 @@ _USAGE_TEXT = """\
 usage: openlink-counts [--format tsv|json|xlsx] [--cost FILE] [--counter FILE].. [FILE..]
        openlink-counts --wanted [--index FOLDER] [FILE..]
 """
-_START = 200  # bytes in which a report begins
 _Read = TypeVar("_Read")
 
 
@@ -146,7 +145,7 @@ def _add_fault(line: str, faults: list[str]) -> None:
 
 def _begins_as_report(name: str) -> bool:
     with open(name, "rb") as file:
-        return counter_reports.is_report(file.read(_START))
+        return counter_reports.is_report(file.read(counter_reports.START))
 
 
 def _reports(names: Iterable[str], faults: list[str]) -> list[list[counter_reports.Title]]:
