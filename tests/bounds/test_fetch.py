@@ -18,7 +18,7 @@ from fixtures.provider import Step
 from fixtures.provider import cut
 from fixtures.provider import reply
 from openlink_update.fetch import downloads
-from openlink_update.fetch import fetch_state
+from openlink_update.fetch import fetch_folder
 from openlink_update.fetch import fetching
 from openlink_update.fetch import hosts
 from openlink_update.fetch import sources
@@ -221,7 +221,7 @@ class Numbers(Case):
     def test_names_that_servers_give(self) -> None:
         """A name of 1,000 characters is sent back, one more is not."""
         for count, wanted in ((1000, True), (1001, False)):
-            self.expect(f"{count}", fetch_state._name_in({"etag": "x" * count}, "etag") is not None, wanted)
+            self.expect(f"{count}", fetch_folder._name_in({"etag": "x" * count}, "etag") is not None, wanted)
 
     def test_bytes_of_the_list(self) -> None:
         """sources.tsv has a megabyte at most."""
@@ -248,8 +248,8 @@ class Numbers(Case):
                 inputs = InputFolder(f"{folder}/input")
                 run = fetching._Fetch(inputs, FetchFolder(inputs), lines.append, 600, 10)
                 source = Source("table.txt", "https://press.example.com/", every=every)
-                run._state = fetch_state.State(inputs, FetchFolder(inputs), None, today)
-                run._state._entries["table.txt"] = fetch_state._Entry(changed=str(today - datetime.timedelta(days)))
+                run._state = fetch_folder.State(inputs, FetchFolder(inputs), None, today)
+                run._state._entries["table.txt"] = fetch_folder._Entry(changed=str(today - datetime.timedelta(days)))
                 run._say([source], 0)
             self.expect(
                 f"{days} days, fetched every {every}", f"table.txt: not changed for {days} days" in lines, wanted

@@ -173,6 +173,9 @@ class Lookups(SiteWithLookups):
             self.expect(f"{time_of} time: no cookie", page.headers["Set-Cookie"], None)
         asked = [number for number in self.services.asked.elements() if number.startswith("copy:")]
         self.expect("what is asked", (self.services.asked["10.5555/commands"], asked), (1, []))
+        server = int(re.findall(r'\$openlink_lookup "http://127\.0\.0\.1:(\d+)"', self.site.read("openlink.conf"))[0])
+        reply = self.site.get("/doi?id=10.5555/charset", port=server)
+        self.expect("the form of a text", (reply.status, reply.headers["Content-Type"]), (200, "application/json"))
 
     def test_endless(self) -> None:
         """A reply that does not end, whatever it says of its length: the page comes, nginx ends the connection, and the
@@ -241,6 +244,20 @@ class Lookups(SiteWithLookups):
 
         # On a busy machine the first of twenty can run out of time before the last one comes.
         self.expect("asked at once", best_of_three(not_twenty), None)
+
+    def test_a_service_that_seeps(self) -> None:
+        """A reply that says its length is read to its end, however slowly it comes. Those of a service take its own
+        look-ups, and no other's; the pages come without it."""
+        self.addCleanup(self.services.let_go.set)
+        self.switch_on(burst=f"burst={READERS} nodelay;")
+        seconds = self.ask_at_once("seeping")
+        self.expect(f"the pages come, in {seconds:.1f} s", seconds < patience(10))
+        self.expect("those that are read on", wait_until(lambda: self.services.seeping == 20))
+        self.expect("no other of this service", ALONE in self.site.get("/find?id=doi:10.5555/beside1").text)
+        self.expect("it was not asked", self.services.asked["10.5555/beside1"], 0)
+        self.expect("another service", FULL_TEXT in self.targets("id=pmid:99990006"))
+        self.services.let_go.set()
+        self.expect("the service again", wait_until(lambda: FULL_TEXT in self.targets("id=doi:10.5555/beside1")))
 
     def test_certificate_of_a_stranger(self) -> None:
         self.switch_on(certificate="/etc/ssl/certs/ca-certificates.crt")

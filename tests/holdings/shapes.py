@@ -187,17 +187,23 @@ FILES: dict[str, tuple[str | bytes, str, list[str]]] = {
     "a table without identifiers' columns": (
         "publication_title|title_url|notes\nA|b|c\n",
         "publication_title|title_url|notes\nA|b|c\n",
-        [],
+        ['no column has an ISSN or ISBN or a date; the file has: "publication_title", "title_url", "notes"'],
     ),
     "a table of own columns": (
         "print_identifier|shelf\n2901-0012| A 7\n",
         "print_identifier|shelf\n2901-0012|A 7\n",
-        ["spaces at the ends removed: 1 cell"],
+        [
+            "spaces at the ends removed: 1 cell",
+            'no column has a title or a date; the file has: "print_identifier", "shelf"',
+        ],
     ),
     "two names below a line": (
         "Report\npublication_title|print_identifier\nA|2901-0012\n",
         "Report\npublication_title|print_identifier\nA|2901-0012\n",
-        [],
+        [
+            "no column has a title or an ISSN or ISBN or a date; the file has: "
+            '"publication_title", "print_identifier"'
+        ],
     ),
     "cells after the last column": (f"{PLAIN[:-1]}|more\n", f"{PLAIN[:-1]}|more\n", []),
     "short rows": (f"{COLUMNS}\nTides|2901-0012\n", f"{COLUMNS}\nTides|2901-0012\n", []),

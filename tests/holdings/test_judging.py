@@ -106,7 +106,7 @@ class Judging(Case):
                 "in the other column",
                 rows(0, 20),
                 [(title, "", number, *rest) for title, number, _, *rest in rows(0, 20)],
-                "",
+                "no numbers left in a column up to 100%",
                 [],
             ),
             (
@@ -150,8 +150,8 @@ class Judging(Case):
                 most = allowed.split(" ")[-1] or 2
                 reasons = (
                     [
-                        f"{words}: {count} of 100 rows, and {most} may be, the first with 1990 and 1989-12-31; "
-                        f"to allow it: {words} up to {count}"
+                        f'{words}: {count} of 100 rows, and {most} may be, the first "1990 and 1989-12-31"; '
+                        f"to allow it: {words} up to {count}%"
                     ]
                     if count
                     else []
@@ -184,7 +184,7 @@ class Judging(Case):
             self.expect("above it", weeks.week("press", bad(41), f"{words} up to 40"), more(41, 40))
         with Weeks() as weeks:
             self.expect("the first number", weeks.week("press", bad(3), words), [])
-            self.expect("as many", weeks.week("press", bad(3) + b"", f"{words}; rows 0"), [])
+            self.expect("as many", weeks.week("press", bad(3) + b"", f"{words}; rows"), [])
             self.expect("fewer", weeks.week("press", bad(1), words), [])
             self.expect("as many as first", weeks.week("press", bad(3), words), [])
             self.expect("more", weeks.week("press", bad(4), words), more(4, 3))

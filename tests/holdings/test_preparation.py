@@ -43,7 +43,14 @@ DATES = {
     "15/12/2004": "2004-12-15",
     "12/15/2004": "2004-12-15",
     "3/1/1995": "1995",
-    "1.3.1995": "1995",
+    "1.3.1995": "1995-03-01",
+    "01.04.1995": "1995-04-01",
+    "1. 4. 1995": "1995-04-01",
+    "12.15.1995": "1995-12-15",
+    "30.02.1995": "1995-02",
+    "01.04.1995 00:00": "1995-04-01",
+    "13-3-1995": "1995-03-13",
+    "3-4-1995": "1995",
     "13.3.1995": "1995-03-13",
     "3/3/2005": "2005-03-03",
     "30/02/2004": "2004-02",
@@ -67,6 +74,8 @@ DATES = {
     "200503": "200503",
     "01/02/95": "01/02/95",
     "Dec-04": "Dec-04",
+    "01.02.95": "01.02.95",
+    "95-02-01": "95-02-01",
     "38412": "38412",
     "-": "-",
     "unknown": "unknown",
@@ -95,9 +104,9 @@ REFUSED: dict[str, tuple[str | bytes, str]] = {
         zipped({"a": PLAIN, "b": PLAIN}),
         "a zip file with 2 members: name one by `member PATTERN` in sources.tsv",
     ),
-    "a spreadsheet": (
+    "a spreadsheet without XML": (
         zipped({"[Content_Types].xml": "x", "xl/workbook.xml": "x"}),
-        "a spreadsheet: save it as text with tabs",
+        "a spreadsheet whose XML is cut short or damaged",
     ),
     "UTF-16 that is cut short": (tabs(PLAIN).encode("utf-16")[:-1], "UTF-16 that is cut short or damaged"),
     "UTF-16 without its mark": (
@@ -154,7 +163,7 @@ class Preparation(Case):
     def test_dates(self) -> None:
         for came, served in DATES.items():
             self.expect(f"the date {came!r}", prepare(of_rows(row(first=came)))[0], tabs(of_rows(row(first=served))))
-        changed = [row(first="15/12/2004", last="Dec 2005"), row(first="3/1/1995", last="2001")]
+        changed = [row(first="15 Dec 2004", last="Dec 2005"), row(first="3/1/1995", last="2001")]
         self.expect(
             "what is said of dates",
             prepare(of_rows(*changed))[1],

@@ -44,6 +44,7 @@ class Replies(ProvidersCase):
         write("table.gz", gzip.compress(TABLE))
         write("cut.gz", gzip.compress(TABLE)[:-20])
         write("one.zip", zipped({"Press_2026-11-01.txt": TABLE}))
+        write("both.zip", zipped({"a.tsv": TABLE, "b.tsv": TABLE}))
         write("two.zip", zipped({"readme.txt": b"read me", "Press_2026-11-01.tsv": TABLE}))
         write("cut.zip", zipped({"Press_2026-11-01.txt": TABLE})[:-30])
         write("empty.txt", b"")
@@ -82,7 +83,7 @@ class Replies(ProvidersCase):
             "least": ("/table.txt\tleast 3 rows", "2 rows, and at least 3 must be there"),
             "cut-gz": ("/cut.gz", "a gzip file that is cut short or damaged"),
             "cut-zip": ("/cut.zip", "a zip file that is cut short, damaged or encrypted"),
-            "two-zip": ("/two.zip", "a zip file with 2 members: name one by `member PATTERN` in sources.tsv"),
+            "two-zip": ("/both.zip", "a zip file with 2 members: name one by `member PATTERN` in sources.tsv"),
             "no-member": ("/two.zip\tmember *.csv", "a zip file with 0 members that fit *.csv"),
         }
         with Input(self.authority) as folder:

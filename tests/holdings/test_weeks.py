@@ -7,6 +7,7 @@ import os
 
 from fixtures import needs
 from fixtures.cases import Case
+from fixtures.made_titles import issn
 from fixtures.updates import Library
 from fixtures.updates import without_columns
 from holdings.shapes import COLUMNS
@@ -36,7 +37,7 @@ def name_of(case: str) -> str:
 
 
 def many_rows(lost: int = 0) -> str:
-    rows = [row(f"Title {number}", "" if number < lost else f"{number:07}0", "") for number in range(WHOLE)]
+    rows = [row(f"Title {number}", "" if number < lost else issn(number), "") for number in range(WHOLE)]
     return of_rows(*rows)
 
 

@@ -7,7 +7,7 @@ from typing import Any
 
 from fixtures.cases import Case
 from openlink_update.received import archives
-from openlink_update.received import headers
+from openlink_update.received import column_names
 from openlink_update.tables import preparation
 
 
@@ -54,26 +54,26 @@ class Work(Case):
 
     def test_spelled(self) -> None:
         """A header with one name in another spelling again and again, and then as the standard has it."""
-        names = headers.NAMES
-        headers.NAMES = {spelling: Text(name) for spelling, name in names.items()}
+        names = column_names.NAMES
+        column_names.NAMES = {spelling: Text(name) for spelling, name in names.items()}
         try:
             self.expect_linear(
                 "names of columns",
-                headers.spelled,
+                column_names.spelled,
                 lambda size: ([*["Publication Title"] * size, "publication_title"],),
                 500,
             )
             self.expect_linear(
                 "different names",
-                headers.spelled,
+                column_names.spelled,
                 lambda size: ([*(f"x{number}" for number in range(size)), *["Title URL"] * size],),
                 500,
             )
         finally:
-            headers.NAMES = names
+            column_names.NAMES = names
         self.expect(
             "the first of several spellings gets the name",
-            headers.spelled(["Title URL", "TITLE_URL", "x", "notes"]),
+            column_names.spelled(["Title URL", "TITLE_URL", "x", "notes"]),
             ["title_url", "TITLE_URL", "x", "notes"],
         )
 

@@ -26,7 +26,8 @@ CONTAINER = {
     "volumeMounts": [{"name!": LABEL, "mountPath!": re.compile(r"/.+"), "readOnly": bool, "subPath": str}],
 }
 POD = {
-    "securityContext": {"seccompProfile": {"type!": ["RuntimeDefault"]}},
+    "securityContext": {"runAsNonRoot": bool, "runAsUser": int, "runAsGroup": int,
+                        "seccompProfile": {"type!": ["RuntimeDefault"]}},
     "automountServiceAccountToken": bool, "enableServiceLinks": bool, "terminationGracePeriodSeconds": int,
     "topologySpreadConstraints": [{"maxSkew!": int, "topologyKey!": KEY, "labelSelector": SELECTOR,
                                    "whenUnsatisfiable!": re.compile("DoNotSchedule|ScheduleAnyway")}],

@@ -17,7 +17,7 @@ from fixtures import yaml_files
 from machines import objects
 
 FOLDER, SITE = "packaging/kubernetes", "front_door/http.conf"
-CONTAINERFILE, START = "packaging/container/Containerfile", "packaging/container/start"
+START = "packaging/container/start"
 UNITS = {"": 1, "k": 10 ** 3, "M": 10 ** 6, "G": 10 ** 9, "Ki": 2 ** 10, "Mi": 2 ** 20, "Gi": 2 ** 30}
 WRITTEN = {"/run", "/var/lib/nginx"}  # by the script `start` and by nginx
 TIMES, WORKER_MB = 5, 60  # of the tables' bytes, for a process; the most that a worker of nginx had
@@ -206,8 +206,8 @@ def is_json(text):
 def faults_of_container(it, site):
     """Its ports, its health page, and its memory."""
     ports = [port["containerPort"] for port in it.get("ports", ())]
-    exposed = [int(port) for port in re.findall(r"^EXPOSE (\d+)", text_of(CONTAINERFILE), re.M)]
-    lines = [] if ports == site.listens == exposed else [f"ports {ports}, the site {site.listens}, the image {exposed}"]
+    lines = [] if ports == site.listens else [f"ports {ports}, the site {site.listens}"]
+    lines += [f"port {port} needs a right of root" for port in ports if port < 1024]
     page = re.search(r"^\s*listen (127\.0\.0\.1:\d+);", text_of(SITE), re.M)[1]
     for name in ("startupProbe", "readinessProbe", "livenessProbe"):
         probe = it.get(name, {"exec": {"command": [""]}})
@@ -252,13 +252,16 @@ def faults_of_version(pod):
 def faults_of_rights(pod):
     """What the pod may do and need not; and what it writes beside its root, which is for reading alone."""
     lines = [] if pod.get("automountServiceAccountToken") is False else ["the pod has a token of the cluster"]
-    if pod.get("securityContext", {}).get("seccompProfile") != {"type": "RuntimeDefault"}:
+    of_pod = pod.get("securityContext", {})
+    if of_pod.get("seccompProfile") != {"type": "RuntimeDefault"}:
         lines.append("the pod may make all system calls")
+    if of_pod.get("runAsNonRoot") is not True or not of_pod.get("runAsUser") or not of_pod.get("runAsGroup"):
+        lines.append("the pod may run as root")
     for it in (*pod["initContainers"], *pod["containers"]):
         rights = it.get("securityContext", {})
         if not rights.get("readOnlyRootFilesystem") or rights.get("allowPrivilegeEscalation") is not False:
             lines.append(f"{it['name']} may write its root, or gain rights")
-        if rights.get("capabilities", {}).get("drop") != ["ALL"]:
+        if rights.get("capabilities") != {"drop": ["ALL"]} or rights.get("runAsNonRoot") is False:
             lines.append(f"{it['name']} keeps rights of root")
     written = {it["mountPath"] for it in pod["containers"][0]["volumeMounts"] if not it.get("readOnly")}
     return lines + ([] if written == WRITTEN else [f"the container writes to {sorted(written)}"])
@@ -279,7 +282,8 @@ def edited(old, new, name="base/deployment.yaml"):
 # Mistakes, each with a part of the line that names it.
 MISTAKES = [
     (("name: openlink-site\n", "name: openlink-sites\n"), "there is no ConfigMap openlink-sites"),
-    (("containerPort: 80\n", "containerPort: 8080\n"), "ports [8080], the site [80]"),
+    (("containerPort: 8080\n", "containerPort: 80\n"), "ports [80], the site [8080]"),
+    (("containerPort: 8080\n", "containerPort: 80\n"), "port 80 needs a right of root"),
     (("- http://127.0.0.1:8079/health", "- http://127.0.0.1:8078/health"), "startupProbe does not ask"),
     (("readinessProbe:", "readynessProbe:"), "readynessProbe is unknown"),
     (("              readOnly: true\n", ""), "the version is not mounted for reading alone"),
@@ -296,7 +300,15 @@ MISTAKES = [
     (("policy/v1", "policy/v1beta1", "base/disruption-budget.yaml"), "'policy/v1beta1' has another form"),
     (("  - service.yaml\n", "", "base/kustomization.yaml"), "there is no Service"),
     (("      - openlink.conf", "      - targets.json", "base/kustomization.yaml"), "no ConfigMap has openlink.conf"),
-    (("listen 80;", "listen 8080;", "base/openlink.conf"), "the site [8080]"),
+    (("listen 8080;", "listen 80;", "base/openlink.conf"), "the site [80]"),
+    (("runAsNonRoot: true", "runAsNonRoot: false"), "the pod may run as root"),
+    (("runAsUser: 10001", "runAsUser: 0"), "the pod may run as root"),
+    (("        runAsGroup: 10001\n", ""), "the pod may run as root"),
+    (("                - ALL\n          volumeMounts:\n            - name: version\n              mountPath: /etc/openlink\n"
+      "              readOnly",
+      "                - ALL\n              add:\n                - KILL\n          volumeMounts:\n"
+      "            - name: version\n              mountPath: /etc/openlink\n              readOnly"),
+     "openlink keeps rights of root"),
     (("automountServiceAccountToken: false", "automountServiceAccountToken: true"), "a token of the cluster"),
     (("        seccompProfile:\n          type: RuntimeDefault\n", "        seccompProfile: {}\n"), "type is missing"),
     (("readOnlyRootFilesystem: true", "readOnlyRootFilesystem: false"), "version may write its root"),

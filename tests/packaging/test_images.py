@@ -39,19 +39,60 @@ class Images(Case):
     def test_the_command_of_an_operator_gives_the_rights_of_the_pods(self) -> None:
         with open("packaging/kubernetes/base/deployment.yaml", encoding="utf-8") as file:
             entries = declarations.yaml(file.read())
-        needed = [it.value for it in entries if it.name == "add" and "capabilities" in it.place]
         container = "spec > template > spec > containers > 1 > volumeMounts"
         mounted = [it for it in entries if it.place.startswith(container)]
         kept = {it.place for it in mounted if it.name == "readOnly"}
         written = [it.value for it in mounted if it.name == "mountPath" and it.place not in kept]
         with open(CONTAINER, encoding="utf-8") as file:
-            command = re.search(r"^#   podman run (?:.*\\\n)*.*", file.read(), re.M)
-        words = command[0].replace("\\\n#", "").split() if command else []
-        self.expect(
-            "all rights are taken", [after for it, after in zip(words, words[1:]) if it == "--cap-drop"], ["ALL"]
-        )
-        given = [after.replace(",", ", ") for it, after in zip(words, words[1:]) if it == "--cap-add"]
-        self.expect("rights that are given", given, needed)
-        self.expect("no program gives more", "no-new-privileges" in words)
+            text = file.read()
+        words = _command_of(text)
+        self.expect("all rights are taken", _given(words, "--cap-drop"), ["ALL"])
+        self.expect("rights that are given", [it for it in words if it.startswith(("--cap-add", "--privileged"))], [])
+        self.expect("no program gives more", _given(words, "--security-opt"), ["no-new-privileges"])
         self.expect("the root is for reading alone", "--read-only" in words)
-        self.expect("what is written", [after for it, after in zip(words, words[1:]) if it == "--tmpfs"], written)
+        self.expect("what is written", _given(words, "--tmpfs"), written)
+        self.expect("who may write there", re.findall(r"&& chmod 1777 (.*)", text), [" ".join(written)])
+
+    @needs.python_module("yaml", "python3-yaml")
+    def test_all_have_one_user_who_is_not_root(self) -> None:
+        with open("packaging/kubernetes/base/deployment.yaml", encoding="utf-8") as file:
+            entries = declarations.yaml(file.read())
+        ids = [it.value for name in ("runAsUser", "runAsGroup") for it in entries if it.name == name]
+        self.expect("the user of the pods", len(ids) == 2 and "0" not in ids)
+        for path in PATHS:
+            with open(path, encoding="utf-8") as file:
+                text = file.read()
+            self.expect(path, re.findall(r"^USER (.*)", text, re.M), [":".join(ids)])
+            last = re.findall(r"^(?:FROM|USER).*", text, re.M)[-1]
+            self.expect(f"{path}: what follows", last, f"USER {':'.join(ids)}")
+        with open(CONTAINER, encoding="utf-8") as file:
+            command = _command_of(file.read())
+        self.expect("no other one", [it for it in command if it in ("--user", "-u", "--group-add")], [])
+
+    def test_the_user_may_listen_at_the_ports_of_the_site(self) -> None:
+        """In podman's container from the lowest port on, and in a pod by the port's number."""
+        with open("front_door/openlink.conf", encoding="utf-8") as file:
+            ports = _ports_of(file.read())
+        with open(CONTAINER, encoding="utf-8") as file:
+            text = file.read()
+        self.expect("ports below 1024", len([it for it in ports if it < 1024]) >= 5)
+        name, _, least = _given(_command_of(text), "--sysctl")[0].partition("=")
+        self.expect("the option", (name, int(least)), ("net.ipv4.ip_unprivileged_port_start", min(ports)))
+        with open("packaging/kubernetes/base/openlink.conf", encoding="utf-8") as file:
+            ports = _ports_of(file.read())
+        self.expect("ports of a pod", len(ports) >= 3 and min(ports) >= 1024)
+
+
+def _command_of(text: str) -> list[str]:
+    """The words of `podman run` in a Containerfile."""
+    command = re.search(r"^#   podman run (?:.*\\\n)*.*", text, re.M)
+    return command[0].replace("\\\n#", "").split() if command else []
+
+
+def _given(words: list[str], option: str) -> list[str]:
+    return [after for it, after in zip(words, words[1:]) if it == option]
+
+
+def _ports_of(site: str) -> list[int]:
+    """The ports of a site and of its processes."""
+    return [int(it) for it in re.findall(r"^ +(?:listen |server 127\.0\.0\.1:)(\d+)", site, re.M)]

@@ -7,7 +7,6 @@ import os
 import shutil
 import signal
 import subprocess
-import tempfile
 from collections.abc import Callable
 
 from fixtures import needs
@@ -22,9 +21,6 @@ SCRIPT = os.path.abspath("packaging/container/start")
 NAMESPACE = [shutil.which("setpriv") or "setpriv", "--pdeathsig", "KILL", "unshare", "--pid", "--fork", "--kill-child"]
 NAMESPACE += ["--mount-proc"]
 TRIAL = "openlink resolve registry.tsv rft.issn=0000-0000 in first"
-_NONE = "--reuid nobody --regid nogroup --clear-groups --no-new-privs --bounding-set=-all --inh-caps=-all"
-_NONE += " --ambient-caps=-all"
-_KEPT = _NONE.replace("=-all", "=-all,+net_bind_service")  # it may listen at a port below 1024
 _SERVE = (
     "env GLIBC_TUNABLES=glibc.malloc.trim_threshold=4194304:glibc.malloc.top_pad=1048576 openlink serve registry.tsv"
 )
@@ -66,6 +62,10 @@ while True:
     signal.pause()
 """
 )
+# The user of the container: it has no rights that it could use in this folder, so its number is another one.
+_ID = """#!/bin/sh
+cat "$STANDINS/user"
+"""
 _SETPRIV = """#!/bin/sh
 echo "setpriv $*" >>"$STANDINS/calls"
 while [ "$1" != env ]; do shift; done
@@ -75,11 +75,6 @@ _SLEEP = """#!/bin/sh
 echo "sleep $*" >>"$STANDINS/calls"
 exec /bin/sleep "$1"
 """
-
-
-def low_port() -> int:
-    """A port below 1024 at which nothing listens."""
-    return next(it for it in range(318, 214, -1) if not children.is_open(it))
 
 
 @needs.command("setpriv", "unshare", "nsenter")
@@ -92,6 +87,8 @@ class Container(Case):
         self.ports = [str(children.free_port()) for _ in range(2)]
         for name, text in (("openlink", _PROGRAM), ("nginx", _NGINX), ("setpriv", _SETPRIV), ("sleep", _SLEEP)):
             self.machine.make(f"bin/{name}", text, 0o755)
+        self.machine.make("bin/id", _ID, 0o755)
+        self.machine.make("user", "10001\n")
         first, second = self.ports
         self.machine.make(
             "etc/nginx/conf.d/openlink.conf",
@@ -188,21 +185,20 @@ class Starts(Container):
         self.expect(
             "their rights",
             sorted(it for it in calls if it.startswith("setpriv")),
-            sorted(f"setpriv {_NONE} {_SERVE} {port} 1000000" for port in self.ports),
+            sorted(f"setpriv --no-new-privs {_SERVE} {port} 1000000" for port in self.ports),
         )
         self.expect(
             "nginx's workers", "worker_processes auto;" in self.read(f"{self.machine.folder}/etc/nginx/nginx.conf")
         )
 
-    def test_a_process_at_a_port_below_1024_may_listen_there(self) -> None:
-        self.ports = [str(low_port())]
-        self.machine.make("etc/nginx/conf.d/openlink.conf", f"    server 127.0.0.1:{self.ports[0]} max_fails=0;\n")
-        self.begun()
+    def test_it_does_not_run_as_root(self) -> None:
+        self.machine.make("user", "0\n")
+        process = self.begin()
+        said = process.communicate(timeout=patience(20))[1].decode()
         self.expect(
-            "its rights",
-            [it for it in self.calls() if it.startswith("setpriv")],
-            [f"setpriv {_KEPT} {_SERVE} {self.ports[0]} 1000000"],
+            "the status", (process.returncode, said), (1, "start: it runs as the user of the image, not as root\n")
         )
+        self.expect("nothing is started", self.calls(), [])
 
     def test_the_number_of_workers_is_that_of_the_environment(self) -> None:
         self.begin(OPENLINK_WORKERS="3")
@@ -238,32 +234,6 @@ class Starts(Container):
         said = process.communicate(timeout=patience(20))[1].decode()
         self.expect("the status", (process.returncode, said), (1, "start: openlink.conf names no port of 127.0.0.1\n"))
         self.expect("nothing is started", self.calls(), [])
-
-
-@needs.root()
-@needs.program()
-@needs.command("setpriv")
-class Rights(Case):
-    """What a process keeps of root."""
-
-    def test_a_port_below_1024_needs_the_right_that_its_process_has(self) -> None:
-        self.expect("with it", self.is_served(_KEPT))
-        self.expect("without it", self.is_served(_NONE), False)
-
-    def is_served(self, rights: str) -> bool:
-        """Whether the program, as a user with these rights, listens at a port below 1024."""
-        with tempfile.TemporaryDirectory() as folder:
-            os.chmod(folder, 0o755)
-            shutil.copy(needs.PROGRAM, f"{folder}/openlink")
-            with open(f"{folder}/registry.tsv", "w"):
-                pass
-            port = low_port()
-            words = ["setpriv", *rights.split(), f"{folder}/openlink", "serve", "registry.tsv", str(port), "1000000"]
-            with subprocess.Popen(words, cwd=folder, stdin=subprocess.DEVNULL, stderr=subprocess.DEVNULL) as process:
-                wait_until(lambda: children.is_open(port) or process.poll() is not None)
-                is_served = process.poll() is None
-                process.kill()
-            return is_served
 
 
 class Ends(Container):

@@ -91,4 +91,4 @@ class RunnerCase(Case):
         """The status, and the lines without seconds."""
         process = self.start(*arguments)
         printed = process.communicate()[0]
-        return process.returncode, re.sub(r" in \d+ s:", ":", printed).splitlines()
+        return process.returncode, re.sub(r" in \d+ s, \d+ of a processor:", ":", printed).splitlines()

@@ -57,6 +57,16 @@ class Reports(RunnerCase):
         self.expect("the lines", lines, ["sources.test_sums: passed: 3 tests, 4 comparisons", "3 passed, 0 failed"])
         self.expect("the status", status, 0)
 
+    def test_what_it_takes_of_a_processor(self) -> None:
+        self.module("works", GOOD + "    def test_work(self):\n        subprocess.run(['sh', '-c', 'i=0; while [ $i -lt "
+                    "3000000 ]; do i=$((i+1)); done'])\n        self.expect('a', 1, 1)\n")
+        self.module("sleeps", GOOD + "    def test_sleep(self):\n        time.sleep(2)\n"
+                    "        self.expect('a', 1, 1)\n")
+        text, _ = self.start().communicate()
+        found = dict(re.findall(r"test_(\w+): passed in \d+ s, (\d+) of a processor", text))
+        self.expect("both", sorted(found), ["sleeps", "works"])
+        self.expect("one that sleeps, and one that works", int(found["sleeps"]) < int(found["works"]))
+
     def test_a_module_in_parts(self) -> None:
         """Each test runs in one of the processes."""
         self.module("sums", GOOD)

@@ -23,6 +23,12 @@ def counted(number: int, noun: str) -> str:
     return f"{number:,} {noun}{'' if number == 1 else 's'}"
 
 
+def processor_seconds() -> float:
+    """What the processes have taken of a processor that have ended, and that this one has waited for."""
+    times = os.times()
+    return times.children_user + times.children_system
+
+
 class Totals:
     """The outcomes of all tests so far, and what lacks for those that were skipped."""
 
@@ -49,16 +55,19 @@ class Run:
         self.told = f"{self.log}.json"
         more = [self.told, test.what(), *test.chosen] if test.kind == "module" else []
         self.process = machine.start([*test.command, *more], test.folder, self.log)
-        self.is_late = False
+        self.is_late, self.processor = False, 0.0
 
     def seconds(self) -> float:
         return time.monotonic() - self.started
 
     def has_ended(self) -> bool:
-        if self.process.poll() is None and self.seconds() > MOST_SECONDS:
+        if self.process.returncode is None and self.seconds() > MOST_SECONDS:
             stop([self.process])
             self.is_late = True
-        return self.process.poll() is not None
+        before = processor_seconds()
+        is_over = self.process.poll() is not None
+        self.processor += processor_seconds() - before
+        return is_over
 
     def result(self, lines: list[str]) -> dict[str, Any]:
         """How many tests passed, failed and were skipped, why, and what else the test says in a line."""
@@ -84,7 +93,8 @@ class Run:
         end = "failed" if result["failed"] else "passed" if result["passed"] else "skipped"
         numbers = [counted(result["passed"], "test") + " passed"] * (end == "failed" and result["passed"] > 0)
         numbers += [counted(result[end], "test")] if end != "failed" else [f"{result['failed']} failed"]
-        line = f"{self.test.title()}: {end} in {self.seconds():.0f} s: {', '.join(reversed(numbers))}{result['said']}"
+        taken = f"{self.seconds():.0f} s, {self.processor:.0f} of a processor"
+        line = f"{self.test.title()}: {end} in {taken}: {', '.join(reversed(numbers))}{result['said']}"
         if end == "passed" and result["skipped"]:
             line += f"; {result['skipped']} skipped"
         line += "".join(f"; {it}" for it in result["reasons"])

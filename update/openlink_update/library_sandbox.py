@@ -2,9 +2,10 @@
 import shutil
 from pathlib import Path
 
+from openlink_update import COMMANDS
 from openlink_update.fetch.fetch_folder import FETCH
 from openlink_update.input_files import InputFolder
-from openlink_update.places import COMMANDS, PROVIDERS
+from openlink_update.places import PROVIDERS
 from openlink_update.rights import sandbox
 from openlink_update.rights.limits import Limits
 from openlink_update.rights.sandbox import Sandbox

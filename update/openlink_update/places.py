@@ -1,9 +1,7 @@
-"""Where the commands, the front door and the rules that ship are. The front door is in the folder `nginx` beside the
-commands as they are installed, and in `front_door` of the repository; the rules are in `providers`, and in
-`examples/providers`."""
-from pathlib import Path
+"""Where the front door and the rules that ship are: in the folders `nginx` and `providers` beside the commands as they
+are installed, and in `front_door` and `examples/providers` of the repository."""
+from openlink_update import COMMANDS
 
-COMMANDS = Path(__file__).resolve().parent.parent
 _INSTALLED = COMMANDS / "nginx"
 FRONT_DOOR = _INSTALLED if _INSTALLED.is_dir() else COMMANDS.parent / "front_door"
 _RULES = COMMANDS / "providers"

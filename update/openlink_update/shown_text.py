@@ -9,6 +9,8 @@ import re
 import sys
 from collections.abc import Iterable
 
+from openlink_update import run_notes
+
 # Controls of ASCII but the end of a line, those of Latin-1, and those that end a line or set its direction.
 _UNSAFE = re.compile("[\x00-\x09\x0b-\x1f\x7f-\x9f\u061c\u200e\u200f\u2028-\u202e\u2066-\u2069]")
 _FORMULA = tuple("=+-@＝＋－＠")  # how a cell begins that some spreadsheets run as a formula
@@ -66,8 +68,9 @@ def prepare_streams() -> None:
 
 
 def report(line: str, stream: str = "stdout") -> None:
-    """Prints a line, without the controls that a table or a server may have put in it. That nobody reads it, or that it
-    cannot be written, does not end a run."""
+    """Prints a line, without the controls that a table or a server may have put in it, and notes it for the record of
+    the run. That nobody reads it, or that it cannot be written, does not end a run."""
+    run_notes.note(run_notes.LINE, printable(line))
     _print(printable(line), stream)
 
 

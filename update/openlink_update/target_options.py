@@ -11,18 +11,19 @@ again from the files that came.
     filter NAME            a program of the library that changes a file before it is read
     least 500 rows         with fewer the old table stays
 
-A name with a comma, a semicolon, an equals sign or spaces at its ends is in double quotes, in which "" is one of them."""
+A name with a comma, a semicolon, an equals sign or spaces at its ends is in double quotes, in which "" is one of them.
+Columns get names of KBART, or names of the library's own that begin with x_ and that its rules may use."""
 import dataclasses
 import re
-from collections.abc import Callable, Iterable, Mapping
+from collections.abc import Callable, Iterable, Mapping, Sequence
 from pathlib import Path
 
 from openlink_update import shown_text
 from openlink_update.input_files import cells_in
 from openlink_update.outcome import Refused
+from openlink_update.received.column_names import DROPPED, is_known, plain_name
 
 NAME = "options.tsv"  # of a version: a target, and its options
-DROPPED = "-"
 _QUOTE = '"'
 _MOST_CHARACTERS = 100  # of a cell in a line
 _ROWS = re.compile(r"(\d{1,9}) rows?", re.A)
@@ -117,6 +118,22 @@ def _unquoted(text: str) -> str:
     return text
 
 
+def _check_names(option: str, names: Sequence[str]) -> None:
+    """Refused if a name is one that no column may get, or that two would get."""
+    for name in names:
+        if name != DROPPED and not is_known(name):
+            raise Refused(
+                [f"{option}: {shown_text.line_of(name, _MOST_CHARACTERS)} is no column of KBART, and none of x_NAME"]
+            )
+    _check_once(option, [name for name in names if name != DROPPED])
+
+
+def _check_once(option: str, names: Sequence[str]) -> None:
+    twice = next((name for number, name in enumerate(names) if name in names[:number]), None)
+    if twice is not None:
+        raise Refused([f"{option}: {shown_text.line_of(twice, _MOST_CHARACTERS)} twice"])
+
+
 def _columns(options: Options, text: str) -> Options:
     columns = []
     for part in _split(text, ","):
@@ -126,6 +143,8 @@ def _columns(options: Options, text: str) -> Options:
         columns.append((_unquoted(pair[0]), _unquoted(pair[1])))
     if not columns:
         raise Refused(["columns: no names follow"])
+    _check_once("columns", [plain_name(name) for name, _ in columns])
+    _check_names("columns", [standard for _, standard in columns])
     return dataclasses.replace(options, columns=tuple(columns))
 
 
@@ -133,6 +152,7 @@ def _header(options: Options, text: str) -> Options:
     names = tuple(map(_unquoted, _split(text, ",")))
     if not names:
         raise Refused(["no header: no names follow"])
+    _check_names("no header", names)
     return dataclasses.replace(options, header=names)
 
 
@@ -177,3 +197,4 @@ _READERS: dict[str, Callable[[Options, str], Options]] = {
     "filter": _filter,
     "least": _least,
 }
+NAMES = tuple(_READERS)

@@ -65,6 +65,11 @@ class Options:
             return "--receive needs the name of a version, a time of at most a day ahead"
         return None
 
+    def work(self) -> str:
+        """What a run with them does, in a word."""
+        is_asked = {"walls": self.walls, "back": self.back, "receive": self.receive is not None}
+        return next((word for word, is_it in is_asked.items() if is_it), "update")
+
     def words(self) -> list[str]:
         """The arguments of the run for each of several libraries."""
         flags = [f"--{name.replace('_', '-')}" for name in ("dry_run", "walls", "back", "fetch") if getattr(self, name)]

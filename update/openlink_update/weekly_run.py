@@ -6,7 +6,7 @@ import functools
 from collections.abc import Callable, Sequence
 from pathlib import Path
 
-from openlink_update import children
+from openlink_update import children, run_notes
 from openlink_update.exports import export_files
 from openlink_update.fetch import sources
 from openlink_update.index import abbreviations
@@ -16,6 +16,7 @@ from openlink_update.received import archives
 from openlink_update.rights import handover
 from openlink_update.rights.lent_files import Lent
 from openlink_update.rights.sandbox import Job, Parent, Sandbox, input_by
+from openlink_update.run_notes import ProbeResult
 from openlink_update.shown_text import report
 from openlink_update.site import targets_file
 from openlink_update.site.front_door import FrontDoor, Site
@@ -272,6 +273,7 @@ class Run:
         with Trial(self._program, unfinished, port):
             differing = probes.differences(trial)
             links = probes.links(trial)
+        _note_probes(probes, differing)
         if before is not None:
             for line in probes.changes(before, links):
                 report(line)
@@ -355,6 +357,12 @@ def _check_sizes(version: Path) -> None:
     for name, most in (("registry.tsv", parts.MOST_REGISTRY_BYTES), (NAME, targets_file.MOST_BYTES)):
         if (version / name).exists() and (version / name).stat().st_size > most:
             raise Failure(f"{version / name}: more than {most:,} bytes", DEVICE)
+
+
+def _note_probes(probes: Probes, differing: list[Difference]) -> None:
+    bad = [difference.probe for difference in differing]
+    for probe in probes.list:
+        run_notes.note_probe(ProbeResult(probe.number, probe.query, " ".join(probe.targets), probe not in bad))
 
 
 def _bad_files(maker: Maker) -> str:

@@ -2,7 +2,8 @@
 import os
 from pathlib import Path
 
-from openlink_update import allowed_folders, update_options
+from openlink_update import allowed_folders, run_notes, update_options
+from openlink_update.desk import writing
 from openlink_update.fetch import fetching, sources
 from openlink_update.input_files import ALLOWED, InputFolder
 from openlink_update.library_sandbox import sandbox_of
@@ -24,6 +25,7 @@ from openlink_update.outcome import (
 )
 from openlink_update.rights.limits import Exceeded
 from openlink_update.rights.sandbox import Sandbox
+from openlink_update.run_records import Recorder
 from openlink_update.shown_text import prepare_streams, report
 from openlink_update.site.front_door import Site
 from openlink_update.update_options import LIBRARY, Options
@@ -81,6 +83,8 @@ def _update_one(options: Options) -> int:
     )
     shared_tables.folder = options.prepared
     lock = library.lock()
+    recorder = Recorder(options.work())
+    run_notes.hear(recorder.add)
     user = sandbox_of(options, library, site, options.input or library.path("input"))
     run = (Receiver if options.receive else Run)(library, site, options, user, others)
     status, fault = _end_of(run, options)
@@ -90,7 +94,12 @@ def _update_one(options: Options) -> int:
         report(f"openlink-update: no process answers: ports {', '.join(map(str, site.ports))}", "stderr")
         status = DEVICE
     library.clear()
+    if not options.dry_run:
+        recorder.write(library, status)
+    run_notes.hear(None)
     lock.close()
+    if not options.dry_run:
+        writing.write(library, site, user, options.program)
     return status
 
 

@@ -1,3 +1,3 @@
-"""What the pages of the desk show."""
+"""The librarian's desk: pages of the week, the year and the rules of a library, which nginx serves as files."""
 
-__all__ = ["collection"]
+__all__ = ["collection", "writing"]

@@ -12,7 +12,7 @@ import re
 from collections.abc import Iterator, Mapping
 from pathlib import Path
 
-from openlink_update.tables.cells import IDENTIFIERS
+from openlink_update.received.column_names import IDENTIFIERS
 from openlink_update.tables.identifiers import form_of, standard
 from openlink_update.tables.parts import base_of
 from openlink_update.tables.registry import entries_of

@@ -3,7 +3,7 @@ are the provider's, since the tables have no walls."""
 from collections.abc import Iterable, Iterator
 
 from openlink_update.exports.site_names import SiteNames
-from openlink_update.received.headers import COLUMNS
+from openlink_update.received.column_names import COLUMNS
 from openlink_update.tables.parts import base_of
 from openlink_update.tables.table import Table
 

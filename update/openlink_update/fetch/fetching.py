@@ -9,14 +9,13 @@ import shutil
 from collections.abc import Callable, Sequence
 from pathlib import Path
 
+from openlink_update import COMMANDS, run_notes
 from openlink_update.fetch import downloads, sources
 from openlink_update.fetch.downloads import Download
-from openlink_update.fetch.fetch_folder import STATE, FetchFolder
-from openlink_update.fetch.fetch_state import State
+from openlink_update.fetch.fetch_folder import STATE, FetchFolder, State
 from openlink_update.fetch.sources import Source
 from openlink_update.input_files import InputFolder
 from openlink_update.outcome import ALL_NEW, DEVICE, KEPT, USAGE, Failure, Interrupted, Unreadable, raise_signals
-from openlink_update.places import COMMANDS
 from openlink_update.rights import sandbox
 from openlink_update.rights.lent_files import Lent
 from openlink_update.rights.limits import Limits
@@ -102,26 +101,14 @@ def _sandbox_of(folder: InputFolder) -> Sandbox:
     return sandbox.of(library, library, Limits(), [library, COMMANDS])
 
 
-def _rows_in(text: str) -> int:
-    """The number of lines after the header, or after the first line if there is no header of the standard."""
-    from openlink_update.received import headers
-
-    lines = text.split("\n")
-    return max(sum(bool(line.strip()) for line in lines[headers.find(lines)[0] or 0 :]) - 1, 0)
-
-
 def table_in(data: bytes, source: Source) -> bytes:
     """What a reply brings to the file of a source: its bytes, or those of a member. Unreadable if it is no table."""
     # Loaded here, since a run that gets no file needs no reader of tables.
-    from openlink_update.received import archives, texts
+    from openlink_update.received import archives, reading
 
-    inner = archives.unpacked(data, source.member or "*")
-    text = texts.text_of(inner)[0]
-    if not text.strip():
-        raise Unreadable("empty")
-    if texts.is_web_page(text):
-        raise Unreadable("a web page, not a table: the address may want a login")
-    rows = _rows_in(text)
+    form = reading.Form(is_html=source.is_html)
+    inner = archives.opened(data, source.member or "*", form.begins_table)[0]
+    rows = reading.rows_in(inner, form)
     if rows < source.least:
         raise Unreadable(f"{amount(rows, 'row')}, and at least {source.least} must be there")
     return inner if source.member else data
@@ -242,6 +229,9 @@ class _Fetch:
         for lines in groups:
             for file, line in sorted(lines, key=lambda pair: order.index(pair[0])):
                 self._report(line if file is None else f"{file}: {line}")
+                run_notes.note_fetch(file or "", line)
         failures = sum(file is not None for file, _ in self._faults)
         number = f"{amount(count, 'file')} asked for"
-        self._report(f"{number}, {len(self._changes)} new or changed, {failures} not fetched")
+        end = f"{number}, {len(self._changes)} new or changed, {failures} not fetched"
+        run_notes.note_fetch("", end)
+        self._report(end)

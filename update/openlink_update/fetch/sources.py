@@ -5,6 +5,7 @@ tab, its address, a tab, and options separated by semicolons; the last cell may 
     member PATTERN       the file is the member of a .zip whose name fits
     every N days         it is not fetched again before
     least N rows         with fewer it is not used
+    html table           a web page that holds one table is one
     plain http           the address may begin with http:
 
 {NAME} in an address or a header stands for a value of secrets.tsv, whose lines have a name, a tab and the value. Empty
@@ -45,6 +46,7 @@ class Source:
     every: int = 0  # days
     least: int = 1  # rows
     is_plain: bool = False
+    is_html: bool = False
 
     def text(self) -> str:
         """What the reply depends on, without secrets."""
@@ -117,6 +119,8 @@ def _with_option(source: Source, text: str) -> Source:
         return dataclasses.replace(source, least=int(least[1]))
     if text.startswith("member "):
         return dataclasses.replace(source, member=text[7:].strip())
+    if text == "html table":
+        return dataclasses.replace(source, is_html=True)
     if text == "plain http":
         return dataclasses.replace(source, is_plain=True)
     raise Wrong(f"unknown option {text.split(' ')[0]}")

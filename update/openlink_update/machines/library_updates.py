@@ -11,10 +11,9 @@ import tempfile
 from pathlib import Path
 from typing import IO
 
-from openlink_update import children
+from openlink_update import COMMANDS, children
 from openlink_update.machines.libraries import REPORT, SHARED, SITE, Libraries
 from openlink_update.outcome import ALL_NEW, DEVICE, WENT_BACK, Interrupted, raise_signals
-from openlink_update.places import COMMANDS
 from openlink_update.shown_text import printable, report
 from openlink_update.versions import shared_tables
 

@@ -1,48 +1,18 @@
 """The header of a table, which may come after other lines, with commas or semicolons, and in another spelling. A table
-with fewer than LEAST names of KBART is used as it is, with its first line as the header, such as ANY.tsv. Quotes that
-do not match reject a file: one that is not closed would take the rows after it into its cell."""
+with fewer than three known names is used as it is, with its first line as the header, such as ANY.tsv. Quotes that do
+not match reject a file: one that is not closed would take the rows after it into its cell."""
 import csv
 import dataclasses
 import itertools
-import re
 from collections.abc import Iterable, Iterator, Sequence
 
 from openlink_update.outcome import Unreadable
+from openlink_update.received.column_names import DROPPED, PLAIN, Naming, named, shown
 from openlink_update.received.limits import MOST_LINE_BYTES, check_columns
-from openlink_update.shown_text import Count, lines_of_counts
+from openlink_update.shown_text import Count, amount, lines_of_counts
 
-# The 25 columns of NISO RP-9-2014.
-COLUMNS = (
-    "publication_title",
-    "print_identifier",
-    "online_identifier",
-    "date_first_issue_online",
-    "num_first_vol_online",
-    "num_first_issue_online",
-    "date_last_issue_online",
-    "num_last_vol_online",
-    "num_last_issue_online",
-    "title_url",
-    "first_author",
-    "title_id",
-    "embargo_info",
-    "coverage_depth",
-    "notes",
-    "publisher_name",
-    "publication_type",
-    "date_monograph_published_print",
-    "date_monograph_published_online",
-    "monograph_volume",
-    "monograph_edition",
-    "first_editor",
-    "parent_publication_title_id",
-    "preceding_publication_title_id",
-    "access_type",
-)
-_LEAST = 3  # names of a header
-_MOST_LINES = 20  # in which it is searched
+MOST_ABOVE = 20  # in which it is searched
 _SEPARATORS = {"\t": "tabs", ",": "commas", ";": "semicolons"}
-_AROUND = " \t\"'\xa0\u201c\u201d"
 
 
 @dataclasses.dataclass(frozen=True)
@@ -52,14 +22,8 @@ class Parsed:
     columns: list[str]
     rows: list[list[str]]
     lines: list[str]
-
-
-def _spelling(name: str) -> str:
-    """What two spellings of a name have in common: its letters and digits, in lower case."""
-    return re.sub("[^a-z0-9]", "", name.lower())
-
-
-NAMES = {_spelling(name): name for name in COLUMNS}
+    names: tuple[str, ...] = ()  # of the columns, as the file has them
+    missing: tuple[str, ...] = ()  # names that the line of the target gives, and the file lacks
 
 
 def _cells_of(lines: Iterable[str], separator: str, before: int) -> Iterator[list[str]]:
@@ -90,37 +54,24 @@ def _cells_of(lines: Iterable[str], separator: str, before: int) -> Iterator[lis
         raise Unreadable(f"line {before + first}: quotes that do not match") from fault
 
 
-def find(lines: Iterable[str]) -> tuple[int | None, str]:
-    """The number of lines before the header (None if there is no header of the standard), and its separator."""
-    for number, line in enumerate(itertools.islice(lines, _MOST_LINES)):
+def find(lines: Iterable[str], naming: Naming = PLAIN) -> tuple[int | None, str]:
+    """The number of lines before the header (None if there is no header with names that are known), and its
+    separator."""
+    for number, line in enumerate(itertools.islice(lines, MOST_ABOVE)):
         for separator in "\t" if "\t" in line else ",;":
-            if len(_known_names(line, separator)) >= _LEAST:
+            if naming.is_header(_split(line, separator)):
                 return number, separator
     return None, "\t"
 
 
-def _known_names(line: str, separator: str) -> set[str]:
+def _split(line: str, separator: str) -> list[str]:
+    """The cells of a line alone; none if its quotes do not match."""
     if separator == "\t":
-        cells = line.split("\t")
-    else:
-        try:
-            cells = next(csv.reader([f"{line}\n"], delimiter=separator, strict=True), [])
-        except csv.Error:
-            return set()
-    return {_spelling(cell) for cell in cells} & NAMES.keys()
-
-
-def spelled(cells: Sequence[str]) -> list[str]:
-    """The names of columns as the standard spells them, without spaces and quotes around them. The first of two
-    spellings of one name gets it, unless a column has the name itself."""
-    names = [cell.strip(_AROUND) for cell in cells]
-    taken = set(names)
-    for place, name in enumerate(names):
-        standard = NAMES.get(_spelling(name))
-        if standard and standard not in taken:
-            names[place] = standard
-            taken.add(standard)
-    return names
+        return line.split("\t")
+    try:
+        return next(csv.reader([f"{line}\n"], delimiter=separator, strict=True), [])
+    except csv.Error:
+        return []
 
 
 def _lines_of(text: str) -> Iterator[str]:
@@ -132,21 +83,102 @@ def _lines_of(text: str) -> Iterator[str]:
     yield text[start:]
 
 
-def table_of(text: str) -> Parsed:
-    """The table of a text. Without a header of the standard, it begins at the first line, with tabs."""
-    top = list(itertools.islice(_lines_of(text), _MOST_LINES))
-    before, separator = find(top)
+def table_of(text: str, naming: Naming = PLAIN) -> Parsed:
+    """The table of a text. Without a header of known names, it begins at the first line, with tabs."""
+    top = list(itertools.islice(_lines_of(text), MOST_ABOVE))
+    before, separator = (None, _separator_of(top, naming)) if naming.header else find(top, naming)
     parsed = [*_cells_of(itertools.islice(_lines_of(text), before or 0, None), separator, before or 0)]
     if not parsed:
         raise Unreadable("it is empty")
+    count = Count(f"{_SEPARATORS[separator]} between cells", 0 if separator == "\t" else len(parsed), "row")
+    if naming.header:
+        return _with_header_of(naming, parsed, [count])
     if before is None:
-        return Parsed(parsed[0], parsed[1:], [])
-    names = spelled(parsed[0])
-    above = sum(1 for line in top[:before] if line)
-    changed = sum(name != cell for name, cell in zip(names, parsed[0]))
+        return _without_names(
+            parsed, max((_split(line, it) for line in top for it in _SEPARATORS), key=_filled), naming
+        )
+    above = Count("above the header, left out", sum(1 for line in top[:before] if line), "line")
+    count = dataclasses.replace(count, number=max(count.number - 1, 0))
+    return _with_names(parsed, naming, [count, above])
+
+
+def table_of_rows(rows: list[list[str]], naming: Naming = PLAIN) -> Parsed:
+    """The table of the rows of a sheet, or of a table of a page."""
+    if not rows:
+        raise Unreadable("it is empty")
+    if naming.header:
+        return _with_header_of(naming, rows, [])
+    before = _place_in(rows, naming)
+    if before is None:
+        return _without_names(rows, max(rows[:MOST_ABOVE], key=_filled), naming)
+    return _with_names(rows[before:], naming, [Count("above the header, left out", before, "row")])
+
+
+def _place_in(rows: Sequence[Sequence[str]], naming: Naming) -> int | None:
+    """The place of the header among the first rows, or None."""
+    return next((number for number, row in enumerate(rows[:MOST_ABOVE]) if naming.is_header(row)), None)
+
+
+def above(rows: Sequence[Sequence[str]]) -> int:
+    """How many rows are above a header of the standard; 0 if there is none."""
+    return _place_in(rows, PLAIN) or 0
+
+
+def _filled(cells: Sequence[str]) -> int:
+    return sum(map(bool, cells))
+
+
+def _separator_of(lines: Sequence[str], naming: Naming) -> str:
+    """What separates the most of these lines into as many cells as a header has that a file lacks."""
+    width = len(naming.header)
+    widths = {it: [len(_split(line, it)) for line in lines if line] for it in _SEPARATORS}
+    best = max(widths, key=lambda it: widths[it].count(width))
+    if width not in widths[best]:
+        found = ", ".join(f"{max(counts, default=0)} with {_SEPARATORS[it]}" for it, counts in widths.items())
+        raise Unreadable(f"no header: {amount(width, 'name')} for lines of at most so many cells: {found}")
+    return best
+
+
+def _with_header_of(naming: Naming, rows: list[list[str]], counts: list[Count]) -> Parsed:
+    """The table of rows without a header, with the names that the line of the target gives."""
+    names = naming.header
+    if PLAIN.is_header(rows[0]):
+        raise Unreadable(f"it has a header, so `no header` is wrong: {shown(rows[0])}")
+    for number, row in enumerate(rows, 1):
+        if len(row) > len(names):
+            if any(map(str.strip, row[len(names) :])):
+                raise Unreadable(f"no header: {amount(len(names), 'name')}, and row {number} has {len(row)} cells")
+            del row[len(names) :]
+    _remove(rows, [place for place, name in enumerate(names) if name == DROPPED])
+    kept = [name for name in names if name != DROPPED]
+    return Parsed(kept, rows, lines_of_counts(*counts), tuple(kept))
+
+
+def _without_names(rows: list[list[str]], likely: Sequence[str], naming: Naming) -> Parsed:
+    """A table whose first row is its header, since no other one is known to be."""
+    if naming.columns:
+        raise Unreadable(f"no header with the names of `columns` or of KBART; it has: {shown(likely)}")
+    return Parsed(rows[0], rows[1:], [], tuple(likely))
+
+
+def _with_names(rows: list[list[str]], naming: Naming, counts: list[Count]) -> Parsed:
+    """A table below a header of known names."""
+    header, rows = rows[0], rows[1:]
+    found = named(header, naming)
+    _remove(rows, found.dropped)
+    names = [name for place, name in enumerate(found.names) if place not in found.dropped]
     lines = lines_of_counts(
-        Count(f"{_SEPARATORS[separator]} between cells", len(parsed) - 1 if separator != "\t" else 0, "row"),
-        Count("above the header, left out", above, "line"),
-        Count("names of columns as the standard spells them", changed, "cell"),
+        *counts,
+        Count("names of columns as the standard spells them", found.spelled, "cell"),
+        Count("named by `columns`", found.mapped, "column"),
+        Count("left out by `columns`", len(found.dropped), "column"),
     )
-    return Parsed(names, parsed[1:], lines)
+    return Parsed(names, rows, lines, tuple(header), naming.missing_in(header))
+
+
+def _remove(rows: list[list[str]], places: Sequence[int]) -> None:
+    """Removes columns from rows."""
+    for place in sorted(places, reverse=True):
+        for row in rows:
+            if len(row) > place:
+                del row[place]

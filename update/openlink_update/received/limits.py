@@ -11,7 +11,8 @@ _MOST_COLUMNS = 500
 MOST_LINE_BYTES = 100_000
 _MOST_LINES = 2_000_000
 _UNPACKED_MB = 256  # of the bytes of a file, also when it is unpacked
-MOST_MEMBERS = 10_000  # of a .zip
+_MOST_MEMBERS = 10_000  # of a .zip
+_ENTRY = b"PK\x01\x02"  # how the entry of a member in the directory of a .zip begins
 _MOST_BYTES = _UNPACKED_MB * 2**20
 
 
@@ -58,10 +59,30 @@ def _check(text: AnyStr, signs: _Signs[AnyStr], width: int) -> None:
         check_columns(text.count(signs.tab, start, end) + 1, lambda: signs.ends_in(text, start) + 1)
 
 
-def check_columns(count: int, number: Callable[[], int]) -> None:
+def check_columns(count: int, number: Callable[[], int], what: str = "line") -> None:
     """Unreadable if a line has more cells than a table may have columns; `number` returns the number of the line."""
     if count > _MOST_COLUMNS:
-        raise Unreadable(f"line {number():,} has {count:,} cells, and a table may have {_MOST_COLUMNS} columns")
+        raise Unreadable(f"{what} {number():,} has {count:,} cells, and a table may have {_MOST_COLUMNS} columns")
+
+
+def check_row(size: int, number: int) -> None:
+    """Unreadable if a row of a sheet has more bytes than a line may have."""
+    if size > MOST_LINE_BYTES:
+        raise Unreadable(
+            f"row {number:,} has {size:,} bytes, and {MOST_LINE_BYTES:,} are possible: is it a table of holdings?"
+        )
+
+
+def check_rows(count: int) -> None:
+    """Unreadable if a sheet has more rows than a table may have lines."""
+    if count > _MOST_LINES:
+        raise Unreadable(f"it has {count:,} rows, and a table may have {_MOST_LINES:,}: is it a table of holdings?")
+
+
+def check_members(data: bytes) -> None:
+    """Unreadable if a .zip has too many members, before its directory is read."""
+    if data.count(_ENTRY) > _MOST_MEMBERS:
+        raise Unreadable(f"a zip file with more than {_MOST_MEMBERS:,} members: pack the table alone")
 
 
 def check_size(size: int) -> None:

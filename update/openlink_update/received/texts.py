@@ -8,26 +8,28 @@ from openlink_update.received import limits
 from openlink_update.shown_text import amount
 
 _UTF_8, _UTF_16 = b"\xef\xbb\xbf", (b"\xff\xfe", b"\xfe\xff")  # their byte order marks
-_PAGE = re.compile(r"<(?:!doctype\s+html|html|head|body|title|meta|script|link|div|p|h1)\b", re.I)
+_PAGE = re.compile(r"<(?:!doctype\s+html|html|head|body|title|meta|script|link|div|p|h1|table)\b", re.I)
 _BEFORE_A_PAGE = (("<!--", "-->"), ("<?", "?>"))  # how what may come before it begins and ends
 _MOST_CHARACTERS = 10000  # in which a page begins
 
 
-def text_of(data: bytes) -> tuple[str, list[str]]:
+def text_of(data: bytes, is_page: bool = False) -> tuple[str, list[str]]:
     """The text of these bytes, with line ends of one character, and lines that say how it was read. Unreadable if it
-    is beyond the limits of a table."""
+    is beyond the limits of a table; those of a page are others."""
     if data.startswith(_UTF_16):
         try:
             text = data.decode("utf-16")
         except UnicodeDecodeError as fault:
             raise Unreadable("UTF-16 that is cut short or damaged") from fault
-        limits.check_text(text, width=2)
+        if not is_page:
+            limits.check_text(text, width=2)
         text = _with_line_feeds(text)
         count = text.rstrip("\n").count("\n") + 1
         lines = [f"UTF-16: {count} lines"]
     else:
         data = data.removeprefix(_UTF_8)
-        limits.check_bytes(data)
+        if not is_page:
+            limits.check_bytes(data)
         text, lines = _decoded(data)
     if "\0" in text:
         raise Unreadable("it has bytes of zero, as UTF-16 has without a byte order mark")
@@ -71,3 +73,14 @@ def is_web_page(text: str) -> bool:
         if end is None:
             return _PAGE.match(rest) is not None
         rest = rest.partition(end)[2].lstrip()
+
+
+def beginning_of(data: bytes) -> str:
+    """The beginning of a text in any encoding, by which it is known what it is."""
+    start = data[: 4 * _MOST_CHARACTERS]
+    return start.decode("utf-16" if start.startswith(_UTF_16) else "utf-8-sig", "ignore")
+
+
+def is_xml(text: str) -> bool:
+    """Whether a text is XML, which no table is, such as a spreadsheet of 2003."""
+    return text[:_MOST_CHARACTERS].lstrip().startswith("<?xml")

@@ -16,9 +16,10 @@ from collections.abc import Callable, Iterator, Sequence
 from pathlib import Path
 from typing import Protocol
 
+from openlink_update import run_notes
 from openlink_update.input_files import InputFolder
 from openlink_update.outcome import DEVICE, Failure, reset_signals
-from openlink_update.rights import library_user, network_filter
+from openlink_update.rights import library_user
 from openlink_update.rights.lent_files import MOST_MESSAGE, Lender, Lent, LentFolder
 from openlink_update.rights.library_user import LibraryUser
 from openlink_update.rights.limits import DiskLimit, Limits
@@ -29,7 +30,7 @@ _MOST_RESULT = 30_000  # characters
 _SHARE = 20  # of the time, one part may go to looking at the disk
 _SECONDS_TO_SEND, _PAUSE_TO_END = 10, 0.01  # for a child to take a reply, or to end
 _MOST_FILES = 100  # of a table that is shared
-_RESULT, _FAULT, _PAUSE, _SHARED, _GO = b"R", b"F", b"P", b"S", b"G"
+_RESULT, _FAULT, _PAUSE, _SHARED, _GO, _NOTE = b"R", b"F", b"P", b"S", b"G", b"N"
 
 
 class Parent(Protocol):
@@ -189,6 +190,9 @@ class Sandbox:
                         job.at_pause()
                         clock.end += time.monotonic() - begun  # the restarts of processes have limits of their own
                         _send(peer, _GO)
+                    case kind if kind == _NOTE:
+                        note, _, text = message[1:].decode("utf-8", "replace").partition("\0")
+                        run_notes.note(note, text)
                     case kind if kind == _SHARED:
                         files = _files_of(message[1:], sent)
                         found = job.shared(files) if files else None
@@ -288,6 +292,7 @@ def _ignore(_: "sys.UnraisableHookArgs") -> None:
 def _be_child(user: LibraryUser, limits: Limits, job: Job, peer: socket.socket, parent: int) -> None:
     """What the child does, until it ends."""
     try:
+        close_network = None if job.has_network else _closing_network()  # a user without rights may load no module
         reset_signals()
         sys.unraisablehook = _ignore  # out of memory, it would print parts of lines
         gc.freeze()  # or a file that its parent has left could be closed here, by a number that is another's then
@@ -300,11 +305,25 @@ def _be_child(user: LibraryUser, limits: Limits, job: Job, peer: socket.socket, 
             file.write("1000")  # if memory runs out, the kernel ends it before its parent
         limits.apply()
         user.become(parent)
-        if not job.has_network:
-            network_filter.close()
+        if close_network is not None:
+            close_network()
+        run_notes.hear(lambda kind, text: _pass_on(peer, kind, text))
         peer.send(_message_of(job.work, _Root(job, peer)))
     finally:
         os._exit(0)
+
+
+def _closing_network() -> Callable[[], None]:
+    """What closes the network for this process. No fetch loads it."""
+    from openlink_update.rights import network_filter
+
+    return network_filter.close
+
+
+def _pass_on(peer: socket.socket, kind: str, text: str) -> None:
+    """Tells root a note, as far as a message has room for it. That it cannot be told is no error of the work."""
+    with contextlib.suppress(OSError):
+        peer.send((_NOTE + f"{kind}\0{text}".encode("utf-8", "replace"))[: MOST_MESSAGE // 2])
 
 
 def _message_of(work: _Work, root: _Root) -> bytes:

@@ -17,6 +17,8 @@ _SECONDS = 30  # until nginx listens
 _TARGETS = r"js_preload_object\s+targets(?:__\w+)?\s"  # each door has its own
 # The most that a library may have on the disk, as 500m, 20g or 1t.
 _DISK = re.compile(r"^\s*(?:js_var|set)\s+\$openlink_disk\s+[\"']?(\d{1,9})([mgt])b?[\"']?\s*;", re.M | re.I)
+# The logs of requests, of titles that were asked for in vain, and of links that were followed.
+_ACCESS_LOG = re.compile(r"^\s*access_log\s+[\"']?(/[^\s;\"']+)[\"']?\s+openlink\w*[\s;]", re.M)
 _UNITS = {"m": 2**20, "g": 2**30, "t": 2**40}
 _CONFIGURATION = """load_module {module};
 pid {folder}/nginx.pid;
@@ -68,8 +70,8 @@ def _bytes_of(match: "re.Match[str] | None") -> int | None:
 
 class Site:
     """What the site of the front door (openlink.conf) and the files that it includes say: the module, its texts and its
-    languages, how nginx asks the processes, targets.json, the ports of the processes, the base URL, and whether there
-    is a list of titles. For a library of several, `machine` is the openlink.conf that has the module and the languages
+    languages, how nginx asks the processes, targets.json, the ports of the processes, the base URL, the logs, and whether
+    there is a list of titles. For a library of several, `machine` is the openlink.conf that has the module and the languages
     of all."""
 
     def __init__(self, path: str | Path, machine: str | Path | None = None) -> None:
@@ -82,6 +84,7 @@ class Site:
         self.targets = re.findall(rf"^\s*{_TARGETS}\s*from\s+([^;\s]+)\s*;", text, re.M)
         words = re.findall(r"^\s*js_preload_object\s+words_(\w+)\s", every, re.M)
         self.languages = [word.partition("__")[0].replace("_", "-") for word in words]
+        self.logs = [Path(path) for path in dict.fromkeys(_ACCESS_LOG.findall(text))]
         self.has_list = not re.search(r"^\s*(?:js_var|set)\s+\$openlink_list\s+off\s*;", text, re.M)
         self.most_disk = _bytes_of(_DISK.search(text) or _DISK.search(every))
         name = re.search(r"^\s*server_name\s+([^\s;]+)", text, re.M)

@@ -2,6 +2,7 @@
 
 __all__ = [
     "cells",
+    "check_digits",
     "coverage",
     "date_order",
     "dropped_rows",

@@ -1,5 +1,5 @@
 """Dates in the cells of a table as the standard writes them: YYYY, YYYY-MM or YYYY-MM-DD. A date that can be read in
-two ways becomes its year, and a day that does not exist its month. A date without a year, or with two, stays as it is,
+two ways becomes its year, and a day that does not exist its month; with dots the day comes first. A date without a year, or with two, stays as it is,
 for `inspect` to warn of."""
 import datetime
 import re
@@ -9,6 +9,7 @@ _YEAR = re.compile(r"(?<!\d)(1[4-9]\d\d|20\d\d|9999)(?!\d)", re.A)
 _TIME = re.compile(r"[T ]\d\d?:\d\d(?::\d\d(?:\.\d+)?)?(?: ?[AP]M)?(?:Z|[+-]\d\d:?\d\d)?$", re.A | re.I)
 _PARTS = re.compile(r"[^0-9a-z]+")
 _DIGITS = re.compile(r"\d{8}", re.A)
+_DOTTED = re.compile(r"(\d{1,2})\. ?(\d{1,2})\. ?(1[4-9]\d\d|20\d\d)", re.A)  # the day comes first
 _MONTHS = {
     name[:length]: number
     for number, name in enumerate(
@@ -52,6 +53,9 @@ def _readings_of(text: str) -> list[str]:
     """The dates that a text can mean, and '' for months that do not exist."""
     if _DIGITS.fullmatch(text):
         return _readings_of_digits(text[:4], text[4:])
+    dotted = _DOTTED.fullmatch(text)
+    if dotted and (date := _date_of(dotted[3], dotted[2], dotted[1])):
+        return [date]
     parts = [part for part in _PARTS.split(text.lower()) if part]
     months = [_MONTHS.get(part) for part in parts]
     if sum(month is not None for month in months) == 1:

@@ -4,16 +4,17 @@ rows."""
 import re
 from collections.abc import Callable
 
+from openlink_update.received.column_names import DATES, IDENTIFIERS
 from openlink_update.shown_text import Count, lines_of_counts
+from openlink_update.tables import embargo_words, numbers_in_cells
 from openlink_update.tables.cell_dates import standard as standard_date
+from openlink_update.tables.embargo import Embargo
 from openlink_update.tables.identifiers import form_of, standard as standard_number
 
 _Rows = list[list[str]]
 _Step = Callable[[list[str], _Rows], tuple[_Rows, list[str]]]
 
-IDENTIFIERS = ("print_identifier", "online_identifier")
-_LAST = "date_last_issue_online"
-_DATES = ("date_first_issue_online", _LAST, "date_monograph_published_print", "date_monograph_published_online")
+_LAST, _EMBARGO, _ADDRESS = "date_last_issue_online", "embargo_info", "title_url"
 _QUOTED = re.compile(r'=?"((?:[^"]|"")*)"')
 _DASHES = re.compile("[\xad\u2010-\u2015\u2043\u2212\ufe58\ufe63\uff0d]")
 _NUMBER_AND_WORDS = re.compile(r"([0-9][0-9Xx -]{6,16}?)(?:\s*[(\[][^()\[\]]*[)\]]|\s+[A-Za-z]+\.?)", re.A)
@@ -66,25 +67,29 @@ def _without_spaces(header: list[str], rows: _Rows) -> tuple[_Rows, list[str]]:
 
 def _with_identifiers(header: list[str], rows: _Rows) -> tuple[_Rows, list[str]]:
     """With identifiers as the standard has them: hyphens in place of other dashes, no words after a number, such as
-    (online), and ISBNs of thirteen digits in place of ten."""
-    dashes = words = isbns = 0
+    (online), or before it, such as ISSN:, one number in a cell, and ISBNs of thirteen digits in place of ten."""
+    dashes = after = before = isbns = 0
+    zeros, several = numbers_in_cells.with_zeros(header, rows), numbers_in_cells.apart(header, rows)
 
     def identifier(cell: str) -> str:
-        nonlocal dashes, words, isbns
+        nonlocal dashes, after, before, isbns
         if not cell.isascii():
             old, cell = cell, _DASHES.sub("-", cell)
             dashes += cell != old
         if len(cell) >= _LEAST:
             old, cell = cell, _number_alone(cell)
-            words += cell != old
+            after += cell != old
+            old, cell = cell, numbers_in_cells.after_word(cell)
+            before += cell != old
             old, cell = cell, _long_isbn(cell)
             isbns += cell != old
         return cell
 
     _change_cells(header, rows, IDENTIFIERS, identifier)
-    return rows, lines_of_counts(
+    return rows, zeros + several + lines_of_counts(
         Count("dashes in identifiers replaced by hyphens", dashes, "cell"),
-        Count("words after an identifier removed", words, "cell"),
+        Count("words after an identifier removed", after, "cell"),
+        Count("words before an identifier removed", before, "cell"),
         Count("ISBNs of ten digits written with thirteen", isbns, "cell"),
     )
 
@@ -113,13 +118,29 @@ def _with_dates(header: list[str], rows: _Rows) -> tuple[_Rows, list[str]]:
             are_years += len(new) == 4
         return new
 
-    changed = _change_cells(header, rows, _DATES, date)
+    changed = _change_cells(header, rows, DATES, date)
     opened = _change_cells(header, rows, (_LAST,), lambda cell: "" if _OPEN_END.fullmatch(cell) else cell)
     return rows, lines_of_counts(
         Count("dates in the standard's form", changed - are_years, "cell"),
         Count("dates cut to their year", are_years, "cell"),
         Count("last dates that mean today removed", opened, "cell"),
     )
+
+
+def _with_embargoes(header: list[str], rows: _Rows) -> tuple[_Rows, list[str]]:
+    """With embargoes in words as the standard writes them, where they have one reading."""
+    count = _change_cells(
+        header, rows, (_EMBARGO,), lambda cell: cell if Embargo.parse(cell) else embargo_words.standard(cell)
+    )
+    return rows, lines_of_counts(Count("embargoes in words written as KBART does", count, "cell"))
+
+
+def _with_addresses(header: list[str], rows: _Rows) -> tuple[_Rows, list[str]]:
+    """With whole addresses in place of those that begin with www."""
+    count = _change_cells(
+        header, rows, (_ADDRESS,), lambda cell: f"https://{cell}" if cell[:4].lower() == "www." else cell
+    )
+    return rows, lines_of_counts(Count("addresses made https", count, "cell"))
 
 
 def _without_repetitions(header: list[str], rows: _Rows) -> tuple[_Rows, list[str]]:
@@ -137,4 +158,12 @@ def _without_repetitions(header: list[str], rows: _Rows) -> tuple[_Rows, list[st
     return left, lines_of_counts(Count("the same as an earlier row, left out", len(rows) - len(left), "row"))
 
 
-STEPS: tuple[_Step, ...] = (_without_quotes, _without_spaces, _with_identifiers, _with_dates, _without_repetitions)
+STEPS: tuple[_Step, ...] = (
+    _without_quotes,
+    _without_spaces,
+    _with_identifiers,
+    _with_dates,
+    _with_embargoes,
+    _with_addresses,
+    _without_repetitions,
+)

@@ -1,20 +1,30 @@
 """Rows that no request can find, since they have no identifier. They are not served, and are listed."""
 import re
-from collections.abc import Collection
+from collections.abc import Collection, Sequence
 
-from openlink_update.shown_text import amount, printable
-from openlink_update.tables.cells import ANY, IDENTIFIERS
+from openlink_update.shown_text import Count, amount, lines_of_counts, printable
+from openlink_update.received.column_names import IDENTIFIERS
+from openlink_update.tables.cells import ANY
 from openlink_update.tables.identifiers import form_of
 from openlink_update.tables.table import Table
 
 _PER_HUNDRED = 2  # rows that may be dropped, unless the list of targets says how many
 _LIMIT = re.compile(r"dropped up to (\d{1,9})(%?)", re.A)
 _MOST_CHARACTERS = 100  # of a row that is shown
+_MOST_BELOW, _MOST_FILLED = 10, 2  # rows below a table, and filled cells of each
+_LEAST_DIGITS, _DIGIT = 5, re.compile(r"\d", re.A)  # of what may be an identifier
+_FEW = 10  # rows of a table that answers every request
 _NONE, _NO_NUMBER = "no identifier", "no ISSN or ISBN"
 
 
 def _is_identifier(cell: str) -> bool:
     return form_of(cell) != "" or cell.replace("-", "").replace(" ", "").upper() == ANY
+
+
+def answers_all(table: Table) -> bool:
+    """Whether a row of a table answers every request."""
+    places = [place for place in table.places(IDENTIFIERS) if place is not None]
+    return any(len(row) > place and row[place].upper() == ANY for row in table.rows[:_FEW] for place in places)
 
 
 def _reason_of(row: list[str], places: list[int]) -> str | None:
@@ -67,3 +77,24 @@ def shown(cells: list[str]) -> str:
 def lines(dropped: list[list[str]]) -> list[str]:
     """What the mail says of them."""
     return [f"dropped: {amount(len(dropped), 'row')}"] if dropped else []
+
+
+def _may_be_identifier(cell: str) -> bool:
+    return len(_DIGIT.findall(cell)) >= _LEAST_DIGITS or cell.strip().upper() == ANY
+
+
+def without_footer(columns: Sequence[str], rows: list[list[str]]) -> list[str]:
+    """Removes the last rows of a file if they have no identifier and hardly a filled cell, such as a total or a
+    copyright. Returns what is said of it."""
+    places = {place for place, name in enumerate(columns) if name in IDENTIFIERS}
+    below: list[int] = []
+    for number in range(len(rows) - 1, max(len(rows) - 1 - _MOST_BELOW, -1), -1) if places else ():
+        filled = [place for place, text in enumerate(rows[number]) if text.strip()]
+        numbers = (rows[number][place] for place in filled if place in places)
+        if len(filled) > _MOST_FILLED or any(map(_may_be_identifier, numbers)):
+            break
+        if filled:
+            below.append(number)
+    for number in below:
+        del rows[number]
+    return lines_of_counts(Count("below the table, left out", len(below), "row"))

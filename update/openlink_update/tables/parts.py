@@ -4,7 +4,7 @@ import re
 from collections.abc import Iterable, Sequence
 
 from openlink_update.outcome import Refused
-from openlink_update.tables.cells import IDENTIFIERS
+from openlink_update.received.column_names import IDENTIFIERS
 from openlink_update.tables.identifiers import form_of, standard
 from openlink_update.tables.table import Table, cell
 

@@ -1,3 +1,13 @@
 """The versions of a library: made from its input, judged, and kept."""
 
-__all__ = ["library", "making", "program", "same_files", "served", "shared_tables", "tables_again", "target_list"]
+__all__ = [
+    "earlier_files",
+    "library",
+    "making",
+    "program",
+    "same_files",
+    "served",
+    "shared_tables",
+    "tables_again",
+    "target_list",
+]

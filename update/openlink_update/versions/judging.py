@@ -3,29 +3,34 @@ of a table lead judges host_judge.py."""
 import dataclasses
 import datetime
 import re
-from collections.abc import Collection, Iterable
+from collections.abc import Callable, Collection, Iterable
 from pathlib import Path
 
 from openlink_update import shown_text
 from openlink_update.input_files import cells_in
 from openlink_update.tables.identifiers import form_of, standard
 from openlink_update.outcome import Refused
-from openlink_update.tables.cells import IDENTIFIERS
+from openlink_update.received.column_names import IDENTIFIERS
 from openlink_update.tables.parts import base_of
 from openlink_update.versions import host_judge
 from openlink_update.versions.host_judge import HostJudge
 from openlink_update.versions.program import PLACE, words_of
+from openlink_update.rules import compiled
 from openlink_update.tables.embargo import Embargo
 from openlink_update.tables.row_dates import NONE, date_in
 from openlink_update.tables.table import Table, cell
 from openlink_update.versions.program import Program
-from openlink_update.versions.served import names_in, path_of, rules_of, tables_in
+from openlink_update.versions.served import names_in, path_of, tables_in
 from openlink_update.versions.target_list import Target
+
+from openlink_update.slips.material import Material
+from openlink_update.slips.other_titles import OtherTitles
+from openlink_update.slips.slip_judge import SlipJudge
+from openlink_update.versions.allowed_words import ANY_OF_LINT, CAME, GONE, UP_TO
 from openlink_update.versions.undated_links import UndatedLinks
 
-_ANY_OF_LINT, _GONE, _MOST_GONE = "rule", "gone", 10  # in 100
-_CAME, _MOST_CAME, _FEW_CAME = "came", 50, 20  # in 100; as many titles are always allowed
-_UP_TO = re.compile(r"(.*\S) up to (\d{1,9})%?", re.A)
+_MOST_GONE = 10  # in 100
+_MOST_CAME, _FEW_CAME = 50, 20  # in 100; as many titles are always allowed
 _COUNTED = re.compile(r'[^0-9"]* (\d+)(?:, first .*|, ".*)?', re.A)
 _TITLE = ("publication_title", "date_first_issue_online", "date_last_issue_online", "embargo_info")
 _HEADING = ("change", "title", "numbers", "first date", "last date", "embargo")
@@ -51,8 +56,8 @@ class _Change:
 def _limits_of(allowed: Collection[str]) -> _Limits:
     """The words of a target's line, each with the number up to which it allows a warning, or None if it has none."""
     numbers = [text for text in sorted(allowed) if not host_judge.is_word(text)]
-    limits: _Limits = {text: None for text in numbers if not _UP_TO.fullmatch(text)}
-    return {**limits, **{it[1]: int(it[2]) for it in map(_UP_TO.fullmatch, numbers) if it}}
+    limits: _Limits = {text: None for text in numbers if not UP_TO.fullmatch(text)}
+    return {**limits, **{it[1]: int(it[2]) for it in map(UP_TO.fullmatch, numbers) if it}}
 
 
 def _number_in(line: str) -> int:
@@ -67,7 +72,7 @@ def _allowing(line: str, limits: Collection[str]) -> str | None:
     words = words_of(line)
     if words in limits:
         return words
-    return _ANY_OF_LINT if PLACE.match(line) is not None and _ANY_OF_LINT in limits else None
+    return ANY_OF_LINT if PLACE.match(line) is not None and ANY_OF_LINT in limits else None
 
 
 def _without_number(limits: _Limits) -> list[str]:
@@ -127,12 +132,12 @@ def _numbers_of(row: list[str], places: list[int | None]) -> list[str]:
 
 def _reasons_of_gone(before: set[str], after: set[str], limits: _Limits) -> list[str]:
     """Why the numbers that were served before and are gone are too many, as a list of at most one reason."""
-    gone, most = len(before - after), limits.get(_GONE)
+    gone, most = len(before - after), limits.get(GONE)
     most = _MOST_GONE if most is None else most
     if gone * 100 <= len(before) * most:
         return []
     part = -(-gone * 100 // len(before))
-    return [f"numbers gone {gone} of {len(before)}: {most}% are allowed; to allow it: {_GONE} up to {part}%"]
+    return [f"numbers gone {gone} of {len(before)}: {most}% are allowed; to allow it: {GONE} up to {part}%"]
 
 
 def _titles_of(changes: list[_Change]) -> set[tuple[str, str]]:
@@ -147,12 +152,12 @@ def _titles_in(table: Table) -> set[tuple[str, ...]]:
 
 def _reasons_of_came(before: int, came: int, limits: _Limits) -> list[str]:
     """Why the titles that came are too many for those before, as a list of at most one reason."""
-    most = limits.get(_CAME)
+    most = limits.get(CAME)
     most = _MOST_CAME if most is None else most
     if came <= _FEW_CAME or came * 100 <= before * most:
         return []
     part = -(-came * 100 // max(before, 1))
-    return [f"titles came {came}, and {before} before: {most}% are allowed; to allow it: {_CAME} up to {part}%"]
+    return [f"titles came {came}, and {before} before: {most}% are allowed; to allow it: {CAME} up to {part}%"]
 
 
 def _shown_date(text: str) -> str:
@@ -193,18 +198,24 @@ class Judge:
         self.allowed: dict[str, dict[str, int]] = {}
         self.undated = UndatedLinks(folder, older, program, today)
         self.hosts = HostJudge(folder, older, today, self.undated)
+        self._others = OtherTitles(self._tables_of_all)
+        self.slips = SlipJudge(older, today, self._others)
         self._changes: dict[str, tuple[list[_Change], list[_Change]]] = {}  # by target: the rows that came and went
 
-    def reasons(self, target: Target, parts: dict[str, Table], has_rules: bool, was_served: bool) -> list[str]:
-        """Why new files of a target, whose table has these parts, cannot be used. They are without walls."""
+    def reasons(
+        self, target: Target, parts: dict[str, Table], has_rules: bool, now: Material, before: Material | None
+    ) -> list[str]:
+        """Why new files of a target, whose table has these parts, cannot be used. They are without walls. `before` are
+        those of the version before, or None."""
         warnings, reasons = self._warnings(target, list(parts), has_rules)
-        limits, before = _limits_of(target.allowed), self.before.get(target.name, {})
-        totals = _totals_of([line for _, line in warnings], limits)
-        self.allowed[target.name] = {words: before.get(words, totals[words]) for words in _without_number(limits)}
+        limits, numbers = _limits_of(target.allowed), self.before.get(target.name, {})
+        self.slips.find(target.name, now, before)
+        totals = {**_totals_of([line for _, line in warnings], limits), **self._totals_of_slips(target.name, limits)}
+        self.allowed[target.name] = {words: numbers.get(words, totals[words]) for words in _without_number(limits)}
         known = {words: most for words, most in limits.items() if most is not None}
         reasons += _reasons_in(warnings, totals, {**known, **self.allowed[target.name]})
-        old = self._tables_before(target.name) if was_served else None
-        found: list[str] = []
+        old = self._tables_before(target.name) if before is not None else None
+        found = self.slips.reasons(target.name, target.allowed, self.allowed[target.name])
         if old is not None:
             before_and_now = _numbers_in(old), _numbers_in(parts.values())
             found += _reasons_of_gone(*before_and_now, limits)
@@ -213,6 +224,23 @@ class Judge:
             found += _reasons_of_came(len(set().union(*map(_titles_in, old))), len(came), limits)
         found += self.hosts.reasons(target.name, target.allowed, limits.get(host_judge.SAME), old, list(parts.values()))
         return reasons + [f"{target.table}: {reason}" for reason in found]
+
+    def _totals_of_slips(self, name: str, limits: Collection[str]) -> dict[str, int]:
+        """How many rows have each slip that words of the list name."""
+        return {words: count for words, count in self.slips.counts(name).items() if words in limits}
+
+    def accept(self, name: str, table: Table) -> None:
+        """Takes note of a table that was judged and is used."""
+        self.slips.accept(name)
+        self._others.add(table)
+
+    def finish(self) -> None:
+        """Gives back the memory that only judging needs."""
+        self._others.forget()
+
+    def _tables_of_all(self) -> Iterable[Table]:
+        """The tables of the version before."""
+        return tables_in(self._older, names_in(self._older)) if self._older is not None else ()
 
     def _tables_before(self, name: str) -> list[Table]:
         """The parts of a target's table in the version before."""
@@ -236,7 +264,7 @@ class Judge:
         if has_rules and not reasons:
             known = [line for _, line in found]
             for part in parts:
-                rules = rules_of(self._folder, target.name)
+                rules = compiled.path_in(self._folder, target.name)
                 lines = self._lines(target.rules, reasons, "lint", rules, path_of(part))
                 found += [it for it in lines if it not in found and it[1] not in known]
         return found, reasons
@@ -249,15 +277,19 @@ class Judge:
             reasons += [f"{place}: {reason}" for reason in refusal.reasons]
             return []
 
-    def keep(self, target: Target, parts: list[str], has_rules: bool, is_used: bool) -> None:
+    def keep(
+        self, target: Target, parts: list[str], has_rules: bool, is_used: bool, material: Callable[[], Material]
+    ) -> None:
         """Keeps the numbers for words of a target whose old files are used again. Where these are the ones of the
         input, those for words that are new in the list are today's."""
+        self.slips.keep(target.name, material)
         before = self.before.get(target.name, {})
         words = _without_number(_limits_of(target.allowed))
         kept = {it: before[it] for it in words if it in before}
         if is_used and len(kept) < len(words):
             warnings, _ = self._warnings(target, parts, has_rules)
-            kept = {**_totals_of([line for _, line in warnings], words), **kept}
+            totals = _totals_of([line for _, line in warnings], words)
+            kept = {**totals, **self._totals_of_slips(target.name, words), **kept}
         self.allowed[target.name] = kept
         self.hosts.keep(target.name, lambda: self._tables_before(target.name))
 
@@ -266,6 +298,7 @@ class Judge:
         self.allowed = self.before
         self.undated.keep_all()
         self.hosts.keep_all()
+        self.slips.keep_all()
 
     def text(self, targets: Iterable[str]) -> str:
         """What the next version has to know, as the file `allowed.tsv`."""

@@ -13,6 +13,7 @@
     allowed.tsv            a target, words of its line that allow warnings, and the number up to which they do
     hosts.tsv              see host_judge.py
     undated.tsv            see undated_links.py
+    slips.tsv, slip_limits.tsv    see slip_judge.py
     options.tsv            a target, and its options: see target_options.py
     abbreviations.tsv      see abbreviations.py
     index/                 the index of titles, for the front door
@@ -30,20 +31,24 @@ import shutil
 from collections.abc import Callable, Iterable, Iterator
 from pathlib import Path
 
-from openlink_update import target_options
+from openlink_update import run_notes, target_options
 from openlink_update.index import abbreviations, named_parts, target_heads, title_index
 from openlink_update.index.title_groups import Title
 from openlink_update.input_files import InputFile
 from openlink_update.outcome import Failure, Refused
 from openlink_update.received import patterns
 from openlink_update.root_folder import RootFolder
-from openlink_update.rules import pages, proxies, shipped
+from openlink_update.rules import compiled, pages, proxies, shipped
+from openlink_update.run_notes import TargetState
 from openlink_update.shown_text import amount
-from openlink_update.tables import date_order, dropped_rows, row_changes
+from openlink_update.slips import odd_rows, slip_judge
+from openlink_update.slips.material import Material
+from openlink_update.tables import dropped_rows, row_changes
 from openlink_update.tables.preparation import Prepared
 from openlink_update.tables.table import Table
 from openlink_update.target_options import Options
-from openlink_update.versions import earlier_files, host_judge, served, shared_tables, undated_links
+from openlink_update.versions import earlier_files, host_judge, shared_tables, undated_links
+from openlink_update.versions.allowed_words import FEWER
 from openlink_update.versions.earlier_files import EarlierFiles
 from openlink_update.versions.judging import Judge
 from openlink_update.versions.prepared_tables import PreparedTables
@@ -51,7 +56,6 @@ from openlink_update.versions.program import Program
 from openlink_update.versions.served import Tables, targets_in
 from openlink_update.versions.target_list import Target
 
-_FEWER = "less than half of the rows"
 _RECEIVED = "received"
 _PART = 2**20  # bytes that are compared at a time
 _OF_THE_OWNER = 0o600  # nginx needs no table as it came: what a library has received is its own
@@ -80,12 +84,27 @@ class _Files:
         return shared_tables.prepare(list(zip(self.paths, self.tables)), self.options)
 
     @functools.cached_property
+    def material(self) -> Material:
+        """What slips are looked for in; without rows if the table cannot be prepared."""
+        try:
+            it = self.prepared
+        except Refused:
+            it = Prepared(Table((), []), [], [], 0, [], [])
+        unended = next(filter(None, map(odd_rows.unended_line, self.tables)), "")
+        rules = None if self.has_code else self.rules
+        return Material(it.table, it.dropped, it.reversed, it.count, rules, self.options.proxy, unended)
+
+    @functools.cached_property
     def table_or_empty(self) -> Table:
         """The table, or nothing in place of one that cannot be prepared: a version may be older than preparation."""
         try:
             return self.prepared.table
         except Refused:
             return Table((), [])
+
+
+def _material_of(files: _Files) -> Material:
+    return files.material
 
 
 def _files_of(target: Target) -> _Files:
@@ -156,7 +175,9 @@ class Maker:
         """`received` opens the files that the older version has received, if this process may not."""
         self._received = received or (received_in(Path(older)) if older is not None else None)
         self._folder, self._older = Path(folder), None if older is None else Path(older)
-        self._program, self._today, self._report = program, today, report
+        self._program, self._today, self._print = program, today, report
+        self._said: list[str] = []  # of the target that is being made
+        self._moved = 0, 0  # of its rows: those that were added, and that are gone
         self.names: list[str] = []
         self.kept: list[str] = []
         self.left_out: list[str] = []
@@ -177,6 +198,7 @@ class Maker:
         for name in self._names_before():
             if name not in [target.name for target in targets]:
                 self._report(f"{name}: gone, since the list does not name it")
+                run_notes.note_target(TargetState(name, run_notes.GONE))
         if not self.names:
             raise Failure("no target is left")
         self._finish(has_list, self._pairs_before() if pairs is None else pairs)
@@ -203,6 +225,9 @@ class Maker:
         self._write("allowed.tsv", self._judge.text(self.names).encode())
         self._write(host_judge.NAME, self._judge.hosts.text(self.names).encode())
         self._write(undated_links.NAME, self._judge.undated.text(self.names).encode())
+        self._write(slip_judge.NAME, self._judge.slips.text(self.names).encode())
+        self._write(slip_judge.LIMITS, self._judge.slips.limits_text(self.names).encode())
+        self._judge.finish()
         self._write(target_options.NAME, target_options.text_of(self._options, self.names).encode())
         self._write(abbreviations.NAME, pairs)
         self._write(earlier_files.NAME, self._earlier.text(self.names, self._today).encode())
@@ -241,8 +266,19 @@ class Maker:
             else None
         )
 
+    def _report(self, line: str) -> None:
+        self._said.append(line)
+        self._print(line)
+
     def _add(self, target: Target) -> None:
-        """Adds a target with its new files, or its old ones, or leaves it out."""
+        """Adds a target with its new files, or its old ones, or leaves it out, and notes what became of it."""
+        self._said, self._moved = [], (0, 0)
+        state, files = self._added(target)
+        rows = len(files.table_or_empty.rows) if files else 0
+        run_notes.note_target(TargetState(target.name, state, rows, *self._moved, tuple(self._said)))
+
+    def _added(self, target: Target) -> tuple[str, _Files | None]:
+        """The state of a target that is added, and the files that are used."""
         old, new = self._files_before(target.name), None
         try:
             new = _files_of(target)
@@ -253,20 +289,24 @@ class Maker:
             self._say_refusal(target.name, old, reasons)
         if new is not None and not reasons and new != old:
             self.names.append(target.name)
+            self._judge.accept(target.name, new.prepared.table)
             self._say_changes(target.name, old, new)
         elif old is not None:
             self.names.append(target.name)
             self._put_again(target, old)
             self._judge.undated.find(target.name, old.prepared.table, not old.has_code)
             parts = self._tables.parts_of(target.name)
-            self._judge.keep(target, parts, not old.has_code, is_used=not reasons)
+            self._judge.keep(target, parts, not old.has_code, not reasons, functools.partial(_material_of, old))
         else:
             self._discard(target.name)
-            return
+            return run_notes.LEFT_OUT, None
         is_changed = new is not None and not reasons and new != old
         lines = self._judge.undated.lines(target.name, is_changed)
-        for line in [*self._judge.hosts.lines(target.name), *lines]:
+        for line in [*self._judge.hosts.lines(target.name), *self._judge.slips.lines(target.name), *lines]:
             self._report(f"{target.name}: {line}")
+        if is_changed:
+            return run_notes.CHANGED if old else run_notes.NEW, new
+        return run_notes.KEPT if reasons else run_notes.SAME, old
 
     def _put_again(self, target: Target, old: _Files) -> None:
         """Puts the files of the version before, which were good then."""
@@ -324,15 +364,15 @@ class Maker:
             return [f"{target.rules}: {reason}" for reason in refusal.reasons]
         if rules == files.rules:
             return []
-        (self._folder / served.RULES).mkdir(exist_ok=True)
-        self._write(served.rules_behind(target.name), rules)
-        return self._rejected(target.rules, "compile", served.rules_behind(target.name), code)
+        (self._folder / compiled.FOLDER).mkdir(exist_ok=True)
+        self._write(compiled.behind(target.name), rules)
+        return self._rejected(target.rules, "compile", compiled.behind(target.name), code)
 
     def _discard(self, name: str) -> None:
         """Removes what a target has in this version."""
         self._tables.discard(name)
         received = [f"received/{file}" for file in _received_names(self._folder, name)]
-        rules = [f"received/{name}.rules", f"received/{name}.olk", served.rules_behind(name), f"code/{name}.olk"]
+        rules = [f"received/{name}.rules", f"received/{name}.olk", compiled.behind(name), f"code/{name}.olk"]
         for place in (*rules, f"dropped/{name}.txt", *received):
             (self._folder / place).unlink(missing_ok=True)
 
@@ -354,15 +394,15 @@ class Maker:
         if self._tables.parts_of(target.name):
             parts = dict(self._tables.divided(target.name, prepared.table))
             self._judge.undated.find(target.name, prepared.table, not new.has_code and not reasons)
-            reasons += self._judge.reasons(target, parts, not new.has_code and not reasons, old is not None)
-        lines = (
-            *dropped_rows.reasons_against(prepared.dropped, prepared.count, target.allowed),
-            *date_order.reasons_against(prepared.reversed, prepared.count, target.allowed),
-        )
+            before_it = old.material if old is not None else None
+            reasons += self._judge.reasons(target, parts, not new.has_code and not reasons, new.material, before_it)
+        lines = dropped_rows.reasons_against(prepared.dropped, prepared.count, target.allowed)
         reasons += [f"{target.table}: {line}" for line in lines]
         before, after = len(old.table_or_empty.rows) if old else 0, len(prepared.table.rows)
-        if after * 2 < before and _FEWER not in target.allowed:
-            reasons.append(f"{target.table}: {_FEWER}: {after}, and {before} before; to allow it: {_FEWER}")
+        if after < target.options.least:
+            reasons.append(f"{target.table}: {amount(after, 'row')}, and at least {target.options.least} must be there")
+        if after * 2 < before and FEWER not in target.allowed:
+            reasons.append(f"{target.table}: {FEWER}: {after}, and {before} before; to allow it: {FEWER}")
         return reasons
 
     def _say_changes(self, name: str, old: _Files | None, new: _Files) -> None:
@@ -373,7 +413,7 @@ class Maker:
             changes = [] if new.rules == old.rules else ["rules changed"]
             changes += [] if new.options.proxy == old.options.proxy else ["proxy changed"]
             if new.tables != old.tables:
-                added, gone = row_changes.changes(old.table_or_empty, table)
+                added, gone = self._moved = row_changes.changes(old.table_or_empty, table)
                 changes.append(f"{amount(added, 'row')} added, {gone} gone")
             self._report(f"{name}: {', '.join(changes)}")
         lines = self._judge.write_changes(name) if old else []
@@ -401,7 +441,7 @@ def is_same(one: str | Path, other: str | Path, received: RootFolder | None = No
         for version in versions
     ]
     lists = ["registry.tsv", "allowed.tsv", host_judge.NAME, undated_links.NAME, abbreviations.NAME]
-    lists.append(target_options.NAME)
+    lists += [target_options.NAME, slip_judge.NAME, slip_judge.LIMITS]
     files = [*lists, "index/format", *names[0]]
     opened = received or received_in(versions[1])
     return names[0] == names[1] and all(

@@ -41,6 +41,7 @@ class _Stored(TypedDict):
     dropped: list[list[str]]
     count: int
     reversed: list[tuple[str, str]]
+    missing: list[str]
 
 
 def _sum_of(data: bytes) -> str:
@@ -133,13 +134,14 @@ def _stored(prepared: Prepared) -> _Stored:
         "dropped": prepared.dropped,
         "count": prepared.count,
         "reversed": prepared.reversed,
+        "missing": prepared.missing,
     }
 
 
 def _of_stored(stored: _Stored) -> Prepared:
     table = Table(tuple(stored["columns"]), stored["rows"])
     pairs = [(first, last) for first, last in stored["reversed"]]
-    return Prepared(table, stored["lines"], stored["dropped"], stored["count"], pairs)
+    return Prepared(table, stored["lines"], stored["dropped"], stored["count"], pairs, stored["missing"])
 
 
 def _path_of(files: Files) -> Path | None:

@@ -12,6 +12,7 @@ from openlink_update.outcome import Failure, Refused
 from openlink_update.rules import shipped
 from openlink_update.tables import parts
 from openlink_update.target_options import Options
+from openlink_update.versions import allowed_words
 
 _LIST = "targets.tsv"
 _NAME = re.compile(r"[A-Za-z0-9_.-]{1,64}")
@@ -93,7 +94,7 @@ def _fourth_cell(cell: str, place: str) -> tuple[Options, frozenset[str], tuple[
         options, allowed = target_options.parse(cell)
     except Refused as refusal:
         return target_options.NONE, frozenset(), tuple(f"{place}: {reason}" for reason in refusal.reasons)
-    return options, allowed, ()
+    return options, allowed, tuple(f"{place}: {line}" for line in allowed_words.unknown(allowed))
 
 
 def _joined(folder: InputFolder, path: str) -> str:

@@ -1,0 +1,3 @@
+"""What the front door's logs hold, counted by month."""
+
+__all__ = ["log_counts"]

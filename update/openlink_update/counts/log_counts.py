@@ -1,0 +1,253 @@
+"""Counts what the front door's logs hold, by month. A line has no reader's address and no query. There are three forms:
+
+    TIME STATUS METHOD PATH SECONDS found=FULL/ALL targets=NAME,NAME from=SOURCE    a request; older lines lack `targets`
+    MONTH target=NAME NUMBER    a link that a reader followed, and the ISSN or ISBN of the request, or -
+    MONTH NUMBER YEAR           a title that was asked for in vain, and the year, or -
+
+The path of an error that nginx found is /fault. A path with a space is none of the front door's. Whoever sends requests
+chooses sources and numbers, so each kind of name has a greatest number; what comes after it is counted together, under
+OTHERS, and a log of any size takes the same memory."""
+import re
+from collections import Counter, defaultdict
+from collections.abc import Iterable, Iterator, Sequence
+from typing import BinaryIO
+
+OTHERS = "(others)"
+_NO_SOURCE = b"(none)"
+Row = tuple[str, str, str, int]  # month, kind, name, number
+
+REQUESTS, PROBES, WITHOUT_FULL_TEXT, WITHOUT_LINK = "requests", "probes", "without full text", "without a link"
+ERRORS, SOURCE, SOURCE_WITHOUT = "errors", "source", "source without full text"
+SHOWN, FOLLOWED, FOLLOWED_TITLE, IN_VAIN = "shown", "followed", "followed title", "asked in vain"
+_KINDS = (
+    REQUESTS, PROBES, WITHOUT_FULL_TEXT, WITHOUT_LINK, ERRORS, SOURCE, SOURCE_WITHOUT, SHOWN, FOLLOWED, FOLLOWED_TITLE,
+    IN_VAIN,
+)  # fmt: skip
+
+_BLOCK = 2**20  # bytes that are read at once
+_MOST_LINE = 2**17  # bytes; nginx writes shorter ones
+_MOST_MONTHS = 1200
+_MOST_SOURCES = 10_000  # of a month; only an attack has more
+_MOST_SOURCES_IN_ALL = 100_000
+_MOST_TARGETS_IN_ALL = 50_000  # with months
+_MOST_TITLES_IN_ALL = 100_000  # followed, with months and targets
+_MOST_VAIN_IN_ALL = 100_000  # with months
+_MOST_NAME = 100  # bytes of a source or a target
+
+_PROBE = b"info:sid/openlink:probe"
+_REDIRECT = b"302"
+_PATHS = (b"/find", b"/find.json", b"/go", b"/fault")
+_ISSN_OR_ISBN = rb"\d{4}-\d{3}[\dX]|97[89]\d{10}"
+_MONTH = re.compile(rb"\d{4}-[01]\d")
+_STATUS = re.compile(rb"[1-5]\d\d")
+_FOUND = re.compile(rb"found=\d+/\d+")
+_TARGETS = re.compile(rb"targets=[A-Za-z0-9_.,-]*")
+_SOURCE = re.compile(rb"[A-Za-z0-9_:./-]*")
+_TARGET = re.compile(rb"target=([A-Za-z0-9_.-]{1,100})")
+_NUMBER = re.compile(_ISSN_OR_ISBN)
+_YEAR = re.compile(rb"[12]\d{3}|-")
+
+# Lines of requests as the front door writes them, with the month, the status, how the number of links begins, the
+# targets, the status of an error and the source. Then those of other paths, and last any other line.
+_REQUEST_LINES = re.compile(
+    rb"^(?:(\d{4}-[01]\d)\S{18} (?:([123]\d\d) \S+ /(?:find(?:\.json)?|go|fault) \S+ "
+    rb"found=(?:(0/0(?= )|0/(?=\d+ )|\d(?=\d*/\d+ ))[\d/]*(?: targets=([A-Za-z0-9_.,-]*))?|(?: targets=)?)"
+    rb"|([45]\d\d) \S+ /(?:find(?:\.json)?|go|fault) \S+ found=\S*(?: targets=\S*)?)"
+    rb" from=(?!info:sid/openlink:probe$)([A-Za-z0-9_:./-]{0,100})"
+    rb"|\d{4}-[01]\d\S{18} [1-5]\d\d \S+ (?!/(?:find(?:\.json)?|go|fault) )/\S* \S+ found=\S* targets=\S* from=\S*"
+    rb"|(.+))$\n?",
+    re.M,
+)
+# Lines of links that were followed, with the month, the target and the number; and any other line.
+_FOLLOWED_LINES = re.compile(
+    rb"^(?:(\d{4}-[01]\d) target=([A-Za-z0-9_.-]{1,100}) (" + _ISSN_OR_ISBN + rb"|-)|(.+))$\n?", re.M
+)
+
+
+class _Names:
+    """Numbers by month and name, of at most `most` names in all, and of `most_of_month` in a month."""
+
+    def __init__(self, most: int, most_of_month: int) -> None:
+        self.by_month: defaultdict[bytes, dict[bytes, int]] = defaultdict(dict)
+        self._left = most
+        self._most_of_month = most_of_month
+
+    def add(self, month: bytes, name: bytes, number: int) -> bytes:
+        """Counts a name, and returns the name that it is counted by."""
+        numbers = self.by_month[month]
+        if name not in numbers:
+            if self._left == 0 or len(numbers) >= self._most_of_month:
+                name = OTHERS.encode()
+            else:
+                self._left -= 1
+        numbers[name] = numbers.get(name, 0) + number
+        return name
+
+
+class Counts:
+    """What was counted; how many lines were read, and how many of them have none of the forms."""
+
+    def __init__(self) -> None:
+        self.lines = 0
+        self.unread = 0
+        self._months: set[bytes] = set()
+        self._plain: Counter[tuple[bytes, str, bytes]] = Counter()  # of few names, such as a status
+        self._without: Counter[tuple[bytes, bytes]] = Counter()  # sources that _sources names
+        self._sources = _Names(_MOST_SOURCES_IN_ALL, _MOST_SOURCES)
+        self._shown = _Names(_MOST_TARGETS_IN_ALL, _MOST_TARGETS_IN_ALL)
+        self._followed = _Names(_MOST_TARGETS_IN_ALL, _MOST_TARGETS_IN_ALL)
+        self._titles = _Names(_MOST_TITLES_IN_ALL, _MOST_TITLES_IN_ALL)
+        self._vain = _Names(_MOST_VAIN_IN_ALL, _MOST_VAIN_IN_ALL)
+
+    def rows(self) -> list[Row]:
+        """The table: by month, the kinds in their order, and of each kind the greatest numbers first."""
+        named = (
+            (SOURCE, self._sources),
+            (SHOWN, self._shown),
+            (FOLLOWED, self._followed),
+            (FOLLOWED_TITLE, self._titles),
+            (IN_VAIN, self._vain),
+        )
+        rows = [(month.decode(), kind, name.decode(), number) for (month, kind, name), number in self._plain.items()]
+        rows += [(month.decode(), SOURCE_WITHOUT, name.decode(), it) for (month, name), it in self._without.items()]
+        for kind, names in named:
+            for month, numbers in names.by_month.items():
+                rows += [(month.decode(), kind, name.decode(), number) for name, number in numbers.items()]
+        places = {kind: place for place, kind in enumerate(_KINDS)}
+        return sorted(rows, key=lambda row: (row[0], places[row[1]], -row[3], row[2]))
+
+    def add(self, block: bytes) -> None:
+        """Counts whole lines."""
+        is_short = block[7:8] == b" "  # the forms with a month, which have files of their own
+        lines = (_FOLLOWED_LINES if is_short else _REQUEST_LINES).findall(block)
+        if not lines:
+            return
+        self.lines += len(lines)
+        columns: tuple[tuple[bytes, ...], ...] = tuple(zip(*lines))
+        for text, number in Counter(filter(None, columns[-1])).items():
+            self._add_fields(text.split(), number)
+        if is_short:
+            for (month, target, isn), number in Counter(zip(*columns[:3])).items():
+                self._add_followed(month, target, isn, number)
+        else:
+            self._add_requests(columns)
+
+    def _add_requests(self, columns: Sequence[tuple[bytes, ...]]) -> None:
+        months, statuses, found, targets, errors, sources, _ = columns
+        for (month, error, start, source), number in Counter(zip(months, errors, found, sources)).items():
+            if month and not self._is_counted(month, number):
+                continue
+            if error:
+                self._plain[month, ERRORS, error] += number
+            elif start:
+                self._add_request(month, start, source, number)
+        lists: defaultdict[tuple[bytes, bool], list[bytes]] = defaultdict(list)
+        for month, status, names in zip(months, statuses, targets):
+            if names:
+                lists[month, status == _REDIRECT].append(names)
+        for (month, is_followed), texts in lists.items():
+            self._add_targets(month, is_followed, b",".join(texts))
+
+    def _is_counted(self, month: bytes, number: int) -> bool:
+        """Whether a month has a place; its lines have another form if it has none."""
+        if month in self._months:
+            return True
+        if len(self._months) == _MOST_MONTHS:
+            self.unread += number
+            return False
+        self._months.add(month)
+        return True
+
+    def _add_request(self, month: bytes, found: bytes, source: bytes, number: int) -> None:
+        self._plain[month, REQUESTS, b""] += number
+        is_without = found.startswith(b"0/")
+        if source:
+            source = self._sources.add(month, source, number)
+            if is_without:
+                self._without[month, source] += number
+        else:
+            self._plain[month, SOURCE, _NO_SOURCE] += number
+            if is_without:
+                self._without[month, _NO_SOURCE] += number
+        if is_without:
+            self._plain[month, WITHOUT_FULL_TEXT, b""] += number
+        if found == b"0/0":
+            self._plain[month, WITHOUT_LINK, b""] += number
+
+    def _add_targets(self, month: bytes, is_followed: bool, names: bytes, number: int = 1) -> None:
+        if month not in self._months:
+            return
+        counted = self._followed if is_followed else self._shown
+        for name, times in Counter(names.split(b",")).items():
+            counted.add(month, name if len(name) <= _MOST_NAME else OTHERS.encode(), times * number)
+
+    def _add_followed(self, month: bytes, target: bytes, isn: bytes, number: int) -> None:
+        if month and self._is_counted(month, number):
+            self._followed.add(month, target, number)
+            self._titles.add(month, target + b" " + isn, number)
+
+    def _add_fields(self, fields: list[bytes], number: int) -> None:
+        """Counts a line of a form that is rare, or of another one, and all that are the same."""
+        if not fields:
+            self.lines -= number
+        elif len(fields) == 3 and _MONTH.fullmatch(fields[0]):
+            self._add_short(fields, number)
+        elif (
+            len(fields) < 7
+            or not _MONTH.fullmatch(fields[0][:7])
+            or not _STATUS.fullmatch(fields[1])
+            or not fields[-1].startswith(b"from=")
+        ):
+            self.unread += number
+        elif len(fields) <= 8 and fields[3] in _PATHS:
+            self._add_long(fields, number)
+
+    def _add_short(self, fields: list[bytes], number: int) -> None:
+        month, name, last = fields
+        target = _TARGET.fullmatch(name)
+        if target and (last == b"-" or _NUMBER.fullmatch(last)):
+            self._add_followed(month, target[1], last, number)
+        elif _NUMBER.fullmatch(name) and _YEAR.fullmatch(last):
+            if self._is_counted(month, number):
+                self._vain.add(month, name, number)
+        else:
+            self.unread += number
+
+    def _add_long(self, fields: list[bytes], number: int) -> None:
+        month, status, found, source = fields[0][:7], fields[1], fields[5], fields[-1].removeprefix(b"from=")
+        if source == _PROBE or status >= b"4":
+            if self._is_counted(month, number):
+                self._plain[month, *((PROBES, b"") if source == _PROBE else (ERRORS, status))] += number
+            return
+        if found == b"found=":
+            return
+        is_read = _FOUND.fullmatch(found) and (len(fields) == 7 or _TARGETS.fullmatch(fields[6]))
+        if not is_read or len(source) > _MOST_NAME or not _SOURCE.fullmatch(source):
+            self.unread += number
+        elif self._is_counted(month, number):
+            self._add_request(month, found.removeprefix(b"found="), source, number)
+            names = fields[6].removeprefix(b"targets=") if len(fields) == 8 else b""
+            if names:
+                self._add_targets(month, status == _REDIRECT, names, number)
+
+
+def counts_of(files: Iterable[BinaryIO]) -> Counts:
+    """What these files hold, each from its beginning on."""
+    counts = Counts()
+    for file in files:
+        for block in blocks_of(file):
+            counts.add(block)
+    return counts
+
+
+def blocks_of(file: BinaryIO) -> Iterator[bytes]:
+    """The lines of a file, in blocks of whole lines. Of one that is longer than any of a log a part is left out."""
+    rest = b""
+    while chunk := file.read(_BLOCK):
+        block = rest + chunk
+        end = block.rfind(b"\n") + 1
+        rest = block[end:][:_MOST_LINE]
+        if end:
+            yield block[:end]
+    if rest:
+        yield rest

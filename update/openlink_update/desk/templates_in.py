@@ -1,0 +1,41 @@
+"""The templates of the pages, by python3-jinja2, which nothing else of the update needs."""
+import importlib
+import importlib.util
+from pathlib import Path
+from typing import Protocol
+
+FOLDER = Path(__file__).resolve().parent / "templates"
+_MODULE = "jinja2"
+PACKAGE = "python3-jinja2"
+
+
+class _Template(Protocol):
+    def render(self, **values: object) -> str:
+        """The text with these values, of which each is escaped."""
+
+
+class _Environment(Protocol):
+    def get_template(self, name: str) -> _Template:
+        """The template in a file."""
+
+
+def are_there() -> bool:
+    """Whether the package is installed."""
+    return importlib.util.find_spec(_MODULE) is not None
+
+
+class Templates:
+    def __init__(self) -> None:
+        module = importlib.import_module(_MODULE)
+        made: _Environment = module.Environment(
+            loader=module.FileSystemLoader(str(FOLDER)),
+            autoescape=True,
+            undefined=module.StrictUndefined,
+            trim_blocks=True,
+            lstrip_blocks=True,
+            keep_trailing_newline=True,
+        )
+        self._environment = made
+
+    def page(self, name: str, **values: object) -> str:
+        return self._environment.get_template(name).render(**values)

@@ -1,0 +1,34 @@
+"""The check digits of ISSNs and ISBNs. A number whose digit does not fit was mistyped, or is not the number of a
+title: no request has it."""
+from openlink_update.tables.identifiers import form_of
+
+_WEIGHTS = (8, 7, 6, 5, 4, 3, 2)
+_ONES = {**{str(digit): digit for digit in range(10)}, "X": 10, "x": 10}
+# The weighted sums of the first four digits of an ISSN, and of the three after them.
+_FOUR = {f"{number:04}": sum(int(d) * w for d, w in zip(f"{number:04}", _WEIGHTS[:4])) for number in range(10000)}
+_THREE = {f"{number:03}": sum(int(d) * w for d, w in zip(f"{number:03}", _WEIGHTS[4:])) for number in range(1000)}
+
+
+def _fits_issn(form: str) -> bool:
+    return (_FOUR[form[:4]] + _THREE[form[5:8]] + _ONES[form[8]]) % 11 == 0
+
+
+def _fits_long(form: str) -> bool:
+    digits = form.encode()  # the codes of the digits add a multiple of ten
+    return (sum(digits[::2]) + 3 * sum(digits[1::2])) % 10 == 0
+
+
+def _fits_short(form: str) -> bool:
+    return sum(_ONES[digit] * weight for digit, weight in zip(form, range(10, 0, -1))) % 11 == 0
+
+
+def is_wrong(cell: str) -> bool:
+    """Whether a cell has a number whose check digit does not fit."""
+    if len(cell) == 13 and cell.isascii() and cell.isdecimal():
+        return cell[:3] in ("978", "979") and not _fits_long(cell)
+    form = form_of(cell)
+    if not form:
+        return False
+    if len(form) == 9:
+        return not _fits_issn(form)
+    return not (_fits_long(form) if len(form) == 13 else _fits_short(form))
