@@ -120,14 +120,29 @@ class Lines(Case):
 
     def test_addresses(self) -> None:
         """The column has only web addresses, and is never empty; the judge of hosts knows where it leads."""
-        cells = ("https://a.example/1", " HTTP://b.example/2 ", "", "www.c.example", "javascript:alert(1)", "none:")
+        pairs = {
+            "https://a.example/1": "https://a.example/1",
+            " HTTP://b.example/2 ": "HTTP://b.example/2",
+            "": "none:",
+            "https://c.example": "https://c.example/",
+            "https://d.example:8443?a=b#c": "https://d.example:8443/?a=b#c",
+            "javascript:alert(1)": "none:",
+            "none:": "none:",
+            "https://": "none:",
+            "https:///e": "none:",
+            "https://e.example@f.example/": "none:",
+            "https://e.example\\@f.example/": "none:",
+            "https://é.example/": "none:",
+            "https://e.example/a b": "none:",
+        }
+        cells = list(pairs)
         rows = [(f"T{at}", issn(at + 1), "", "1990", "", text, f"t{at}") for at, text in enumerate(cells)]
         rules = "rule\nlink {+title_page}\n"
         with Weeks() as weeks:
             weeks.week("press", table(*rows), "title_url not a web link", rules=rules)
             header, served = weeks.rows("press")
             found = [row[header.index("title_page")] for row in served]
-            self.expect("the cells", found, ["https://a.example/1", "HTTP://b.example/2", "none:", "none:", "none:", "none:"])
+            self.expect("the cells", found, list(pairs.values()))
             evil = [(*row[:5], row[5].replace("a.example", "evil.example"), row[6]) for row in rows]
             reason = weeks.week("press", table(*evil), "title_url not a web link", rules=rules)
-            self.expect("a new host", reason[0].startswith("new host evil.example in 1 of 6 rows"))
+            self.expect("a new host", reason[0].startswith("new host evil.example in 1 of 13 rows"))

@@ -1,3 +1,3 @@
 """The librarian's desk: pages of the week, the year and the rules of a library, which nginx serves as files."""
 
-__all__ = ["collection", "writing"]
+__all__ = ["writing"]
