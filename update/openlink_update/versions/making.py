@@ -38,7 +38,7 @@ from openlink_update.input_files import InputFile
 from openlink_update.outcome import Failure, Refused
 from openlink_update.received import patterns
 from openlink_update.root_folder import RootFolder
-from openlink_update.rules import compiled, pages, proxies, shipped
+from openlink_update.rules import compiled, pages, proxies
 from openlink_update.run_notes import TargetState
 from openlink_update.shown_text import amount
 from openlink_update.slips import odd_rows, slip_judge
@@ -115,8 +115,7 @@ def _files_of(target: Target) -> _Files:
     for number, path in enumerate((target.rules, *target.tables)):
         try:
             found = patterns.path_of(path, target.input.matches) if number else path
-            is_shipped = number == 0 and target.is_shipped
-            sources.append(shipped.file(path) if is_shipped else target.input.file(found))
+            sources.append(target.input.file(found) if number else target.rules_file())
         except OSError as fault:
             is_pattern = "*" in path and isinstance(fault, FileNotFoundError)
             reasons.append(f"{fault.filename or path}: {'no file has such a name' if is_pattern else fault.strerror}")
