@@ -58,4 +58,4 @@ async function metrics(r) {
     exchange.send(r, 200, 'text/plain; version=0.0.4; charset=utf-8', lines.join('\n'));
 }
 
-export default { deskLines, nginxLines, metrics: exchange.guarded(metrics) };
+export default { metrics: exchange.guarded(metrics) };
