@@ -1,11 +1,13 @@
 """What the update reads in the head of a rule file, and how much of it."""
 from __future__ import annotations
 
+import json
 import string
 import tempfile
 from pathlib import Path
 
 from fixtures.cases import Case
+from openlink_update.exports.site_names import SiteNames
 from openlink_update.index import target_heads
 from openlink_update.rules import heads
 from openlink_update.rules.heads import Head
@@ -69,6 +71,21 @@ class Lines(Case):
             ("ab-123456789", False), ("ab-1-2-3-4", True), ("ab-1-2-3-4-5", False), ("ab-", False),
         ):
             self.expect(tag, bool(head(f"# label {tag}: x").labels), is_one)
+
+    def test_exports(self) -> None:
+        """The lists for others have the label, and count as full text what the first group has."""
+        with tempfile.TemporaryDirectory() as folder:
+            site = {"languages": ["de"], "groups": [{"name": "Full text"}, {"name": "Other"}], "targets": {"a": {}}}
+            (Path(folder) / "targets.json").write_text(json.dumps(site))
+            for name, text in (
+                ("a", "# label: No\n# group: Other\n"), ("b", "# label de: B\n# label: C\n# group: Full text\n"),
+                ("c.x", "# label: C\n# group: Other\n"), ("d", "# label fr: D\n# group: More\n"),
+            ):
+                (Path(folder) / f"{name}.rules").write_text(text)
+            names = SiteNames(Path(folder) / "targets.json", Path(folder).glob("*.rules"))
+            found = {it: (names.label(it), names.is_full_text(it)) for it in ("a", "b", "c.x", "d", "e")}
+            wanted = {"a": ("a", True), "b": ("B", True), "c.x": ("C", False), "d": ("d", False), "e": ("e", False)}
+            self.expect("labels and full text", found, wanted)
 
     def test_file(self) -> None:
         """The file of the index: a line for each target whose rules say something, and none of a code file."""
