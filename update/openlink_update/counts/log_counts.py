@@ -28,10 +28,10 @@ _BLOCK = 2**20  # bytes that are read at once
 _MOST_LINE = 2**17  # bytes; nginx writes shorter ones
 _MOST_MONTHS = 1200
 _MOST_SOURCES = 10_000  # of a month; only an attack has more
-_MOST_SOURCES_IN_ALL = 100_000
+_MOST_SOURCES_IN_ALL = 60_000
 _MOST_TARGETS_IN_ALL = 50_000  # with months
-_MOST_TITLES_IN_ALL = 100_000  # followed, with months and targets
-_MOST_VAIN_IN_ALL = 100_000  # with months
+_MOST_TITLES_IN_ALL = 60_000  # followed, with months and targets
+_MOST_VAIN_IN_ALL = 60_000  # with months
 _MOST_NAME = 100  # bytes of a source or a target
 
 _PROBE = b"info:sid/openlink:probe"
