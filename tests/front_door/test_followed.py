@@ -176,7 +176,7 @@ class Followed(SiteCase):
         clicks = lines_of(self.site, LOG)
         for target in NO_TARGETS:
             before = lines_of(self.site)
-            for query in (f"target={target}&{ARTICLE}", f"{ARTICLE}&target={target}&first=1"):
+            for query in (f"target={target}&{ARTICLE}&target=x", f"{ARTICLE}&target={target}&first=1"):
                 reply = self.site.get(f"/go?{query}")
                 self.expect(f"{target[:40]}: the page", (reply.status, reply.headers["Location"]), (200, None))
                 self.expect(f"{target[:40]}: the links", "tidal-press" in reply.text)

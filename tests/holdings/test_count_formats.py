@@ -224,7 +224,7 @@ class Formats(CountsCase):
             status, text, said = self.text(*words)
             self.expect(f"{words}", (status, text, said[:22]), (2, "", "usage: openlink-counts"))
         for option in "--cost", "--counter":
-            said = f"openlink-counts: none: cannot be read\n"
+            said = "openlink-counts: none: cannot be read\n"
             self.expect(f"{option}: no file", self.text(option, f"{self.folder}/none", *self.logs), (3, "", said))
 
 
@@ -234,11 +234,15 @@ class Costs(CountsCase):
         self.expect("a table", self.text("--cost", costs, *self.logs), (0, COST_TABLE, ""))
         data = json.loads(self.text("--format", "json", "--cost", costs, *self.logs)[1])
         self.expect("data", [list(row.values()) for row in data["cost"]], [
-            ["2025", "other", 3.5, 0, 0, None], ["2026", "catalogue", 7, 2, 2, 3.5], ["2026", "tidal-press", 100, 2, 4, 25],
+            ["2025", "other", 3.5, 0, 0, None],
+            ["2026", "catalogue", 7, 2, 2, 3.5],
+            ["2026", "tidal-press", 100, 2, 4, 25],
         ])  # fmt: skip
         rows = sheets_of(self.counted("--format", "xlsx", "--cost", costs, *self.logs)[1])["cost"]
         self.expect("a sheet", rows[1:], [
-            ["2025", "other", 3.5, 0, 0, None], ["2026", "catalogue", 7, 2, 2, 3.5], ["2026", "tidal-press", 100, 2, 4, 25],
+            ["2025", "other", 3.5, 0, 0, None],
+            ["2026", "catalogue", 7, 2, 2, 3.5],
+            ["2026", "tidal-press", 100, 2, 4, 25],
         ])  # fmt: skip
 
     def test_wrong_files(self) -> None:
@@ -275,7 +279,7 @@ class Reports(CountsCase):
         return texts
 
     def test_several(self) -> None:
-        """Titles that share a number are one, whatever report has them; the same report twice is said, and counts once."""
+        """Titles that share a number are one, whatever report has them; a report that is given twice counts once."""
         report = self.write("report.csv", REPORT)
         other = self.write(
             "other.csv", HEAD + COLUMNS + ANNALS.replace("2908-0142", "").format(1, "Unique_Item_Requests", 3, 3, 0)
