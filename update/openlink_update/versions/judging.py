@@ -12,7 +12,6 @@ from openlink_update.tables.identifiers import form_of, standard
 from openlink_update.outcome import Refused
 from openlink_update.received.column_names import IDENTIFIERS
 from openlink_update.tables.parts import base_of
-from openlink_update.versions import host_judge
 from openlink_update.versions.host_judge import HostJudge
 from openlink_update.versions.program import PLACE, words_of
 from openlink_update.tables.embargo import Embargo
