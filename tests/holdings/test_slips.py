@@ -316,6 +316,9 @@ class Planted(Case):
                 self.expect(f"{case.words}: said", lines, wanted)
                 more = data_of([*planted, *good(200, 201)])
                 weeks.week("press", more, allowed, rules=RULES)
+                lines = [line.split("\t") for line in weeks.read("slips.tsv").decode().splitlines()]
+                counts = [cells[2] for cells in lines if cells[1] == case.words]
+                self.expect(f"{case.words}: old rows count too", counts, [str(case.few)])
                 again = [line for line in weeks.said if line.startswith(f"press: {case.words}")]
                 self.expect(f"{case.words}: not again", again, [])
 

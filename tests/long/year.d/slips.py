@@ -119,8 +119,8 @@ def few_without_numbers(provider, source):
 
 def embargo_in_words(provider, source):
     lines = changed(cells(provider), "embargo_info", lambda cell: "six months" if cell else "")
-    rows = tuple(dataclasses.replace(row, embargo="") for row in provider.rows)
-    return Slip(USED, ("  embargo_info not an embargo ",), data=text(lines), rows=rows)
+    rows = tuple(dataclasses.replace(row, embargo="P6M" if row.embargo else "") for row in provider.rows)
+    return Slip(USED, ("  embargoes in words written as KBART does: ",), data=text(lines), rows=rows)
 
 
 def dates_of_two_readings(provider, source):
@@ -233,7 +233,7 @@ KINDS = {
     ),
     "a spreadsheet": no_table(
         lambda provider: tables.zipped({"[Content_Types].xml": "x", "xl/workbook.xml": "x"}),
-        "a spreadsheet: save it as text with tabs",
+        "a spreadsheet whose XML is cut short or damaged",
     ),
     "UTF-16 without its mark": no_table(
         lambda provider: tables.text_of(cells(provider)).encode("utf-16-le"), "it has bytes of zero"
