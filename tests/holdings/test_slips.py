@@ -318,7 +318,8 @@ class Planted(Case):
                 weeks.week("press", more, allowed, rules=RULES)
                 lines = [line.split("\t") for line in weeks.read("slips.tsv").decode().splitlines()]
                 counts = [cells[2] for cells in lines if cells[1] == case.words]
-                self.expect(f"{case.words}: old rows count too", counts, [str(case.few)])
+                compares = case.words in ("new texts that rules do not compare with", "titles in capitals")
+                self.expect(f"{case.words}: old rows count too", counts, [] if compares else [str(case.few)])
                 again = [line for line in weeks.said if line.startswith(f"press: {case.words}")]
                 self.expect(f"{case.words}: not again", again, [])
 
