@@ -180,6 +180,7 @@ class Cells(Case):
             ("Annals of Tidal Studies", "Tidal Studies (Online)", False),
             ("Études de la mer", "etudes de la MER", False),
             ("Annals of Tidal Studies", "Journal of Harbour Engineering", True),
+            ("Coastal Erosion Management", "Coastal Birds Photography", True),
             ("学報", "Glaciers", False),
         ):
             now = material((title, "0028-0836", "https://a.org/1"))

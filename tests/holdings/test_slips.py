@@ -561,6 +561,8 @@ class GoodFiles(Case):
 
     def test_honest_weeks(self) -> None:
         """Weeks that are in order."""
+        unended = material_of(data_of(good())[:-1], RULES.encode())
+        self.expect("a provider whose files have no last line end", slips_of(unended, unended), {})
         before = material_of(data_of(good()), RULES.encode())
         for name, rows in (
             ("titles of their own case", [[row[0].title(), *row[1:]] for row in good()]),
