@@ -73,6 +73,17 @@ class Names(Case):
         wanted = "publication_title\tprint_identifier\nTides\t2901-0012\tmore\n\t2915-0272\n"
         self.expect("rows", table(cell, text), wanted)
 
+    def test_several_dropped(self) -> None:
+        text = "A;Titel;B;C;ISSN;D\na;Tides;b;c;2901-0012;d\n"
+        cell = "columns Titel=publication_title, ISSN=print_identifier, A=-, B=-, C=-, D=-"
+        self.expect("they go", table(cell, text), "publication_title\tprint_identifier\nTides\t2901-0012\n")
+        names = "no header -, publication_title, -, -, print_identifier, -"
+        self.expect(
+            "without a header",
+            table(names, text.splitlines()[1]),
+            "publication_title\tprint_identifier\nTides\t2901-0012\n",
+        )
+
     def test_own_columns(self) -> None:
         text = "publication_title\tprint_identifier\tFach\nTides\t2901-0012\tsea\n"
         got = table("columns Fach=x_subject", text)

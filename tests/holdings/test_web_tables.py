@@ -1,13 +1,18 @@
 """A web page that holds a table, where the line of a target says so; and pages that are made to take long."""
 from __future__ import annotations
 
+import tempfile
 import time
+from pathlib import Path
 
 from fixtures.cases import Case
 from fixtures.patience import patience
 from fixtures.spreadsheet_files import archive_of
+from fixtures.spreadsheet_files import xlsx
 from openlink_update.fetch import fetching
+from openlink_update.fetch import sources
 from openlink_update.fetch.sources import Source
+from openlink_update.input_files import InputFolder
 from openlink_update.outcome import Refused
 from openlink_update.outcome import Unreadable
 from openlink_update.tables import preparation
@@ -168,3 +173,31 @@ class Fetching(Case):
         self.expect("a login", fetched(LOGIN, is_html=True), "a web page that asks for a password")
         self.expect("no table", fetched("<html>Sign in</html>", is_html=True), "a web page without a table")
         self.expect("rows", fetched(PAGE, is_html=True, least=2), "1 row, and at least 2 must be there")
+
+    def test_option(self) -> None:
+        with tempfile.TemporaryDirectory() as folder:
+            address = "https://press.example.com/list"
+            Path(folder, "sources.tsv").write_text(
+                f"a.txt\t{address}\thtml table; least 2 rows\nb.txt\t{address}\thtml tables\n"
+            )
+            found, wrong = sources.read(InputFolder(folder))
+            self.expect("the source", [(it.file, it.is_html, it.least) for it in found], [("a.txt", True, 2)])
+            self.expect("another word", [line.rpartition(": ")[2] for line in wrong], ["unknown option html"])
+
+    def test_spreadsheets(self) -> None:
+        """They are fetched as they come, and their first sheet has the rows that are counted."""
+        source = Source("a.xlsx", "https://example.com/", least=2)
+        head = ["publication_title", "print_identifier", "online_identifier"]
+        for count, wanted in ((2, ""), (1, "1 row, and at least 2 must be there")):
+            data = xlsx([["Titles"], head, *[["Tides", "2901-0012", ""]] * count])
+            try:
+                got = "" if fetching.table_in(data, source) == data else "other bytes"
+            except Unreadable as fault:
+                got = str(fault)
+            self.expect(f"{count} rows", got, wanted)
+        try:
+            fetching.table_in(b"\xd0\xcf\x11\xe0\xa1\xb1\x1a\xe1" + bytes(99), source)
+            got = ""
+        except Unreadable as fault:
+            got = str(fault)
+        self.expect("the old form", got.startswith("a spreadsheet in the old form"))

@@ -62,7 +62,7 @@ class IndexWeeks(Case):
             first = library.current()
             with open(library.path("current", "index", "format")) as file:
                 text = file.read()
-            self.expect("the format", text, "5 list\n")
+            self.expect("the format", text, "6 list\n")
             with open(library.path("current", "index", "named")) as file:
                 named = dict(line.rstrip("\n").split("\t") for line in file)
             self.expect("what the rules name", named.get("coastal-law"), "date volume")
@@ -92,9 +92,9 @@ class IndexWeeks(Case):
             with open(path) as file:
                 site = file.read()
             assert site.count(LIST.format("on")) == 1, "openlink.conf has no switch of the list"
-            folders = ["format", "keys", "list", "named", "words"]
+            folders = ["format", "heads", "keys", "list", "named", "words"]
             self.expect("with the list", (names_of(library), names_of(library, "list")), (folders, ["b", "j"]))
-            for state, expected in (("off", ["format", "keys", "named"]), ("on", folders)):
+            for state, expected in (("off", ["format", "heads", "keys", "named"]), ("on", folders)):
                 with open(path, "w") as file:
                     file.write(site.replace(LIST.format("on"), LIST.format(state)))
                 before = library.current()

@@ -107,19 +107,19 @@ def _long_isbn(cell: str) -> str:
 
 def _with_dates(header: list[str], rows: _Rows) -> tuple[_Rows, list[str]]:
     """With dates in the standard's form, and no last date where it means today."""
-    known: dict[str, str] = {}
-    are_years = 0
-
-    def date(cell: str) -> str:
-        nonlocal are_years
-        new = known.get(cell)
-        if new is None:
-            new = known[cell] = standard_date(cell)
-        if new != cell:
-            are_years += len(new) == 4
-        return new
-
-    changed = _change_cells(header, rows, DATES, date)
+    known = {"": ""}
+    changed = are_years = 0
+    for place in [header.index(name) for name in DATES if name in header]:
+        for row in rows:
+            if len(row) > place:
+                cell = row[place]
+                new = known.get(cell)
+                if new is None:
+                    new = known[cell] = standard_date(cell)
+                if new != cell:
+                    changed += 1
+                    are_years += len(new) == 4
+                row[place] = new  # equal or not: one text takes the place of many cells
     opened = _change_cells(header, rows, (_LAST,), lambda cell: "" if _OPEN_END.fullmatch(cell) else cell)
     return rows, lines_of_counts(
         Count("dates in the standard's form", changed - are_years, "cell"),
