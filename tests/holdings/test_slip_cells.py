@@ -63,6 +63,22 @@ class Cells(Case):
         for text in ("", "ANY", "12", "soon", "1234567890123", "２８００-0836"):
             self.expect(text, is_wrong(text), False)
 
+    def test_days(self) -> None:
+        """Days after that of the run; a month or a year begins with its first day."""
+        header = ("publication_title", "print_identifier", "date_first_issue_online")
+        for date, is_slip in (
+            ("2026-11-27", False),
+            ("2026-11-28", True),
+            ("2026-11", False),
+            ("2026-12", True),
+            ("2026", False),
+            ("2027", True),
+            ("soon", False),
+            ("9998-01-01", True),
+        ):
+            now = Material(Table(header, [["T", "0028-0836", date]]), [], [], 1, None, "", "")
+            self.expect(date, count_of("first dates after today", now), int(is_slip))
+
     def test_sessions(self) -> None:
         for text, is_slip in (
             ("https://a.org/t;jsessionid=8A1F0C2D99", True),
@@ -164,6 +180,7 @@ class Cells(Case):
             ("Annals of Tidal Studies", "Tidal Studies (Online)", False),
             ("Études de la mer", "etudes de la MER", False),
             ("Annals of Tidal Studies", "Journal of Harbour Engineering", True),
+            ("Coastal Erosion Management", "Coastal Birds Photography", True),
             ("学報", "Glaciers", False),
         ):
             now = material((title, "0028-0836", "https://a.org/1"))

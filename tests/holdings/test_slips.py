@@ -2,11 +2,12 @@
 from __future__ import annotations
 
 import dataclasses
-import datetime
+import gc
 import os
 import re
 from collections.abc import Callable
 from pathlib import Path
+from unittest import mock
 
 from fixtures import needs
 from fixtures import vendor_files
@@ -26,6 +27,7 @@ from openlink_update.slips.material import Found
 from openlink_update.slips.material import Material
 from openlink_update.slips.material import Pair
 from openlink_update.tables import preparation
+from openlink_update.versions import making
 
 HEADER = (
     "publication_title",
@@ -314,6 +316,10 @@ class Planted(Case):
                 self.expect(f"{case.words}: said", lines, wanted)
                 more = data_of([*planted, *good(200, 201)])
                 weeks.week("press", more, allowed, rules=RULES)
+                lines = [line.split("\t") for line in weeks.read("slips.tsv").decode().splitlines()]
+                counts = [cells[2] for cells in lines if cells[1] == case.words]
+                compares = case.words in ("new texts that rules do not compare with", "titles in capitals")
+                self.expect(f"{case.words}: old rows count too", counts, [] if compares else [str(case.few)])
                 again = [line for line in weeks.said if line.startswith(f"press: {case.words}")]
                 self.expect(f"{case.words}: not again", again, [])
 
@@ -343,6 +349,49 @@ class Planted(Case):
                 self.expect(
                     f"{case.words}: after a run for walls", case.words in weeks.read("slip_limits.tsv").decode()
                 )
+
+
+@needs.program()
+class Versions(Case):
+    """What a version remembers, and what judging leaves."""
+
+    def test_same_files(self) -> None:
+        """Two versions of which one knows of slips are not the same, so an upgrade puts a new one in use."""
+        with Weeks() as weeks:
+            weeks.week("press", data_of(good()), rules=RULES)
+            first = weeks.version
+            weeks.week("press", data_of(good()), rules=RULES)
+            self.expect("nothing new", making.is_same(weeks.version, first), True)
+            for name in (slip_judge.NAME, slip_judge.LIMITS):
+                os.rename(f"{first}/{name}", f"{first}/x")
+                self.expect(f"without {name}", making.is_same(weeks.version, first), False)
+                os.rename(f"{first}/x", f"{first}/{name}")
+
+    def test_collections(self) -> None:
+        """Python looks for cycles again after a table was judged, also if that fails."""
+        with Weeks() as weeks:
+            weeks.week("press", data_of(good()), rules=RULES)
+            self.expect("after a table", gc.isenabled(), True)
+            with mock.patch.object(slip_judge.SlipJudge, "find", side_effect=ValueError):
+                with self.assertRaises(ValueError):
+                    weeks.week("press", data_of(good(0, 99)), rules=RULES)
+            self.expect("after a failure", gc.isenabled(), True)
+
+    def test_two_targets(self) -> None:
+        """The second target of a first version has the numbers of the first under other titles."""
+        with Weeks() as weeks:
+            weeks.deliver("press", data_of(good()), rules=RULES)
+
+            apart = sorted_apart(good(), ROWS)
+            for name, rows in (("same", good()), ("apart", apart)):
+                weeks.write(f"{name}.txt", data_of(rows))
+            lines = [f"{name}\tpress.rules\t{name}.txt\n" for name in ("press", "same", "apart")]
+            weeks.write("targets.tsv", "".join(lines).encode())
+            said = weeks.make()
+            reasons = [line for line in said if "numbers known under other titles: 200 of 200 rows, and 40" in line]
+            self.expect(
+                "targets", (weeks.maker.names, weeks.maker.left_out, len(reasons)), (["press", "same"], ["apart"], 1)
+            )
 
 
 class LineEnds(Case):
@@ -512,6 +561,8 @@ class GoodFiles(Case):
 
     def test_honest_weeks(self) -> None:
         """Weeks that are in order."""
+        unended = material_of(data_of(good())[:-1], RULES.encode())
+        self.expect("a provider whose files have no last line end", slips_of(unended, unended), {})
         before = material_of(data_of(good()), RULES.encode())
         for name, rows in (
             ("titles of their own case", [[row[0].title(), *row[1:]] for row in good()]),

@@ -79,7 +79,10 @@ class SlipJudge:
         self._lines[name] += self._lines_of_new(name, found)
 
     def _founds(self, now: Material, before: Material | None, clean: frozenset[str] = frozenset()) -> _Founds:
-        return _founds(Pair(now, before, self._today, self._others.of, clean))
+        found = _founds(Pair(now, before, self._today, self._others.of, clean))
+        for material in filter(None, (now, before)):
+            material.forget()
+        return found
 
     def _first_of(self, name: str, before: Material) -> _Founds:
         """The slips of a table in use that is looked at for the first time, which are allowed from now on."""
