@@ -189,6 +189,16 @@ class InVersions(Case):
             wanted = [f"  {weeks.path('input', 'press.olk')}: proxy: only rules can have one, and this is a code file"]
             self.expect("a code file", [line for line in weeks.make() if "proxy" in line], wanted)
 
+    def test_hosts(self) -> None:
+        """A host that a request could choose is behind the proxy, so `lint` has nothing to say."""
+        rules = "rule\nlink https://{+title_id}/x\n"
+        row = ("A", issn(1), "", "1990", "", "https://press.example.com/a")
+        with Weeks() as weeks:
+            weeks.week("press", table(row), rules=rules)
+            self.expect("without", weeks.maker.left_out, ["press"])
+            weeks.week("press", table(row), f"proxy {PLAIN}", rules=rules)
+            self.expect("behind it", weeks.maker.names, ["press"])
+
     def test_addresses(self) -> None:
         """The addresses of titles' pages that the index has are behind the same proxy."""
         rules = "rule\nwhen has x.to\nlink https://press.example.com/{title_id}\n"
