@@ -82,6 +82,9 @@ class Heads(TitlesCase):
         self.write(tidal_press=HEAD.format("Tidal", "Tiden", "In the library"))
         self.site.write_targets(self.named)
         self.expect("named", self.shown(), ("Full text", "Tidal Press"))
+        others = {name: it for name, it in self.others["targets"].items() if name != "aggregate-net"}
+        self.site.write_targets({**self.others, "targets": {**others, "tidal-press": {"group": "Full text"}}})
+        self.expect("named without a label", self.shown(), ("Full text", "tidal-press"))
 
     def test_redirect(self) -> None:
         """/go leads to the one link of the first group, whoever says the group."""

@@ -119,9 +119,8 @@ class Equal(Case):
                         one, other = (self.link(program, name, sent) for name in ("plain", "proxy"))
                         behind = other.removeprefix(prefix)
                         same = unquote(behind) if proxies.is_encoding(prefix) else behind
-                        wanted = one if one.startswith("http") else "none:"
-                        if one.startswith("http"):
-                            self.expect(f"{prefix} {query}: the proxy", other.startswith(prefix))
+                        wanted, is_web = one, one.startswith("http")
+                        self.expect(f"{prefix} {query}: the proxy", other.startswith(prefix), is_web)
                         self.expect(f"{prefix} {query}", self.plain(same), self.plain(wanted))
 
     @staticmethod
@@ -164,6 +163,16 @@ class InVersions(Case):
             weeks.write("targets.tsv", b"press\tprovider:title-page\tpress.txt\n")
             self.expect("no more", (weeks.make(), weeks.menu(f"rft.issn={number}{LATE}")),
                         (["press: proxy changed"], {"press": page}))
+            self.expect("no rules of the proxy", (Path(weeks.version) / "rules/press.rules").exists(), False)
+
+    def test_kept(self) -> None:
+        """If new files are refused, the old ones have no proxy of theirs."""
+        rules, page = "rule\nlink {+title_page}\n", "https://press.example.com/a"
+        with Weeks() as weeks:
+            weeks.week("press", table(press("A", 1, page)), rules=rules)
+            evil = table(press("A", 1, "https://evil.example/a"))
+            self.expect("refused", len(weeks.week("press", evil, f"proxy {PLAIN}", rules=rules)) > 0)
+            self.expect("the old link", weeks.menu(f"rft.issn={issn(1)}"), {"press": page})
             self.expect("no rules of the proxy", (Path(weeks.version) / "rules/press.rules").exists(), False)
 
     def test_free(self) -> None:
