@@ -30,6 +30,7 @@ function siteOf(r) {
     site.args = asked === undefined ? sent : withoutLanguage(sent);
     site.hasList = r.variables.openlink_list !== 'off';
     site.isFramed = Boolean(r.variables.openlink_frames);
+    site.isFollowed = r.variables.openlink_followed === 'on';
     return site;
 }
 function hasLanguage(args) { return args.includes('lang=') && is(LANGUAGE, args); }
@@ -74,6 +75,16 @@ function sentBy(r) {
     if (r.sent === undefined) r.sent = bytesToText(r);
     return r.sent;
 }
+// Takes the pairs of a key from a request, so that nothing else reads them, and returns the first one's value as it was
+// sent, or undefined.
+function taken(r, key) {
+    const pieces = sentBy(r).split('&');
+    const isOf = (piece) => piece.startsWith(key + '=');
+    const found = pieces.find(isOf);
+    if (found === undefined) return undefined;
+    r.sent = pieces.filter((piece) => !isOf(piece)).join('&');
+    return found.slice(key.length + 1);
+}
 function bytesToText(r) {
     let bytes = r.rawVariables.args || Buffer.from('');
     const isForm = (type) => is(/^application\/x-www-form-urlencoded\b/i, type);
@@ -107,4 +118,4 @@ function guarded(handler) {
     };
 }
 
-export default { argsOf, siteOf, send, sendIn, sendPage, sendJson, sendFault, guarded };
+export default { argsOf, siteOf, taken, send, sendIn, sendPage, sendJson, sendFault, guarded };

@@ -62,13 +62,35 @@ async function json(r) {
     const reply = (groups, site) => { exchange.sendJson(r, 200, menu.dataOf(q, groups, site), site); };
     return answer(r, q, (groups, site) => after(copy, () => { reply(groups, site); }));
 }
-// The first link, if there is one alone in the first group or `first=1` asks for it; otherwise the page, and so if the
-// request may mean several titles.
+const UNLOGGED = ['openlink_line', 'openlink_wanted', 'openlink_found', 'openlink_targets', 'openlink_source'];
+// Redirects to a link that the page has. It is one that a reader has followed, unless the method is HEAD: then it has a
+// line in a log of its own, and none among the requests.
+function follow(r, q, link) {
+    if (r.variables.openlink_followed === 'on') {
+        const click = log.clickOf(q, link.target);
+        if (click !== '') {
+            UNLOGGED.forEach((name) => { r.variables[name] = ''; });
+            if (r.method === 'GET') r.variables.openlink_click = click;
+            return r.return(302, link.url);
+        }
+    }
+    logTargets(r, [link.target]);
+    r.return(302, link.url);
+}
+// The link of `target`, if the page has one. Without `target` the first link, if there is one alone in the first group
+// or `first=1` asks for it. Otherwise the page, and so if the request may mean several titles.
 async function go(r) {
+    const target = exchange.taken(r, 'target');
     const q = await completion.queryOf(r);
     const isFirst = q.first('first') === '1';
     q.drop('first');
+    q.drop('target');
     return answer(r, q, (groups, site) => {
+        if (target !== undefined) {
+            const link = menu.linkTo(q, groups, target, site);
+            if (link !== undefined) return follow(r, q, link);
+            return after(copies.find(r, q), () => { replyPage(r, q, groups, site); });
+        }
         const links = groups[0].links;
         const isOne = links.length === 1 || (isFirst && links.length > 0);
         if (!isOne || q.maybe.length > 0) {

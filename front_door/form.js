@@ -1,4 +1,4 @@
-// The form in which a reader fills in a citation. It is a GET to /find, without script. text.js says in which njs it
+// The form in which a reader fills in a citation. It is a GET to /find, or to /why for staff, without script. text.js says in which njs it
 // runs.
 import pages from './pages.js';
 import texts from './text.js';
@@ -30,12 +30,12 @@ function fieldHtml(q, field, site) {
     return `<p>${label} <input id="${name}" name="${name}" maxlength="300" value="${escape(value)}" ${
         field[2]}${direction}></p>`;
 }
-// The form alone, filled in with what is known.
-function formHtml(q, site) {
+// The form alone, filled in with what is known. It leads to the reader's page, or to another address.
+function formHtml(q, site, action) {
     const genre = texts.clean(q.first('rft.genre')).slice(0, 30);
     const hidden = [['genre', genre], ['lang', site.chosen || '']].filter((it) => it[1] !== '')
         .map((it) => `<input type="hidden" name="${it[0]}" value="${escape(it[1])}">`);
-    return ['<form action="/find" method="get" class="citation">', hidden.join('')].filter(Boolean)
+    return [`<form action="${action || '/find'}" method="get" class="citation">`, hidden.join('')].filter(Boolean)
         .concat(FIELDS.map((field) => fieldHtml(q, field, site)),
             [`<p><button>${escape(word(site, 'search'))}</button></p>`, '</form>']).join('\n');
 }

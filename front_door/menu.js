@@ -88,10 +88,28 @@ function shownGroups(groups) {
 function noteHtml(note) { return note ? `<p>${escape(note)}</p>` : ''; }
 function numberText(number, site) { return filled(site, number.includes('-') ? 'issn' : 'isbn', number); }
 // The link's name for those who hear it has all that distinguishes it: the edition, and what the target has.
-function linkHtml(link, site) {
+function linkHtml(link, address, site) {
     const edition = link.edition ? filled(site, 'edition', numberText(link.edition, site)) : '';
     const name = pages.isolated(link.label, site) + partHtml(edition) + partHtml(link.covered);
-    return `<li>${pages.anchorOf(link.url, name)}${noteHtml(link.note)}</li>`;
+    return `<li>${pages.anchorOf(address, name)}${noteHtml(link.note)}</li>`;
+}
+// Where the links of targets lead: through /go, which counts them, if the site says so. A link repeats the request, so
+// those of many links and a long request lead to the provider at once.
+const MOST_REPEATED = 65536;  // bytes of all links of a page
+function isCounted(q, links, site) {
+    if (!site.isFollowed || q.args === '' || q.args.length > MOST_ARGS) return false;
+    const count = links.filter((link) => link.target !== undefined).length;
+    return count > 0 && count * q.args.length <= MOST_REPEATED;
+}
+function addressOf(link, q, site) {
+    if (link.target === undefined) return link.url;
+    return pages.addressOf('/go', `target=${encodeURIComponent(link.target)}&${q.args}`, site);
+}
+// The link of a target that the page has, in a group or to the page of the title; undefined if there is none.
+function linkTo(q, groups, target, site) {
+    const isOf = (link) => encodeURIComponent(link.target) === target;
+    const shown = shownGroups(groups).map((group) => group.links.find(isOf)).find((link) => link !== undefined);
+    return shown === undefined ? titlePages.pagesOf(q, groups, site).find(isOf) : shown;
 }
 function partHtml(text) { return text ? ` <span>${escape(text)}</span>` : ''; }
 
@@ -164,14 +182,17 @@ function foundHtml(q, site) {
 function listHtml(heading, items) {
     return `<h2>${escape(heading)}</h2>\n<ul>\n${items.join('\n')}\n</ul>`;
 }
-// The groups that a reader sees, and after that of the full text the pages of the title.
+function linksOf(groups) { return groups.reduce((links, group) => links.concat(group.links), []); }
+// The groups that a reader sees, and after that of the full text the pages of the title. Last what is counted of them.
 function listsHtml(q, groups, offered, site) {
-    const toHtml = (link) => linkHtml(link, site);
     const all = copies.placed(shownGroups(groups), groups, q, site);
+    const isByGo = isCounted(q, linksOf(all).concat(offered), site);
+    const toHtml = (link) => linkHtml(link, isByGo ? addressOf(link, q, site) : link.url, site);
     const shown = all.map((g) => listHtml(g.label || g.name, g.links.map(toHtml)));
     const pagesHtml = offered.length > 0 ? [listHtml(word(site, 'titlePages'), offered.map(toHtml))] : NONE;
     const place = groups[0].links.length > 0 ? 1 : 0;
-    return shown.slice(0, place).concat(pagesHtml, shown.slice(place));
+    const note = isByGo ? [`<p class="counted">${escape(word(site, 'followedNote'))}</p>`] : NONE;
+    return shown.slice(0, place).concat(pagesHtml, shown.slice(place), note);
 }
 function maybeHtml(q, site) {
     if (q.maybe.length === 0) return '';
@@ -244,4 +265,4 @@ function dataOf(q, groups, site) {
     return data;
 }
 
-export default { groupsOf, shownGroups, pageOf, dataOf };
+export default { groupsOf, shownGroups, linkTo, pageOf, dataOf };

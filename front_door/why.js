@@ -1,5 +1,5 @@
 // The page for staff: the queries that a request becomes, the program's report on each, and for each target the
-// command that explains its link or why it has none. All text of a request or a file is escaped here where it is put
+// command that explains its link or why it has none. Targets without a row of the title are folded. All text of a request or a file is escaped here where it is put
 // into HTML, and quoted where it is put into a command. An operator edits nothing here: targets.json names the folder
 // of the registry if it is not the one below.
 //
@@ -9,6 +9,7 @@ import fs from 'fs';
 import citation from './citation.js';
 import completion from './completion.js';
 import exchange from './exchange.js';
+import form from './form.js';
 import pages from './pages.js';
 import program from './program.js';
 import texts from './text.js';
@@ -16,6 +17,7 @@ import words from './words.js';
 
 const FOLDER = '/etc/openlink/current';  // that of openlink@.service
 const RULES = ['rules/', 'received/'];   // folders of rule files in it
+const NO_ROW = 'no row';
 const own = texts.own;
 const escape = texts.escape;
 
@@ -77,6 +79,12 @@ function paragraph(text) { return text === '' ? '' : `<p>${escape(text)}</p>`; }
 // What the program reads or writes is English, from left to right.
 function codeHtml(text) { return `<code lang="en" dir="ltr">${escape(text)}</code>`; }
 
+// The form for another request, open if this one has none.
+function formHtml(q, site) {
+    const isOpen = site.args === '' ? ' open' : '';
+    return [`<details${isOpen}><summary>${escape(words.word(site, 'form'))}</summary>`, form.formHtml(q, site, '/why'),
+        '</details>'].join('\n');
+}
 function queryName(i, site) { return words.filled(site, 'query', String(i + 1)); }
 function queriesHtml(queries, site) {
     return queries.map((query, i) => {
@@ -93,18 +101,38 @@ function rowHtml(it) {
     const anchor = `<a href="#target-${name}">${name}</a>`;
     return `<tr><th scope="row">${anchor}</th><td>${cells.join('</td><td>')}</td></tr>`;
 }
-function reportsHtml(reasons, queries, site) {
+function tableHtml(reasons, queries, site) {
     const names = [words.word(site, 'target')].concat(queries.map((query, i) => queryName(i, site))).map(escape);
-    return [heading('h2', words.word(site, 'reports')), paragraph(words.word(site, 'reportsNote')), '<table>',
-        `<thead><tr><th scope="col">${names.join('</th><th scope="col">')}</th></tr></thead>`, '<tbody>']
-        .filter(Boolean).concat(reasons.map(rowHtml), ['</tbody>', '</table>']);
+    return ['<table>', `<thead><tr><th scope="col">${names.join('</th><th scope="col">')}</th></tr></thead>`, '<tbody>']
+        .concat(reasons.map(rowHtml), ['</tbody>', '</table>']);
+}
+
+// Whether a target has a row of the title. The others are folded, unless there is nothing else.
+function hasRow(it) { return it.reasons.some((reason) => reason !== '' && reason !== NO_ROW); }
+function folded(reasons, site, htmlOf) {
+    const first = reasons.filter(hasRow);
+    const others = reasons.filter((it) => !hasRow(it));
+    if (others.length === 0) return htmlOf(first);
+    const summary = `<summary>${escape(words.filled(site, 'withoutRow', String(others.length)))}</summary>`;
+    return (first.length === 0 ? [] : htmlOf(first))
+        .concat([first.length === 0 ? '<details open>' : '<details>', summary], htmlOf(others), ['</details>']);
+}
+function reportsHtml(reasons, queries, site) {
+    return [heading('h2', words.word(site, 'reports')), paragraph(words.word(site, 'reportsNote'))].filter(Boolean)
+        .concat(folded(reasons, site, (some) => tableHtml(some, queries, site)));
+}
+// What to do about the reason of a target.
+function todo(reason) {
+    if (texts.is(/^link /, reason)) return 'todoLink';
+    return reason === NO_ROW ? 'todoNoRow' : reason === 'no link' ? 'todoNoLink' : 'todoOther';
 }
 
 // `last` has the last argument for each query as HTML: to escape a long one for each target would take seconds.
 function targetHtml(it, registry, last, site) {
     const target = registry === null ? undefined : registry[it.name];
     const name = escape(it.name);
-    const report = `${escape(queryName(it.used, site))}: ${codeHtml(it.reasons[it.used])}`;
+    const reason = it.reasons[it.used];
+    const report = `${escape(queryName(it.used, site))}: ${codeHtml(reason)} ${escape(words.word(site, todo(reason)))}`;
     const command = target ? `${escape(commandOf(it.name, target, site, isFile))} ${last[it.used]}` : '';
     return [`<h3 id="target-${name}">${name}</h3>`, `<p>${report}</p>`,
         target ? `<pre dir="ltr" class="command">${command}</pre>`
@@ -117,7 +145,7 @@ function commandsHtml(reasons, queries, site) {
     const note = registry === null ? words.filled(site, 'noRegistry', registryPath(site))
         : words.word(site, 'commandsNote');
     return [heading('h2', words.word(site, 'commands')), paragraph(note)]
-        .concat(reasons.map((it) => targetHtml(it, registry, last, site)));
+        .concat(folded(reasons, site, (some) => some.map((it) => targetHtml(it, registry, last, site))));
 }
 
 // The page for a request and the replies to its queries. It has no reports if the program did not answer.
@@ -126,7 +154,8 @@ function pageOf(q, replies, site) {
     const reasons = program.reasonsOf(replies.texts);
     const found = replies.status !== 200 ? [pages.faultHtml(replies.status, site)]
         : reportsHtml(reasons, replies.queries, site).concat(commandsHtml(reasons, replies.queries, site));
-    const body = [citation.citationHtml(citation.citationOf(q, site), site)]
+    const desk = `<p>${pages.anchor('/desk/', words.word(site, 'desk'))}</p>`;
+    const body = [desk, citation.citationHtml(citation.citationOf(q, site), site), formHtml(q, site)]
         .concat(queriesHtml(replies.queries, site), found);
     return pages.documentOf(title, title, body, site);
 }

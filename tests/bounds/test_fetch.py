@@ -11,6 +11,7 @@ from unittest import mock
 
 from fixtures import needs
 from fixtures.cases import Case
+from fixtures.patience import patience
 from fixtures.patience import wait_until
 from fixtures.provider import Held
 from fixtures.provider import Provider
@@ -31,6 +32,10 @@ from openlink_update.input_files import InputFolder
 from openlink_update.outcome import Failure
 
 TOO_MANY = "more than 256 MB"
+ENDLESS = "headers of more than 1 MB"
+EARLY = "ended after 0 bytes, too early"
+LINE = b"X-Odd: " + b"x" * 4000 + b"\r\n"
+WITH_TRAILERS = b"HTTP/1.1 200 X\r\nTransfer-Encoding: chunked\r\n\r\n5\r\nTable\r\n0\r\n"
 
 
 class _Step:
@@ -101,13 +106,45 @@ class Bytes(Case):
 
     def test_output(self) -> None:
         """Of what curl writes out, the last bytes count: what it says at its end, after all headers."""
-        end = b"\nend 200 7 0.1 0 127.0.0.1\n"
-        for count, wanted in ((2**20, 200), (2**20 + 1, 0)):
+        head, end = b"HTTP/1.1 200 X\r\n", b"\nend 200 7 0.1 0 127.0.0.1\n"
+        for more, wanted in (
+            (2**20 - len(head + end), (200, None)),
+            (2**20 - len(head + end) + 1, (200, ENDLESS)),
+            (2**20 - len(end), (200, ENDLESS)),
+            (2**20 - len(end) + 1, (0, ENDLESS)),
+        ):
             transfer = Transfer.__new__(Transfer)
             transfer._output, transfer._child = tempfile.TemporaryFile(), mock.Mock(returncode=0)
-            transfer._output.write(b"HTTP/1.1 200 X\r\n" + end + b"x" * (count - len(end)))
+            transfer._output.write(head + end + b"x" * more)
             transfer.end()
-            self.expect(f"{count} bytes from its beginning on", transfer.reply.status, wanted)
+            self.expect(f"{more} bytes after its end", (transfer.reply.status, transfer.fault()), wanted)
+
+    def test_headers_without_an_end(self) -> None:
+        """Of a reply, of one before it, and after its body, which curl would read on and keep until the time is over."""
+        for name, first, line, wanted in (
+            ("headers", b"HTTP/1.1 200 X\r\n", LINE, EARLY),
+            ("one header", b"HTTP/1.1 200 X\r\nX-Odd: ", b"x" * 4000, "curl: status 27"),
+            ("replies before the reply", b"", b"HTTP/1.1 103 X\r\n" + LINE + b"\r\n", EARLY),
+            ("headers after the body", WITH_TRAILERS, LINE, ENDLESS),
+            ("one header after the body", WITH_TRAILERS + b"X-Odd: ", b"x" * 4000, EARLY),
+        ):
+            floods = [Held(first, line * 50) for _ in range(3)]  # for each try
+            is_whole, fault, _ = self.end_of(2**21, *floods)
+            self.expect(name, (is_whole, (fault or "").replace("after 5 bytes", "after 0 bytes")), (False, wanted))
+            self.expect(f"{name}: the connection is closed", wait_until(floods[0].has_ended.is_set))
+
+    def test_headers_that_come_slowly(self) -> None:
+        for name, first, sent in (("headers", b"HTTP/1.1 200 X\r\n", 0), ("after the body", WITH_TRAILERS, 5)):
+            self.provider.steps = {"/table": [Held(first, b"X-Odd: x\r\n")]}
+            body = self.folder / "body"
+            body.write_bytes(b"")
+            seconds = round(patience(2))
+            download = Download(self.provider.address("/table"), [], [], body, seconds, 0)
+            start = time.monotonic()
+            list(downloads.run([download]))
+            wanted = f"no end, after {sent} bytes, within {seconds} seconds"
+            self.expect(name, (download.is_whole, download.fault), (False, wanted))
+            self.expect(f"{name}: it ends in time", time.monotonic() - start < seconds + patience(5))
 
     def test_length_that_is_told(self) -> None:
         for digits, wanted in (("9" * 15, f"of {int('9' * 15):,} bytes"), ("9" * 16, "bytes, too early")):

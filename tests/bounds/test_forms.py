@@ -18,7 +18,6 @@ from openlink_update.index import titles
 from openlink_update.index import word_sets
 from openlink_update.site import probes
 from openlink_update.tables import cells
-from openlink_update.tables import date_order
 from openlink_update.tables.embargo import Embargo
 from openlink_update.versions import judging
 
@@ -60,9 +59,6 @@ class Lists(Case):
         """Nine digits; what has more is no limit."""
         self.expect("nine", judging._limits_of({"gone up to 999999999"}), {"gone": 999_999_999})
         self.expect("ten", judging._limits_of({"gone up to 9999999999"}), {"gone up to 9999999999": None})
-        words, pairs = "first dates after the last ones up to ", [("2000", "1990")] * 50
-        for digits, wanted in (("9" * 9, 0), ("9" * 10, 1)):
-            self.expect(f"{len(digits)} digits", len(date_order.reasons_against(pairs, 100, {words + digits})), wanted)
 
     def test_names_in_probes(self) -> None:
         with tempfile.TemporaryDirectory() as folder:

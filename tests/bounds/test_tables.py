@@ -7,7 +7,6 @@ from bounds.refusals import reason
 from fixtures.cases import Case
 from openlink_update.tables import cells
 from openlink_update.tables import coverage
-from openlink_update.tables import date_order
 from openlink_update.tables import dropped_rows
 from openlink_update.tables import parts
 from openlink_update.tables.table import Table
@@ -38,12 +37,6 @@ class Rows(Case):
             len(dropped_rows.reasons_against([row] * 21, 1000, {"dropped up to 9999999999"})),
             1,
         )
-
-    def test_reversed(self) -> None:
-        pair = ("2000", "1990")
-        for rows, most in ((100, 2), (101, 3), (1, 1)):
-            self.expect(f"{most} of {rows}", date_order.reasons_against([pair] * most, rows, ()), [])
-            self.expect(f"{most + 1} of {rows}", len(date_order.reasons_against([pair] * (most + 1), rows, ())), 1)
 
     def test_characters_that_are_shown(self) -> None:
         self.expect("100 of a row", dropped_rows.shown(["x" * 100]), "x" * 100)

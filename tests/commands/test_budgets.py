@@ -8,15 +8,37 @@ LITERALS = [("link", "ab"), ("compare", "abc")]
 # The operands of each operation whose first register is the element, r0, or which has no first register.
 # EACH and NEXT are left out: a body has no EACH, and its NEXT is its last instruction.
 OPERANDS = {
-    "HALT": "", "FAIL": "", "JUMP": "4", "TEXT": "r0 n0", "LIST": "r0 n1", "CONST": "r0 l1", "NUMBER": "r0 r2 4",
-    "UNDEF": "r0 4", "EMPTY": "r0 4", "NOLIST": "r0 4", "DIFFER": "r0 r2 4", "LESS": "r0 r2 4", "EMIT": "l0",
-    "PUT": "r0 u", "CUT": "r0 2 ur", "SEP": "l0", "COUNT": "r0 r1",
+    "HALT": "",
+    "FAIL": "",
+    "JUMP": "4",
+    "TEXT": "r0 n0",
+    "LIST": "r0 n1",
+    "CONST": "r0 l1",
+    "NUMBER": "r0 r2 4",
+    "UNDEF": "r0 4",
+    "EMPTY": "r0 4",
+    "NOLIST": "r0 4",
+    "DIFFER": "r0 r2 4",
+    "LESS": "r0 r2 4",
+    "EMIT": "l0",
+    "PUT": "r0 u",
+    "CUT": "r0 2 ur",
+    "SEP": "l0",
+    "COUNT": "r0 r1",
 }
 WRITE = {"TEXT", "LIST", "CONST", "NUMBER", "COUNT"}
 # The same with another first register, and the element second where there is one.
 OTHER_OPERANDS = {
-    "TEXT": "r2 n0", "LIST": "r2 n1", "CONST": "r2 l1", "NUMBER": "r2 r0 4", "UNDEF": "r2 4", "EMPTY": "r2 4",
-    "NOLIST": "r2 4", "DIFFER": "r2 r0 4", "LESS": "r2 r0 4", "COUNT": "r2 r0",
+    "TEXT": "r2 n0",
+    "LIST": "r2 n1",
+    "CONST": "r2 l1",
+    "NUMBER": "r2 r0 4",
+    "UNDEF": "r2 4",
+    "EMPTY": "r2 4",
+    "NOLIST": "r2 4",
+    "DIFFER": "r2 r0 4",
+    "LESS": "r2 r0 4",
+    "COUNT": "r2 r0",
 }
 
 
@@ -54,8 +76,12 @@ CODES = [
     (ABC, "LIST r0 n1, EACH r1 r0 4, PUT r1 u, NEXT, CONST r1 l0, HALT", (4, 2), (0, 0, 3, 0)),
     (ABC, "LIST r0 n1, EACH r1 r0 4, PUT r1 u, NEXT, CONST r1 l0, PUT r1 u, HALT", (5, 2), (9, 0, 6, 0)),
     # Two loops with one element: the one that writes it, and the other.
-    (ABC, "LIST r0 n1, EACH r1 r0 4, PUT r1 u, NEXT, EACH r1 r0 8, CONST r1 l0, PUT r1 u, NEXT, HALT",
-     (4, 5), (0, 9, 3, 3)),
+    (
+        ABC,
+        "LIST r0 n1, EACH r1 r0 4, PUT r1 u, NEXT, EACH r1 r0 8, CONST r1 l0, PUT r1 u, NEXT, HALT",
+        (4, 5),
+        (0, 9, 3, 3),
+    ),
 ]
 
 

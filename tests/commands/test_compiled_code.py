@@ -5,32 +5,62 @@ from fixtures.targets import DATE_RULES
 
 # A condition of each form; with `counts` the code has version 2.
 CONDITIONS = [
-    "has x", "has rft.au", "lacks x", "lacks rft.au", "given x", 'x is "a"', 'rft.au holds "a"', "x from 1 to 2",
-    "x from lo to hi", "x from * to *", "x from * to hi", "x from 1 to *",
+    "has x",
+    "has rft.au",
+    "lacks x",
+    "lacks rft.au",
+    "given x",
+    'x is "a"',
+    'rft.au holds "a"',
+    "x from 1 to 2",
+    "x from lo to hi",
+    "x from * to *",
+    "x from * to hi",
+    "x from 1 to *",
 ]
 COUNTS = ["rft.au counts 1 to 2", "rft.au counts * to *", "rft.au counts lo to hi"]
 
 # Rules, and their code by the shapes of the compiler.
 CODES = [
-    (DATE_RULES, code(
-        [("text", name) for name in ("rft.date", "date_first_issue_online", "date_last_issue_online", "title_url")],
-        [("compare", ""), ("link", ","), ("compare", "1")],
-        "TEXT r0 n0, UNDEF r0 19, NUMBER r1 r0 19, "
-        "TEXT r2 n1, UNDEF r2 7, NUMBER r3 r2 7, LESS r1 r3 19, "
-        "TEXT r2 n2, UNDEF r2 11, NUMBER r3 r2 11, LESS r3 r1 19, "
-        "CONST r4 l0, TEXT r0 n3, UNDEF r0 18, EMPTY r4 16, EMIT l1, CONST r4 l2, PUT r0 ur, HALT, FAIL")),
-    ("rule\nlink http://e.org/{rft.issn}\n", code(
-        [("text", "rft.issn")], [("link", "http://e.org/"), ("compare", ""), ("link", ","), ("compare", "1")],
-        "EMIT l0, CONST r4 l1, TEXT r0 n0, UNDEF r0 8, EMPTY r4 6, EMIT l2, CONST r4 l3, PUT r0 u, HALT, FAIL")),
+    (
+        DATE_RULES,
+        code(
+            [("text", name) for name in ("rft.date", "date_first_issue_online", "date_last_issue_online", "title_url")],
+            [("compare", ""), ("link", ","), ("compare", "1")],
+            "TEXT r0 n0, UNDEF r0 19, NUMBER r1 r0 19, "
+            "TEXT r2 n1, UNDEF r2 7, NUMBER r3 r2 7, LESS r1 r3 19, "
+            "TEXT r2 n2, UNDEF r2 11, NUMBER r3 r2 11, LESS r3 r1 19, "
+            "CONST r4 l0, TEXT r0 n3, UNDEF r0 18, EMPTY r4 16, EMIT l1, CONST r4 l2, PUT r0 ur, HALT, FAIL",
+        ),
+    ),
+    (
+        "rule\nlink http://e.org/{rft.issn}\n",
+        code(
+            [("text", "rft.issn")],
+            [("link", "http://e.org/"), ("compare", ""), ("link", ","), ("compare", "1")],
+            "EMIT l0, CONST r4 l1, TEXT r0 n0, UNDEF r0 8, EMPTY r4 6, EMIT l2, CONST r4 l3, PUT r0 u, HALT, FAIL",
+        ),
+    ),
     ("rule\nlink javascript:x\n", code([], [("link", "javascript:x")], "EMIT l0, HALT, FAIL")),
-    ("rule\nwhen rft.au counts 2 to *\nlink b\n", code(
-        [("list", "rft.au")], [("compare", "2"), ("link", "b")],
-        "LIST r0 n0, COUNT r1 r0, CONST r2 l0, NUMBER r3 r2 5, LESS r1 r3 7, EMIT l1, HALT, FAIL", version=2)),
+    (
+        "rule\nwhen rft.au counts 2 to *\nlink b\n",
+        code(
+            [("list", "rft.au")],
+            [("compare", "2"), ("link", "b")],
+            "LIST r0 n0, COUNT r1 r0, CONST r2 l0, NUMBER r3 r2 5, LESS r1 r3 7, EMIT l1, HALT, FAIL",
+            version=2,
+        ),
+    ),
     # The same text as a comparison text and as a link text, each of which comes twice.
-    ('rule\nwhen a is "b"\nlink b\nrule\nwhen a is "b"\nlink b\n', code(
-        [("text", "a")], [("compare", "b"), ("link", "b")],
-        "TEXT r0 n0, UNDEF r0 6, CONST r1 l0, DIFFER r0 r1 6, EMIT l1, HALT, "
-        "TEXT r0 n0, UNDEF r0 12, CONST r1 l0, DIFFER r0 r1 12, EMIT l1, HALT, FAIL")),
+    (
+        'rule\nwhen a is "b"\nlink b\nrule\nwhen a is "b"\nlink b\n',
+        code(
+            [("text", "a")],
+            [("compare", "b"), ("link", "b")],
+            "TEXT r0 n0, UNDEF r0 6, CONST r1 l0, DIFFER r0 r1 6, EMIT l1, HALT, "
+            "TEXT r0 n0, UNDEF r0 12, CONST r1 l0, DIFFER r0 r1 12, EMIT l1, HALT, FAIL",
+        ),
+    ),
     ("", code([], [], "FAIL")),
     ("rule\nlink \n", code([], [], "HALT, FAIL")),
 ]

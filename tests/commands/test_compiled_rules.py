@@ -81,9 +81,7 @@ def counts(program, rules):
     return names, literals, instructions, len(file)
 
 
-COVERAGE = (
-    "rule\nwhen rft.date from date_first_issue_online to date_last_issue_online\nlink http://e.org/{rft.date}\n"
-)
+COVERAGE = "rule\nwhen rft.date from date_first_issue_online to date_last_issue_online\nlink http://e.org/{rft.date}\n"
 NINE_DIGITS = "rule\nwhen rft.volume from 1 to 999999999\nlink http://e.org/v\n"
 TWO_RULES = "rule\nwhen has rft.issn\nlink http://e.org/i/{rft.issn}\n\nrule\nlink http://e.org/t/{rft.title}\n"
 HOLDS = 'rule\nwhen rft.au holds "Li"\nlink http://e.org/{?rft.au*}\n'

@@ -114,6 +114,7 @@ class Connections(ProgramCase):
     def test_a_peer_that_sends_nothing(self):
         write_alpha(self.program)
         for sent in b"", REQUEST[:20]:
+
             def fault_of():
                 with Service(self.program, 2) as service, connect(service) as peer:
                     start = time.monotonic()

@@ -11,8 +11,9 @@ from fixtures.targets import write_registry
 MOST = 1048576
 LITERALS = [("link", "l" * 32768), ("link", "m")]
 BYTES = code([("text", "none")], LITERALS, ["EMIT l0"] * 32 + ["TEXT r0 n0", "UNDEF r0 35", "PUT r0 u", "HALT"])
-MEMBERS = code([("list", "rft.au")], LITERALS,
-               ["EMIT l0"] * 32 + ["LIST r0 n0", "EACH r1 r0 36", "EMIT l1", "NEXT", "HALT"])
+MEMBERS = code(
+    [("list", "rft.au")], LITERALS, ["EMIT l0"] * 32 + ["LIST r0 n0", "EACH r1 r0 36", "EMIT l1", "NEXT", "HALT"]
+)
 
 
 def listing(*names):
@@ -52,8 +53,15 @@ HIDDEN = [("a", 6, 6), ("b", 4, 6), ("c", 6, 6), ("", 4, 8), ("A", 6, 8), (" a",
 
 class Environments(ProgramCase):
     def test_members_keep_the_order_of_the_values(self):
-        query = urlencode([("rft.au", "Müller"), ("rft_id", "info:doi/10.1000/182"), ("rft.au", "佐藤"), ("rft_id", ""),
-                           ("rft.au", "Ångström")])
+        query = urlencode(
+            [
+                ("rft.au", "Müller"),
+                ("rft_id", "info:doi/10.1000/182"),
+                ("rft.au", "佐藤"),
+                ("rft_id", ""),
+                ("rft.au", "Ångström"),
+            ]
+        )
         authors = "M%C3%BCller,%E4%BD%90%E8%97%A4,%C3%85ngstr%C3%B6m,"
         self.program.write("code", listing(*lists("rft.au", "rft_id", "rft.title")))
         self.program.prints(["run", "code", query], f"http://e.org/{authors};info%3Adoi%2F10.1000%2F182,,;;")
@@ -84,8 +92,9 @@ class Environments(ProgramCase):
         rules = [f"list {name}\n" for name in seen] + [f"rule\nwhen has {name}\nlink http://e.org/\n" for name in seen]
         self.program.write("rules", "".join(rules))
         query = urlencode([("rft.issn", "1")] + [(name, "late") for name in NAMES])
-        lines = "".join(f"  rule {number}, guard 1 fails: has {name}\n    {name} undefined\n"
-                        for number, name in enumerate(seen, 1))
+        lines = "".join(
+            f"  rule {number}, guard 1 fails: has {name}\n    {name} undefined\n" for number, name in enumerate(seen, 1)
+        )
         printed = f"row 0\n{lines}  no rule holds\n"
         self.program.gives(["explain", "rules", "table", query], 1, printed, "")
 

@@ -48,11 +48,11 @@ class Explanations(ProgramCase):
         explains(self.program, COVERAGE, JOURNAL, "rft.issn=0000-0000", 1, "no row\n")
 
     def test_a_row_hides_the_request(self):
-        rules = "rule\nwhen title_url is \"x\"\nlink {+title_url}\nrule\nlink {+title_url}\n"
+        rules = 'rule\nwhen title_url is "x"\nlink {+title_url}\nrule\nlink {+title_url}\n'
         lines = (
             "row 0\n"
-            "  rule 1, guard 1 fails: title_url is \"x\"\n"
-            "    title_url \"http://e.org/a\"\n"
+            '  rule 1, guard 1 fails: title_url is "x"\n'
+            '    title_url "http://e.org/a"\n'
             "  rule 2 holds: http://e.org/a\n"
         )
         explains(self.program, rules, JOURNAL, "rft.issn=1234567x&title_url=x", 0, lines)
@@ -79,7 +79,7 @@ class Explanations(ProgramCase):
             "    rft_id undefined\n"
             "  rule 2, guard 1 fails: rft.au counts 3 to rft.n\n"
             "    rft.au list of 2\n"
-            "    rft.n \"\"\n"
+            '    rft.n ""\n'
             "  rule 3, guard 1 fails: has print_identifier\n"
             "    print_identifier undefined\n"
             "  rule 4 holds: mailto:d\n"
@@ -89,8 +89,8 @@ class Explanations(ProgramCase):
 
     def test_control_bytes(self):
         """The guard's text has an escape character, and the value a line feed."""
-        rules = "rule\nwhen has rft.issn\nwhen x is \"\x1b[2J\"\nlink http://e.org/\n"
-        lines = "row 0\n  rule 1, guard 2 fails: x is \"\\x1b[2J\"\n    x \"a\\x0ab\"\n  no rule holds\n"
+        rules = 'rule\nwhen has rft.issn\nwhen x is "\x1b[2J"\nlink http://e.org/\n'
+        lines = 'row 0\n  rule 1, guard 2 fails: x is "\\x1b[2J"\n    x "a\\x0ab"\n  no rule holds\n'
         explains(self.program, rules, ONE_ROW, "rft.issn=1234567x&x=a%0Ab", 1, lines)
 
     def test_a_hundred_rows_in_detail(self):

@@ -109,8 +109,10 @@ def cases():
         yield {"some.rules": rules}, ["compile", "some.rules", "code"], 3, f"compile: {error}"
     for file, error in CODES:
         yield {"some.olk": file}, ["show", "some.olk"], 3, f"code: {error}"
-    changed = [(LIST_FILE[: 20 + 8 * at] + instruction(text) + LIST_FILE[28 + 8 * at :], error)
-               for at, text, error in INSTRUCTIONS]
+    changed = [
+        (LIST_FILE[: 20 + 8 * at] + instruction(text) + LIST_FILE[28 + 8 * at :], error)
+        for at, text, error in INSTRUCTIONS
+    ]
     for file, error in CODES + changed:
         yield {"some.olk": file}, ["verify", "some.olk"], 3, f"load: {error}"
     for table, error in TABLES:

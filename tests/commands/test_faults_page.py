@@ -30,8 +30,10 @@ class FaultsPage(ProgramCase):
             find = commands_of("NotUtf8", holding)[0]
             for wrong in WRONG:
                 self.program.write(holding, front.encode() + wrong + b"\n")
-                arguments, fault = {"RULES": (["link", "RULES", ""], "rules: line 0: NotUtf8"),
-                                    "TABLE": (["inspect", "TABLE"], "table: NotUtf8")}[holding]
+                arguments, fault = {
+                    "RULES": (["link", "RULES", ""], "rules: line 0: NotUtf8"),
+                    "TABLE": (["inspect", "TABLE"], "table: NotUtf8"),
+                }[holding]
                 self.program.fails(arguments, 3, fault)
                 place = re.search(r"position (\d+)", shell(self.program, find).stderr)
                 self.program.expect(f"{find} on {wrong}", place and int(place[1]), len(front.encode()))

@@ -55,14 +55,14 @@ HOSTS = [
 # Tables without identifiers, how many rows they have, and the lines of their columns and of cells past the header.
 ROWS = [
     # A name may be empty. Of two byte order marks one is text.
-    ("a\t\n1\t2\n", 1, "unknown column \"a\"\n", ""),
-    ("\ufeff\ufeffa\n1\n", 1, "unknown column \"\\xef\\xbb\\xbfa\"\n", ""),
-    ("a\n1\t2\n", 1, "unknown column \"a\"\n", "rows longer than the header 1, first 0\n"),
+    ("a\t\n1\t2\n", 1, 'unknown column "a"\n', ""),
+    ("\ufeff\ufeffa\n1\n", 1, 'unknown column "\\xef\\xbb\\xbfa"\n', ""),
+    ("a\n1\t2\n", 1, 'unknown column "a"\n', "rows longer than the header 1, first 0\n"),
     # LF, CR LF and CR end lines; blank ones are skipped, and one of tabs is not.
-    ("a\r\n\r\n1\r\n2", 2, "unknown column \"a\"\n", ""),
-    ("a\r\r1\r2", 2, "unknown column \"a\"\n", ""),
-    ("\n\na\n\n1\n\n", 1, "unknown column \"a\"\n", ""),
-    ("a\tb\n\t\n", 1, "unknown column \"a\"\nunknown column \"b\"\n", ""),
+    ("a\r\n\r\n1\r\n2", 2, 'unknown column "a"\n', ""),
+    ("a\r\r1\r2", 2, 'unknown column "a"\n', ""),
+    ("\n\na\n\n1\n\n", 1, 'unknown column "a"\n', ""),
+    ("a\tb\n\t\n", 1, 'unknown column "a"\nunknown column "b"\n', ""),
 ]
 
 
@@ -123,24 +123,25 @@ class Findings(ProgramCase):
         finds(self.program, rules, TABLE, printed, 1)
         rules = "rule\nwhen rft.volume from 5 to 5\nwhen rft.volume from 5 to 4\nlink http://e.org/{issn}"
         printed = (
-            "rules 1\n"
-            "rule 1, guard 2: never holds\n"
-            "rule 1, link: unknown name issn, did you mean rft.issn\n"
+            "rules 1\n" "rule 1, guard 2: never holds\n" "rule 1, link: unknown name issn, did you mean rft.issn\n"
         )
         finds(self.program, rules, TABLE, printed, 1)
 
     def test_a_table(self):
-        self.program.write("some.tsv", "Print Identifier\tonline_identifier\tdate_first_issue_online\tx\n"
-                                  "1234-5679\t2049-3630\t1995\t\n1234-5679\t\t3/1/1995\ta\tb\n")
+        self.program.write(
+            "some.tsv",
+            "Print Identifier\tonline_identifier\tdate_first_issue_online\tx\n"
+            "1234-5679\t2049-3630\t1995\t\n1234-5679\t\t3/1/1995\ta\tb\n",
+        )
         printed = (
             "rows 2\n"
             "identifiers 1\n"
             "no column print_identifier\n"
-            "unknown column \"Print Identifier\", did you mean print_identifier\n"
-            "unknown column \"x\"\n"
+            'unknown column "Print Identifier", did you mean print_identifier\n'
+            'unknown column "x"\n'
             "rows without an identifier 1, first 1\n"
-            "rows of one identifier 1, \"20493630\"\n"
-            "date_first_issue_online not a date 1, first 1 \"3/1/1995\"\n"
+            'rows of one identifier 1, "20493630"\n'
+            'date_first_issue_online not a date 1, first 1 "3/1/1995"\n'
             "rows longer than the header 1, first 1\n"
         )
         self.program.gives(["inspect", "some.tsv"], 1, printed, "")
@@ -149,18 +150,22 @@ class Findings(ProgramCase):
         self.program.write(
             "some.tsv", "print_identifier\tonline_identifier\tcoverage_from\tcoverage_to\n1234-5679\t\t\t\n"
         )
-        printed = "rows 1\nidentifiers 1\nrows of one identifier 1, \"12345679\"\n"
+        printed = 'rows 1\nidentifiers 1\nrows of one identifier 1, "12345679"\n'
         self.program.gives(["inspect", "some.tsv"], 0, printed, "")
         self.program.write("some.tsv", "print_identifier\tonline_identifier\tCoverage from\n1234-5679\t\t\n")
-        printed = ("rows 1\nidentifiers 1\nunknown column \"Coverage from\", did you mean coverage_from\n"
-                   "rows of one identifier 1, \"12345679\"\n")
+        printed = (
+            'rows 1\nidentifiers 1\nunknown column "Coverage from", did you mean coverage_from\n'
+            'rows of one identifier 1, "12345679"\n'
+        )
         self.program.gives(["inspect", "some.tsv"], 1, printed, "")
 
     def test_rows_of_tables(self):
         for table, rows, columns, longer in ROWS:
             self.program.write("some.tsv", table)
-            printed = (f"rows {rows}\nidentifiers 0\nno column print_identifier\nno column online_identifier\n{columns}"
-                       f"rows without an identifier {rows}, first 0\n{longer}")
+            printed = (
+                f"rows {rows}\nidentifiers 0\nno column print_identifier\nno column online_identifier\n{columns}"
+                f"rows without an identifier {rows}, first 0\n{longer}"
+            )
             self.program.gives(["inspect", "some.tsv"], 1, printed, "")
         # Only a header.
         self.program.write("some.tsv", "print_identifier\n")

@@ -1,8 +1,20 @@
 """What the program says of itself, and arguments that are no command."""
 from fixtures.program import ProgramCase
 
-COMMANDS = ["expand", "link", "compile", "verify", "show", "upgrade", "run", "inspect", "lint", "explain",
-            "resolve", "serve"]
+COMMANDS = [
+    "expand",
+    "link",
+    "compile",
+    "verify",
+    "show",
+    "upgrade",
+    "run",
+    "inspect",
+    "lint",
+    "explain",
+    "resolve",
+    "serve",
+]
 
 NO_COMMANDS = [
     [],

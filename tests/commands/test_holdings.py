@@ -6,8 +6,9 @@ from fixtures.service import expect_replies, reply_of, request_of
 from fixtures.targets import ANY_LINK, write_registry
 
 # Writes 1,048,576 bytes, the most that a link may have, and a text: 3 bytes for each byte of the row and the request.
-SCALE = code([("text", "a")], [("link", "l" * 32768)],
-             ["EMIT l0"] * 32 + ["TEXT r0 n0", "UNDEF r0 35", "PUT r0 u", "HALT"])
+SCALE = code(
+    [("text", "a")], [("link", "l" * 32768)], ["EMIT l0"] * 32 + ["TEXT r0 n0", "UNDEF r0 35", "PUT r0 u", "HALT"]
+)
 
 # The cells of the columns a and b, what `http://e.org/{a}|{b}` gives, and the bytes of the two.
 CELLS = [

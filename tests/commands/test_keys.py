@@ -15,7 +15,12 @@ monograph_edition first_editor parent_publication_title_id preceding_publication
 rft.issn rft.eissn rft.isbn identifier print_identifiers online_identifiers rint_identifier Print_Identifier
 PRINT_IDENTIFIER Online_identifier ONLINE_IDENTIFIER print-identifier online-identifier printidentifier
 onlineidentifier "print_identifier" "online_identifier"
-""".split() + ["print identifier", "online identifier", "print_identifier ", " online_identifier"]
+""".split() + [
+    "print identifier",
+    "online identifier",
+    "print_identifier ",
+    " online_identifier",
+]
 
 # Keys of journals and books, of OpenURL 0.1 and of other entities, and names that are not quite those of the three.
 OTHER_KEYS = """
@@ -32,11 +37,24 @@ TABLE = "print_identifier\tonline_identifier\n1\t2\n3\t\n\t4\n5\t5\n4\t1\n"
 
 # A query, and the row of the table that gives the link; none where no row has an identifier of the query.
 ROWS = [
-    ("rft.issn=1", 0), ("rft.issn=2", 0), ("rft.eissn=1", 0), ("rft.eissn=2", 0), ("rft.isbn=1", 0), ("rft.isbn=2", 0),
-    ("rft.issn=3", 1), ("rft.isbn=4", 2), ("rft.eissn=5", 3), ("rft.issn=6", None), ("rft.issn=", None),
+    ("rft.issn=1", 0),
+    ("rft.issn=2", 0),
+    ("rft.eissn=1", 0),
+    ("rft.eissn=2", 0),
+    ("rft.isbn=1", 0),
+    ("rft.isbn=2", 0),
+    ("rft.issn=3", 1),
+    ("rft.isbn=4", 2),
+    ("rft.eissn=5", 3),
+    ("rft.issn=6", None),
+    ("rft.issn=", None),
     ("rft.issn=&rft.eissn=&rft.isbn=", None),
-    ("rft.issn=9&rft.eissn=5", 3), ("rft.issn=9&rft.eissn=8&rft.isbn=5", 3), ("rft.issn=&rft.isbn=5", 3),
-    ("rft.issn=5&rft.isbn=3", 1), ("rft.isbn=5&rft.eissn=4&rft.issn=3", 1), ("rft.issn=5&rft.eissn=4", 2),
+    ("rft.issn=9&rft.eissn=5", 3),
+    ("rft.issn=9&rft.eissn=8&rft.isbn=5", 3),
+    ("rft.issn=&rft.isbn=5", 3),
+    ("rft.issn=5&rft.isbn=3", 1),
+    ("rft.isbn=5&rft.eissn=4&rft.issn=3", 1),
+    ("rft.issn=5&rft.eissn=4", 2),
 ]
 
 # The first and the second value of a key, and the row that gives the link.
@@ -51,8 +69,10 @@ class Keys(ProgramCase):
     def test_keys_and_columns(self):
         """Each key on a table for each column alone."""
         columns = COLUMNS + OTHER_COLUMNS
-        write_registry(self.program, [
-            (f"c{number}", ANY_LINK, f"x\t{column}\ty\nu\t1234-5678\tv\n") for number, column in enumerate(columns)])
+        write_registry(
+            self.program,
+            [(f"c{number}", ANY_LINK, f"x\t{column}\ty\nu\t1234-5678\tv\n") for number, column in enumerate(columns)],
+        )
         none = "".join(f"c{number}\tno row\n" for number in range(len(columns)))
         some = "".join(f"c{at}\t{'link 0' if column in COLUMNS else 'no row'}\n" for at, column in enumerate(columns))
         cases = [(request_of(f"/report?{key}=12345678"), reply_of(200, some)) for key in KEYS]

@@ -29,17 +29,30 @@ def page(items):
 # Targets that all have the journal, a query, the text of the menu, its report, and the items of its page.
 MENUS = [
     # The first row with a web link.
-    ([("alpha", DATE_RULES)], "rft.issn=1234567x&rft.date=2003", "alpha\thttp://e.org/b\n", "alpha\tlink 1\n",
-     '<li><a href="http://e.org/b">alpha</a></li>\n'),
+    (
+        [("alpha", DATE_RULES)],
+        "rft.issn=1234567x&rft.date=2003",
+        "alpha\thttp://e.org/b\n",
+        "alpha\tlink 1\n",
+        '<li><a href="http://e.org/b">alpha</a></li>\n',
+    ),
     # A row comes before its request.
-    ([("alpha", DATE_RULES), ("beta", OF_A_SCRIPT)],
-     "rft.issn=1234567x&rft.date=2003&title_url=http%3A%2F%2Fevil.example",
-     "alpha\thttp://e.org/b\n", "alpha\tlink 1\nbeta\tnot a web link\n",
-     '<li><a href="http://e.org/b">alpha</a></li>\n'),
+    (
+        [("alpha", DATE_RULES), ("beta", OF_A_SCRIPT)],
+        "rft.issn=1234567x&rft.date=2003&title_url=http%3A%2F%2Fevil.example",
+        "alpha\thttp://e.org/b\n",
+        "alpha\tlink 1\nbeta\tnot a web link\n",
+        '<li><a href="http://e.org/b">alpha</a></li>\n',
+    ),
     ([("alpha", DATE_RULES), ("beta", OF_A_SCRIPT)], "rft.issn=0000-0000", "", "alpha\tno row\nbeta\tno row\n", ""),
     # Two rounds: the second is without the target that has its link.
-    ([("p", LIST_FILE), ("q", OF_AN_ISSN)], "rft.issn=1234567x" + "&list=a" * 40, "q\thttp://e.org/1234567x\n",
-     "p\tnot a web link\nq\tlink 0\n", '<li><a href="http://e.org/1234567x">q</a></li>\n'),
+    (
+        [("p", LIST_FILE), ("q", OF_AN_ISSN)],
+        "rft.issn=1234567x" + "&list=a" * 40,
+        "q\thttp://e.org/1234567x\n",
+        "p\tnot a web link\nq\tlink 0\n",
+        '<li><a href="http://e.org/1234567x">q</a></li>\n',
+    ),
     ([("gamma", LIST_FILE)], "rft.issn=1234567x" + ("&list=" + "a" * 1_000) * 15, "", "gamma\tnot a web link\n", ""),
 ]
 
@@ -70,37 +83,63 @@ class Menus(ProgramCase):
         self.program.finds_no_link(["resolve", "registry", "rft.issn=1234567x&x=" + "a" * 20_000])
 
     def test_a_menu_with_links(self):
-        write_registry(self.program, [
-            ("zeta", OF_THE_ROW, "print_identifier\ttitle_url\n1234-567X\thttps://e.org/?a=1&b='c'\n"),
-            ("beta", OF_A_SCRIPT, JOURNAL),
-            ("alpha", DATE_RULES, JOURNAL),
-        ])
-        shows(self.program, "rft.issn=1234567x&rft.date=2003",
-              "zeta\thttps://e.org/?a=1&b='c'\nalpha\thttp://e.org/b\n",
-              "zeta\tlink 0\nbeta\tnot a web link\nalpha\tlink 1\n",
-              "<!DOCTYPE html>\n<title>Links</title>\n<ul>\n"
-              '<li><a href="https://e.org/?a=1&amp;b=&#39;c&#39;">zeta</a></li>\n'
-              '<li><a href="http://e.org/b">alpha</a></li>\n</ul>\n')
+        write_registry(
+            self.program,
+            [
+                ("zeta", OF_THE_ROW, "print_identifier\ttitle_url\n1234-567X\thttps://e.org/?a=1&b='c'\n"),
+                ("beta", OF_A_SCRIPT, JOURNAL),
+                ("alpha", DATE_RULES, JOURNAL),
+            ],
+        )
+        shows(
+            self.program,
+            "rft.issn=1234567x&rft.date=2003",
+            "zeta\thttps://e.org/?a=1&b='c'\nalpha\thttp://e.org/b\n",
+            "zeta\tlink 0\nbeta\tnot a web link\nalpha\tlink 1\n",
+            "<!DOCTYPE html>\n<title>Links</title>\n<ul>\n"
+            '<li><a href="https://e.org/?a=1&amp;b=&#39;c&#39;">zeta</a></li>\n'
+            '<li><a href="http://e.org/b">alpha</a></li>\n</ul>\n',
+        )
 
     def test_a_row_after_seven_others(self):
-        write_registry(self.program, [
-            ("zeta", OF_THE_ROW, "print_identifier\ttitle_url\n" + "1234-567X\tx:\n" * 7 + "1234-567X\thttp://\n"),
-            ("beta", OF_A_SCRIPT, JOURNAL),
-        ])
-        shows(self.program, "rft.issn=1234567x", "zeta\thttp://\n", "zeta\tlink 7\nbeta\tnot a web link\n",
-              page('<li><a href="http://">zeta</a></li>\n'))
+        write_registry(
+            self.program,
+            [
+                ("zeta", OF_THE_ROW, "print_identifier\ttitle_url\n" + "1234-567X\tx:\n" * 7 + "1234-567X\thttp://\n"),
+                ("beta", OF_A_SCRIPT, JOURNAL),
+            ],
+        )
+        shows(
+            self.program,
+            "rft.issn=1234567x",
+            "zeta\thttp://\n",
+            "zeta\tlink 7\nbeta\tnot a web link\n",
+            page('<li><a href="http://">zeta</a></li>\n'),
+        )
 
     def test_a_menu_without_links(self):
         # By its last row, the text of 20,000 bytes, the cells and the ISSN: 60 times 20,035 bytes.
         letters = "a" * 20_000
-        write_registry(self.program, [
-            ("alpha", DATE_RULES, "print_identifier\ttitle_url\n0000-0000\thttp://e.org/a\n"),
-            ("gamma", FAIL, JOURNAL),
-            ("delta", TWENTY_TEXTS, "print_identifier\ttitle_url\tdate_first_issue_online\tdate_last_issue_online\tx\n"
-             f"1234-567X\thttp://e.org/a\t1990\t1995\t{letters}\n1234-567X\thttp://e.org/b\t2000\t\t{letters}\n"),
-        ])
-        shows(self.program, "rft.issn=1234567x", "", "alpha\tno row\ngamma\tno link\ndelta\tover budget 1202100\n",
-              NO_LINKS)
+        write_registry(
+            self.program,
+            [
+                ("alpha", DATE_RULES, "print_identifier\ttitle_url\n0000-0000\thttp://e.org/a\n"),
+                ("gamma", FAIL, JOURNAL),
+                (
+                    "delta",
+                    TWENTY_TEXTS,
+                    "print_identifier\ttitle_url\tdate_first_issue_online\tdate_last_issue_online\tx\n"
+                    f"1234-567X\thttp://e.org/a\t1990\t1995\t{letters}\n1234-567X\thttp://e.org/b\t2000\t\t{letters}\n",
+                ),
+            ],
+        )
+        shows(
+            self.program,
+            "rft.issn=1234567x",
+            "",
+            "alpha\tno row\ngamma\tno link\ndelta\tover budget 1202100\n",
+            NO_LINKS,
+        )
 
     def test_links_of_the_web(self):
         for cell, link in LINKS:

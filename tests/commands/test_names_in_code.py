@@ -5,6 +5,7 @@ from fixtures.program import ProgramCase
 # The bytes that a name may have.
 ALLOWED = range(0x21, 0x7F)
 
+
 def named(*names):
     return code([("text", name) for name in names], [], "HALT")
 

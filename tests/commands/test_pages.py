@@ -6,7 +6,7 @@ from fixtures.service import NO_LINKS, expect_replies, reply_of, request_of
 from fixtures.targets import write_alpha
 
 LINK = "alpha\thttp://e.org/b\n"
-HTML = "<!DOCTYPE html>\n<title>Links</title>\n<ul>\n<li><a href=\"http://e.org/b\">alpha</a></li>\n</ul>\n"
+HTML = '<!DOCTYPE html>\n<title>Links</title>\n<ul>\n<li><a href="http://e.org/b">alpha</a></li>\n</ul>\n'
 FOUND = "rft.date=2003&rft.issn=1234567x"
 NOT_FOUND = reply_of(404, "not found\n")
 
@@ -37,10 +37,29 @@ QUERIES = [
 ]
 
 PATHS = [
-    "/", "//openurl", "/openurl/", "/openurl.txt/", "/report/", "/openurl.html", "/openurl.xml", "/openurl.json",
-    "/report.txt", "/report.html", "/openurl.TXT", "/OPENURL", "/Openurl.txt", "/REPORT", "/%6fpenurl",
-    "/openurl%2Etxt", "/./openurl", "/a/../openurl", "/a/openurl", "/openurl/openurl", "/openurl.txt.txt",
-    "/index.html", "/x",
+    "/",
+    "//openurl",
+    "/openurl/",
+    "/openurl.txt/",
+    "/report/",
+    "/openurl.html",
+    "/openurl.xml",
+    "/openurl.json",
+    "/report.txt",
+    "/report.html",
+    "/openurl.TXT",
+    "/OPENURL",
+    "/Openurl.txt",
+    "/REPORT",
+    "/%6fpenurl",
+    "/openurl%2Etxt",
+    "/./openurl",
+    "/a/../openurl",
+    "/a/openurl",
+    "/openurl/openurl",
+    "/openurl.txt.txt",
+    "/index.html",
+    "/x",
 ]
 
 

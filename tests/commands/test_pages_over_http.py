@@ -6,12 +6,15 @@ from fixtures.targets import DATE_RULES, JOURNAL, write_registry
 
 def reply(kind, length, body):
     """The whole reply with a page of `length` bytes."""
-    return (f"HTTP/1.1 200 OK\r\nContent-Type: text/{kind}; charset=utf-8\r\nContent-Length: {length}\r\n"
-            f"Connection: close\r\n\r\n{body}").encode()
+    return (
+        f"HTTP/1.1 200 OK\r\nContent-Type: text/{kind}; charset=utf-8\r\nContent-Length: {length}\r\n"
+        f"Connection: close\r\n\r\n{body}"
+    ).encode()
 
 
-LINKS = reply("html", 92, "<!DOCTYPE html>\n<title>Links</title>\n<ul>\n"
-              '<li><a href="http://e.org/b">alpha</a></li>\n</ul>\n')
+LINKS = reply(
+    "html", 92, "<!DOCTYPE html>\n<title>Links</title>\n<ul>\n" '<li><a href="http://e.org/b">alpha</a></li>\n</ul>\n'
+)
 NO_LINKS = reply("html", 53, "<!DOCTYPE html>\n<title>Links</title>\n<p>No links</p>\n")
 TEXT = reply("plain", 21, "alpha\thttp://e.org/b\n")
 NO_TEXT = reply("plain", 0, "")
@@ -34,8 +37,12 @@ PAGES = [
 
 # A row whose link has 65,513 bytes: a page can be longer than a query or a row.
 LONG_ROW = "print_identifier\ttitle_url\n1234-567X\thttp://e.org/" + "b" * 65_500 + "\n"
-LONG_PAGE = reply("html", 65591, "<!DOCTYPE html>\n<title>Links</title>\n<ul>\n"
-                  '<li><a href="http://e.org/' + "b" * 65_500 + '">alpha</a></li>\n</ul>\n')
+LONG_PAGE = reply(
+    "html",
+    65591,
+    "<!DOCTYPE html>\n<title>Links</title>\n<ul>\n"
+    '<li><a href="http://e.org/' + "b" * 65_500 + '">alpha</a></li>\n</ul>\n',
+)
 
 
 class PagesOverHttp(ProgramCase):

@@ -49,8 +49,12 @@ def add_device(program):
 
 # A symbolic link, and where it leads: to a folder, a file, another link, nothing, itself, an open file.
 LINKS = [
-    ("to_folder", "folder"), ("to_file", "kept"), ("to_link", "to_file"), ("to_none", "none"),
-    ("to_itself", "to_itself"), ("to_output", "/proc/self/fd/1"),
+    ("to_folder", "folder"),
+    ("to_file", "kept"),
+    ("to_link", "to_file"),
+    ("to_none", "none"),
+    ("to_itself", "to_itself"),
+    ("to_output", "/proc/self/fd/1"),
 ]
 
 

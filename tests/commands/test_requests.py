@@ -10,7 +10,7 @@ def list_lines(declared):
 
 def has_text(program, declared, query, name, text):
     """By a guard the name has this text, where these names are declared as lists."""
-    program.write("text.rules", f"{list_lines(declared)}rule\nwhen {name} is \"{text}\"\nlink http://e.org/\n")
+    program.write("text.rules", f'{list_lines(declared)}rule\nwhen {name} is "{text}"\nlink http://e.org/\n')
     program.prints(["link", "text.rules", query], "http://e.org/")
 
 
@@ -89,8 +89,11 @@ TEXTS = [
 PAIRS = [
     ([], "", []),
     (["x", "y"], "x=1&y=2&x=3", ["x=1", "x=3", "y=2"]),
-    (["ctx_ver", "url_ver", "x"], "ctx_ver=Z39.88-2004&url_ver=Z39.88-2004&x=1",
-     ["ctx_ver=Z39.88-2004", "url_ver=Z39.88-2004", "x=1"]),
+    (
+        ["ctx_ver", "url_ver", "x"],
+        "ctx_ver=Z39.88-2004&url_ver=Z39.88-2004&x=1",
+        ["ctx_ver=Z39.88-2004", "url_ver=Z39.88-2004", "x=1"],
+    ),
     (["ctx_ver"], "ctx_ver=Z39%2E88%2D2004", ["ctx_ver=Z39.88-2004"]),
     (["url_ver"], "url_ver=Z39.88-2004&url_ver=1", ["url_ver=Z39.88-2004", "url_ver=1"]),
     (["a"], "a&&&a&&", ["a=", "a="]),

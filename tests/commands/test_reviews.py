@@ -7,7 +7,7 @@ from fixtures.program import ProgramCase
 
 HEADER = "print_identifier\tonline_identifier\ttitle_id\ttitle_url\n"
 CLEAN_TABLE = HEADER + "2901-0012\t2908-0142\tats\thttps://e.org/ats\n2915-0272\t\thel\thttps://e.org/hel\n"
-CLEAN_FINDINGS = "rows 2\nidentifiers 3\nrows of one identifier 1, \"29010012\"\n"
+CLEAN_FINDINGS = 'rows 2\nidentifiers 3\nrows of one identifier 1, "29010012"\n'
 RULES = "rule\nwhen given rft.volume\nlink https://e.org/{title_id}/{rft.volume}\n"
 FILES = {"good.rules": RULES, "good.tsv": CLEAN_TABLE, "bad.rules": "rul\n", "bad.tsv": b"\xff\n", "no.tsv": ""}
 
@@ -52,10 +52,16 @@ EXPLANATIONS = [
     ("rft.issn=2901-0012&rft.volume=7", 0, "row 0\n  rule 1 holds: https://e.org/ats/7\n"),
     # The request's value does not hide the row's.
     ("rft.issn=29010012&rft.volume=7&title_id=x", 0, "row 0\n  rule 1 holds: https://e.org/ats/7\n"),
-    ("rft.eissn=2908-0142", 1, "row 0\n  rule 1, guard 1 fails: given rft.volume\n    rft.volume undefined\n"
-                               "  no rule holds\n"),
-    ("rft.eissn=2908-0142&rft.volume=", 1, "row 0\n  rule 1, guard 1 fails: given rft.volume\n    rft.volume \"\"\n"
-                                           "  no rule holds\n"),
+    (
+        "rft.eissn=2908-0142",
+        1,
+        "row 0\n  rule 1, guard 1 fails: given rft.volume\n    rft.volume undefined\n" "  no rule holds\n",
+    ),
+    (
+        "rft.eissn=2908-0142&rft.volume=",
+        1,
+        'row 0\n  rule 1, guard 1 fails: given rft.volume\n    rft.volume ""\n' "  no rule holds\n",
+    ),
 ]
 
 LISTS = """list subject
@@ -70,16 +76,28 @@ LIST_TABLE = "print_identifier\tsubject\n1\t\n2\tlaw\n"
 
 LIST_EXPLANATIONS = [
     ("rft.issn=1&subject=tides&subject=law&rft.au=Li&rft.au=Wu", 0, "row 0\n  rule 1 holds: https://e.org/Li,Wu\n"),
-    ("rft.issn=1&subject=tides&subject=sea", 1,
-     "row 0\n  rule 1, guard 1 fails: subject holds \"law\"\n    subject list of 2\n  no rule holds\n"),
-    ("rft.issn=1&subject=law&rft.au=Li&most=3", 1,
-     "row 0\n  rule 1, guard 2 fails: rft.au counts 2 to most\n    rft.au list of 1\n    most \"3\"\n"
-     "  no rule holds\n"),
-    ("rft.issn=1&subject=law", 1,
-     "row 0\n  rule 1, guard 2 fails: rft.au counts 2 to most\n    rft.au undefined\n    most undefined\n"
-     "  no rule holds\n"),
-    ("rft.issn=2&subject=law", 1,
-     "row 1\n  rule 1, guard 1 fails: subject holds \"law\"\n    subject undefined\n  no rule holds\n"),
+    (
+        "rft.issn=1&subject=tides&subject=sea",
+        1,
+        'row 0\n  rule 1, guard 1 fails: subject holds "law"\n    subject list of 2\n  no rule holds\n',
+    ),
+    (
+        "rft.issn=1&subject=law&rft.au=Li&most=3",
+        1,
+        'row 0\n  rule 1, guard 2 fails: rft.au counts 2 to most\n    rft.au list of 1\n    most "3"\n'
+        "  no rule holds\n",
+    ),
+    (
+        "rft.issn=1&subject=law",
+        1,
+        "row 0\n  rule 1, guard 2 fails: rft.au counts 2 to most\n    rft.au undefined\n    most undefined\n"
+        "  no rule holds\n",
+    ),
+    (
+        "rft.issn=2&subject=law",
+        1,
+        'row 1\n  rule 1, guard 1 fails: subject holds "law"\n    subject undefined\n  no rule holds\n',
+    ),
 ]
 
 
@@ -108,8 +126,10 @@ class Reviews(ProgramCase):
         self.program.write("large.rules", "#" * 65_537)
         self.program.fails(["lint", "large.rules", "good.tsv"], 3, "rules: line 0: TooLong")
         self.program.write("full.tsv", "x\n" + "a\n" * 200_000)
-        findings = ("rows 200000\nidentifiers 0\nno column print_identifier\nno column online_identifier\n"
-                    "unknown column \"x\"\nrows without an identifier 200000, first 0\n")
+        findings = (
+            "rows 200000\nidentifiers 0\nno column print_identifier\nno column online_identifier\n"
+            'unknown column "x"\nrows without an identifier 200000, first 0\n'
+        )
         self.program.gives(["inspect", "full.tsv"], 1, findings, "")
 
     def test_statuses(self):
@@ -137,13 +157,16 @@ class Reviews(ProgramCase):
             self.program.gives(["explain", "lists.rules", "lists.tsv", query], status, lines, "")
 
     def test_bytes_outside_ascii(self):
-        self.program.write("accent.rules", "rule\nwhen x is \"\u00e9\t\\\"\"\nlink https://e.org/\n")
+        self.program.write("accent.rules", 'rule\nwhen x is "\u00e9\t\\""\nlink https://e.org/\n')
         self.program.write("one.tsv", "print_identifier\n1\n")
-        lines = ("row 0\n  rule 1, guard 1 fails: x is \"\\xc3\\xa9\\x09\\\"\"\n    x \"\\xc3\\xa9\\x22\\x5c\"\n"
-                 "  no rule holds\n")
+        lines = (
+            'row 0\n  rule 1, guard 1 fails: x is "\\xc3\\xa9\\x09\\""\n    x "\\xc3\\xa9\\x22\\x5c"\n'
+            "  no rule holds\n"
+        )
         self.program.gives(["explain", "accent.rules", "one.tsv", "rft.issn=1&x=%C3%A9%22%5C"], 1, lines, "")
-        long = ("row 0\n  rule 1, guard 1 fails: x is \"\\xc3\\xa9\\x09\\\"\"\n    x \"" + "a" * 60
-                + "\"...\n  no rule holds\n")
+        long = (
+            'row 0\n  rule 1, guard 1 fails: x is "\\xc3\\xa9\\x09\\""\n    x "' + "a" * 60 + '"...\n  no rule holds\n'
+        )
         self.program.gives(["explain", "accent.rules", "one.tsv", "rft.issn=1&x=" + "a" * 61], 1, long, "")
 
     def test_a_row_without_a_web_link(self):
@@ -152,26 +175,32 @@ class Reviews(ProgramCase):
             "first.rules", "rule\nwhen given title_id\nlink none:{title_id}\n\nrule\nlink HTTPS://e.org/\n"
         )
         self.program.write("two.tsv", "print_identifier\ttitle_id\n1\ta\n1\t\n")
-        lines = ("row 0\n  rule 1 holds: none:a\n  not a web link\n"
-                 "row 1\n  rule 1, guard 1 fails: given title_id\n    title_id undefined\n"
-                 "  rule 2 holds: HTTPS://e.org/\n")
+        lines = (
+            "row 0\n  rule 1 holds: none:a\n  not a web link\n"
+            "row 1\n  rule 1, guard 1 fails: given title_id\n    title_id undefined\n"
+            "  rule 2 holds: HTTPS://e.org/\n"
+        )
         self.program.gives(["explain", "first.rules", "two.tsv", "rft.issn=1"], 0, lines, "")
 
     def test_the_hundredth_row(self):
         """Of 150 matching rows, the rules that fail are printed for the first hundred."""
-        self.program.write("last.rules", "rule\nwhen title_id is \"149\"\nlink https://e.org/{title_id}\n")
+        self.program.write("last.rules", 'rule\nwhen title_id is "149"\nlink https://e.org/{title_id}\n')
         self.program.write("many.tsv", "print_identifier\ttitle_id\n" + "".join(f"1\t{row}\n" for row in range(150)))
-        lines = "".join(f"row {row}\n  rule 1, guard 1 fails: title_id is \"149\"\n"
-                        f"    title_id \"{row}\"\n  no rule holds\n"
-                        for row in range(100))
+        lines = "".join(
+            f'row {row}\n  rule 1, guard 1 fails: title_id is "149"\n' f'    title_id "{row}"\n  no rule holds\n'
+            for row in range(100)
+        )
         lines += "".join(f"row {row}\n  no rule holds\n" for row in range(100, 149))
         lines += "row 149\n  rule 1 holds: https://e.org/149\n"
         self.program.gives(["explain", "last.rules", "many.tsv", "rft.issn=1"], 0, lines, "")
 
     def test_output_fails(self):
         write_files(self.program)
-        for arguments in (["inspect", "good.tsv"], ["lint", "good.rules", "good.tsv"],
-                          ["explain", "good.rules", "good.tsv", "rft.issn=29010012"]):
+        for arguments in (
+            ["inspect", "good.tsv"],
+            ["lint", "good.rules", "good.tsv"],
+            ["explain", "good.rules", "good.tsv", "rft.issn=29010012"],
+        ):
             full = run_into(self.program, "/dev/full", 3, 1, arguments)
             self.program.expect(f"{arguments[0]} into a full output", full, (4, b"", DEVICE))
             narrow = run_into(self.program, f"{self.program.folder}/narrow", 3, 1, arguments)

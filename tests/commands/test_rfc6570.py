@@ -2,24 +2,26 @@
 from fixtures.program import ProgramCase
 
 # The variables of section 3.2; `semi` and `year` are of section 2.4. `undef` and `empty_keys` stand for nothing.
-QUERY = "&".join([
-    "dub=me/too",
-    "hello=Hello+World%21",
-    "half=50%25",
-    "var=value",
-    "who=fred",
-    "base=http://example.com/home/",
-    "path=/foo/bar",
-    "v=6",
-    "x=1024",
-    "y=768",
-    "empty=",
-    "semi=;",
-    "count=one&count=two&count=three",
-    "dom=example&dom=com",
-    "list=red&list=green&list=blue",
-    "year=1965&year=2000&year=2012",
-])
+QUERY = "&".join(
+    [
+        "dub=me/too",
+        "hello=Hello+World%21",
+        "half=50%25",
+        "var=value",
+        "who=fred",
+        "base=http://example.com/home/",
+        "path=/foo/bar",
+        "v=6",
+        "x=1024",
+        "y=768",
+        "empty=",
+        "semi=;",
+        "count=one&count=two&count=three",
+        "dom=example&dom=com",
+        "list=red&list=green&list=blue",
+        "year=1965&year=2000&year=2012",
+    ]
+)
 
 LISTS = ["--list", "count", "--list", "dom", "--list", "list", "--list", "year"]
 

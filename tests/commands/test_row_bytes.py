@@ -19,8 +19,11 @@ MEASURED = [
     ("rft.issn=1234567x", 0, 27 + 8),
     ("rft.issn=1234567x&title_url=http%3A%2F%2Fevil.example", 0, 27 + 8),
     ("rft.issn=1234567x&date_last_issue_online=2005", 0, 27 + 8 + 4),
-    ("rft.issn=1234567x&title_url=http%3A%2F%2Fevil.example&list=a&x=1&list=b&x=2&date_last_issue_online=2005", 2,
-     27 + 8 + 2 + 1 + 4),
+    (
+        "rft.issn=1234567x&title_url=http%3A%2F%2Fevil.example&list=a&x=1&list=b&x=2&date_last_issue_online=2005",
+        2,
+        27 + 8 + 2 + 1 + 4,
+    ),
 ]
 
 
@@ -39,8 +42,15 @@ class RowBytes(ProgramCase):
     def test_the_bound_is_that_of_the_last_row(self):
         """A request's text of 15,000 bytes, a cell of 5,000, the other cells and the ISSN: 60 times 20,035 bytes."""
         letters = "a" * 5_000
-        write_registry(self.program, [
-            ("delta", TWENTY_TEXTS, "print_identifier\ttitle_url\tdate_first_issue_online\tdate_last_issue_online\ty\n"
-             f"1234-567X\thttp://e.org/a\t1990\t1995\tb\n1234-567X\thttp://e.org/b\t2000\t\t{letters}\n"),
-        ])
+        write_registry(
+            self.program,
+            [
+                (
+                    "delta",
+                    TWENTY_TEXTS,
+                    "print_identifier\ttitle_url\tdate_first_issue_online\tdate_last_issue_online\ty\n"
+                    f"1234-567X\thttp://e.org/a\t1990\t1995\tb\n1234-567X\thttp://e.org/b\t2000\t\t{letters}\n",
+                ),
+            ],
+        )
         expect_bound(self.program, "delta", "rft.issn=1234567x&x=" + "a" * 15_000, 1_202_100)

@@ -46,10 +46,10 @@ GUARDS = [
     ("lacks x", False),
     ("given x", False),
     ("given seven", True),
-    ("quoted is \"a\\\"b\"", True),
-    ("slash is \"\\\\\"", True),
-    ("z is \"\"", False),
-    ("has is \"x\"", True),
+    ('quoted is "a\\"b"', True),
+    ('slash is "\\\\"', True),
+    ('z is ""', False),
+    ('has is "x"', True),
     ("seven from * to 9", True),
     ("word from * to 9", False),
     ("word from * to *", False),
@@ -57,8 +57,8 @@ GUARDS = [
     ("nine from 1 to 999999999", True),
     ("ten from 1 to 999999999", False),
     # Of lists.
-    ("rft.au holds \"Li\"", True),
-    ("by holds \"Li\"", False),
+    ('rft.au holds "Li"', True),
+    ('by holds "Li"', False),
     ("has by", True),
     ("lacks rft_id", True),
     ("rft.au counts 2 to *", True),
@@ -81,19 +81,19 @@ OTHER_GUARDS = [
     ("has rft.au", "rft.aulast=a", False),
     ("lacks y", "x=a", True),
     ("lacks y", "y=", False),
-    ("has is \"x\"", "has=x", True),
-    ("has is \"x\"", "x=", False),
+    ('has is "x"', "has=x", True),
+    ('has is "x"', "x=", False),
     ("given from 1 to 2", "given=2", True),
     ("given from 1 to 2", "given=3", False),
-    ("is is \"is\"", "is=is", True),
-    ("x is \"\"", "x=", True),
-    ("x is \"\"", "x=+", False),
-    ("x is \" \"", "x=+", True),
-    ("x is \"a\\\\\"", "x=a%5C", True),
-    ("x is \"\\\"\"", "x=%22", True),
-    ("x is \"é\"", "x=%C3%A9", True),
-    ("y holds \"to\"", "y=a&y=to", True),
-    ("y holds \"to\"", "y=a", False),
+    ('is is "is"', "is=is", True),
+    ('x is ""', "x=", True),
+    ('x is ""', "x=+", False),
+    ('x is " "', "x=+", True),
+    ('x is "a\\\\"', "x=a%5C", True),
+    ('x is "\\""', "x=%22", True),
+    ('x is "é"', "x=%C3%A9", True),
+    ('y holds "to"', "y=a&y=to", True),
+    ('y holds "to"', "y=a", False),
     ("x from to to to", "x=5&to=5", True),
     ("x from to to to", "x=5&to=6", False),
     ("x from * to *", "x=5", True),
@@ -118,9 +118,7 @@ NUMBERS_OF_RULES = [
     ("#\ufeff\nrule\nlink {x:9999}{rft.au}", 1),
 ]
 
-COVERAGE = (
-    "rule\nwhen rft.date from date_first_issue_online to date_last_issue_online\nlink http://e.org/{rft.date}"
-)
+COVERAGE = "rule\nwhen rft.date from date_first_issue_online to date_last_issue_online\nlink http://e.org/{rft.date}"
 
 SEVERAL = "rule\nwhen rft.au counts 2 to *\nlink http://e.org/{rft.au}"
 

@@ -15,7 +15,7 @@ def small_stack():
 
 def large_rules():
     """Five hundred rules, and one with a long link."""
-    rules = "".join(f"rule\nwhen rft.volume is \"{n}\"\nlink http://e.org/{n}\n" for n in range(500))
+    rules = "".join(f'rule\nwhen rft.volume is "{n}"\nlink http://e.org/{n}\n' for n in range(500))
     link = "link http://e.org/" + "{rft.issn}" * 10 + "\n"
     return rules + "rule\nwhen given rft.issn\n" + link
 

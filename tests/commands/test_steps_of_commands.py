@@ -11,18 +11,43 @@ QUERIES = ["x=1", ("url_ver=1", 3, "query: WrongVersion"), ("a" * 65537, 3, "que
 PLACES = ["new.olk", ("no/new.olk", 4, "device: no/new.olk")]
 COMMANDS = [
     (["expand"], [["{x}", ("{", 3, "template: Unclosed at 0")], QUERIES]),
-    (["link"], [
-        ["good.rules", ("no/such.rules", 4, "device: no/such.rules"), (".", 4, "device: ."),
-         ("bad.rules", 3, "rules: line 1: BadLine")],
-        QUERIES]),
-    (["run"], [
-        ["good.olk", ("none.olk", 4, "device: none.olk"), ("cut.olk", 3, "load: Truncated at 17"),
-         ("jump.olk", 3, "load: JumpOut at 0"), ("kind.olk", 3, "load: KindMismatch at 0, r0")],
-        QUERIES]),
-    (["compile"], [
-        ["good.rules", ("none.rules", 4, "device: none.rules"), ("bad.rules", 3, "rules: line 1: BadLine"),
-         ("large.rules", 3, "compile: TooManyInstructions")],
-        PLACES]),
+    (
+        ["link"],
+        [
+            [
+                "good.rules",
+                ("no/such.rules", 4, "device: no/such.rules"),
+                (".", 4, "device: ."),
+                ("bad.rules", 3, "rules: line 1: BadLine"),
+            ],
+            QUERIES,
+        ],
+    ),
+    (
+        ["run"],
+        [
+            [
+                "good.olk",
+                ("none.olk", 4, "device: none.olk"),
+                ("cut.olk", 3, "load: Truncated at 17"),
+                ("jump.olk", 3, "load: JumpOut at 0"),
+                ("kind.olk", 3, "load: KindMismatch at 0, r0"),
+            ],
+            QUERIES,
+        ],
+    ),
+    (
+        ["compile"],
+        [
+            [
+                "good.rules",
+                ("none.rules", 4, "device: none.rules"),
+                ("bad.rules", 3, "rules: line 1: BadLine"),
+                ("large.rules", 3, "compile: TooManyInstructions"),
+            ],
+            PLACES,
+        ],
+    ),
     (["upgrade"], [["good.olk", ("none.olk", 4, "device: none.olk"), ("cut.olk", 3, "code: Truncated at 17")], PLACES]),
 ]
 

@@ -138,8 +138,8 @@ def guard_of(name, cell):
     """The guard that the column has this cell, or none; a quote is written with a backslash before it."""
     if cell is None:
         return f"lacks {name}"
-    quoted = cell.replace("\"", "\\\"")
-    return f"{name} is \"{quoted}\""
+    quoted = cell.replace('"', '\\"')
+    return f'{name} is "{quoted}"'
 
 
 # A table, one of its rows, which has the identifier 7, the name of a column, and its cell there, or None. One case for
@@ -153,8 +153,8 @@ LINES_AND_CELLS = [
     # Exact names.
     ("A\tprint_identifier\na1\t7\n", 0, "a", None),
     # Quotes, spaces and `#` are plain.
-    ("a\tprint_identifier\n\"1\"\t7\n", 0, "a", "\"1\""),
-    ("a\tb\tprint_identifier\n\"1\t2\"\t7\n", 0, "b", "2\""),
+    ('a\tprint_identifier\n"1"\t7\n', 0, "a", '"1"'),
+    ('a\tb\tprint_identifier\n"1\t2"\t7\n', 0, "b", '2"'),
     ("a\tprint_identifier\n 1 \t7\n", 0, "a", " 1 "),
     ("a\tprint_identifier\n \t7\n", 0, "a", " "),
     ("a\tprint_identifier\n#1\t7\n", 0, "a", "#1"),

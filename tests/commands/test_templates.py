@@ -7,19 +7,21 @@ from fixtures.program import ProgramCase
 # A percent sign that begins no triplet.
 LONE_PERCENT = "%(?![0-9A-Fa-f]{2})"
 
-TEXTS = "&".join([
-    "hello=Hello+World%21",
-    "path=/foo/bar",
-    "empty=",
-    "v=6",
-    "who=fred",
-    "x=1024",
-    "lone=%2541%254",
-    "triplets=%2541%2542%2543",
-    "accent=%C3%A9a",
-    "a.b=dotted",
-    "%2541=named+by+a+triplet",
-])
+TEXTS = "&".join(
+    [
+        "hello=Hello+World%21",
+        "path=/foo/bar",
+        "empty=",
+        "v=6",
+        "who=fred",
+        "x=1024",
+        "lone=%2541%254",
+        "triplets=%2541%2542%2543",
+        "accent=%C3%A9a",
+        "a.b=dotted",
+        "%2541=named+by+a+triplet",
+    ]
+)
 
 # A template and its expansion.
 OF_TEXTS = [
@@ -80,13 +82,15 @@ CUT = [
     ("%C3%A9", 1, "%", "%C3"),
 ]
 
-MEMBERS = "&".join([
-    "list=red&list=green&list=blue",
-    "rft.au=Smith,+J&rft.au=Li",
-    "none=",
-    "path=/foo/bar",
-    "id=b",
-])
+MEMBERS = "&".join(
+    [
+        "list=red&list=green&list=blue",
+        "rft.au=Smith,+J&rft.au=Li",
+        "none=",
+        "path=/foo/bar",
+        "id=b",
+    ]
+)
 
 # A template and its expansion.
 OF_LISTS = [
@@ -120,7 +124,7 @@ WRITTEN = [
         "-._~:/?#[]@!$&'()*+,;=",
     ),
     (
-        "\"<>\\^`{|}",
+        '"<>\\^`{|}',
         "%22%3C%3E%5C%5E%60%7B%7C%7D",
         "%22%3C%3E%5C%5E%60%7B%7C%7D",
     ),

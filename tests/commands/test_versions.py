@@ -6,16 +6,60 @@ KEYS = ["ctx_ver", "url_ver"]
 
 # Values that are not the version; `%2B` is a `+`, and `+` a space.
 OTHERS = [
-    "z39.88-2004", "Z39.88-2005", "Z39.88-1993", "Z3988-2004", "Z39.88", "Z39.88-200", "39.88-2004", "Z39.88-20040",
-    "ZZ39.88-2004", "Z39.88+2004", "Z39.88%2B2004", "+Z39.88-2004", "Z39.88-2004+", "Z39.88-2004%00", "Z39.88-2004%0A",
-    "%22Z39.88-2004%22", "Z39.88%E2%80%932004", "ANSI/NISO+Z39.88-2004", "info:ofi/Z39.88-2004", "1", "0.1", "%20", "",
+    "z39.88-2004",
+    "Z39.88-2005",
+    "Z39.88-1993",
+    "Z3988-2004",
+    "Z39.88",
+    "Z39.88-200",
+    "39.88-2004",
+    "Z39.88-20040",
+    "ZZ39.88-2004",
+    "Z39.88+2004",
+    "Z39.88%2B2004",
+    "+Z39.88-2004",
+    "Z39.88-2004+",
+    "Z39.88-2004%00",
+    "Z39.88-2004%0A",
+    "%22Z39.88-2004%22",
+    "Z39.88%E2%80%932004",
+    "ANSI/NISO+Z39.88-2004",
+    "info:ofi/Z39.88-2004",
+    "1",
+    "0.1",
+    "%20",
+    "",
 ]
 
 # Keys that say nothing of the version.
 FREE = [
-    "rft_ver", "rfe_ver", "rfr_ver", "req_ver", "svc_ver", "res_ver", "rft.ver", "ver", "version", "ctx_vers", "ctx_ve",
-    "ctx.ver", "ctx-ver", "ctxver", "CTX_VER", "Ctx_ver", "URL_VER", "url.ver", "ctx_ver+", "+ctx_ver", "ctx_enc",
-    "ctx_id", "ctx_tim", "url_ctx_fmt", "url_tim", "rft_val_fmt", "sid",
+    "rft_ver",
+    "rfe_ver",
+    "rfr_ver",
+    "req_ver",
+    "svc_ver",
+    "res_ver",
+    "rft.ver",
+    "ver",
+    "version",
+    "ctx_vers",
+    "ctx_ve",
+    "ctx.ver",
+    "ctx-ver",
+    "ctxver",
+    "CTX_VER",
+    "Ctx_ver",
+    "URL_VER",
+    "url.ver",
+    "ctx_ver+",
+    "+ctx_ver",
+    "ctx_enc",
+    "ctx_id",
+    "ctx_tim",
+    "url_ctx_fmt",
+    "url_tim",
+    "rft_val_fmt",
+    "sid",
 ]
 
 # Queries, and whether their version is right.
@@ -64,7 +108,7 @@ class Versions(ProgramCase):
     def test_each_character_of_the_version(self):
         for at in range(len(VERSION)):
             for other in "xX0.- ":
-                value = VERSION[:at] + other + VERSION[at + 1:]
+                value = VERSION[:at] + other + VERSION[at + 1 :]
                 if value != VERSION:
                     self.program.fails(["expand", "e", f"ctx_ver={value}"], 3, "query: WrongVersion")
 

@@ -41,7 +41,7 @@ STAFF = {
     **COMMON,
     "referrer-policy": "no-referrer",
     "content-security-policy": "default-src 'none'; style-src 'self'; img-src 'self'; base-uri 'none'; "
-    "form-action 'none'; frame-ancestors 'none'",
+    "form-action 'self'; frame-ancestors 'none'",
 }
 DATA = {"access-control-allow-origin": "*", "cross-origin-resource-policy": "cross-origin"}
 DAY = {"cache-control": "public, max-age=86400"}

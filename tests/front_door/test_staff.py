@@ -158,7 +158,13 @@ class Staff(SiteCase):
         self.expect("the reports in bold", bold, {name: [1 if name in FOR_EVERY_REQUEST else 0] for name in reports[0]})
         lines = [line.split("\t") for line in self.site.read("registry.tsv").splitlines()]
         registry = {name: (code, table) for name, code, table in lines}
-        self.expect("a command for each target", list(commands), list(registry))
+        with_row = [name for name in registry if {reports[0][name], reports[1][name]} != {"no row"}]
+        without = [name for name in registry if name not in with_row]
+        self.expect("some have a row, and some none", (len(with_row) > 3, len(without) > 3), (True, True))
+        for what, names in (("commands", list(commands)), ("reports", list(reasons))):
+            self.expect(f"{what}: those with a row first", names, [*with_row, *without])
+        summary = f"<summary>Targets without a row: {len(without)}</summary>"
+        self.expect("the others are folded", reply.text.count(f"<details>\n{summary}"), 2)
         for name, command in commands.items():
             word, rules, table, query = self.arguments_of(command)
             self.expect(
@@ -169,6 +175,27 @@ class Staff(SiteCase):
             subprocess.run([PROGRAM, "compile", rules, code], check=True, stdout=subprocess.DEVNULL)
             used = Path(self.site.path(registry[name][0])).read_bytes()
             self.expect(f"the rules of {name}", Path(code).read_bytes(), used)
+
+    def test_what_to_do(self) -> None:
+        """Beside each reason is what to do; and the form for another request leads to this page."""
+        text = self.get("issn=2901-0012&date=2003&volume=12").text
+        said = dict(re.findall(r'<h3 id="target-([^"]*)">.*</h3>\n<p>.*?: <code [^>]*>.*?</code> (.*)</p>', text))
+        words = {
+            "link": "Nothing to do",
+            "no row": "The table has no row with a number",
+            "no link": "The table has the title",
+        }
+        _, reasons, bold, _ = page_parts(text)
+        used = {name: re.sub(r"^link .*", "link", reasons[name][bold[name][0]]) for name in reasons}
+        self.expect("all kinds of reasons", set(used.values()), set(words))
+        for name, reason in used.items():
+            self.expect(f"what to do about {name}: {reason}", said[name].startswith(words[reason]), True)
+        self.expect("the form", re.findall(r'<form action="([^"]*)" method="get"', text), ["/why"])
+        self.expect("it is folded", "<details><summary>Find by citation</summary>" in text, True)
+        self.expect(
+            "but for no request", "<details open><summary>Find by citation</summary>" in self.get("").text, True
+        )
+        self.expect("the way to the desk", '<a href="/desk/">Librarian’s desk</a>' in text, True)
 
     def test_hostile_titles(self) -> None:
         """Each title is one pair of the one argument that the shell gives the program, with `'` as %27."""

@@ -82,10 +82,14 @@ def slow(tables: dict[str, list[Row]]) -> dict[str, tuple[int, int, dict[str, in
         others = {other: len(own.keys() & theirs.keys()) for other, theirs in targets.items() if other != name}
         alone = [it for it in own if not any(it in theirs for other, theirs in targets.items() if other != name)]
         decades = {
-            year: sum(any(slow_is_in(it, year) for it in rows) for rows in own.values()) for year in range(1600, 2030, 10)
+            year: sum(any(slow_is_in(it, year) for it in rows) for rows in own.values())
+            for year in range(1600, 2030, 10)
         }
         found[name] = (
-            len(own), len(alone), {it: n for it, n in others.items() if n}, {it: n for it, n in decades.items() if n}
+            len(own),
+            len(alone),
+            {it: n for it, n in others.items() if n},
+            {it: n for it, n in decades.items() if n},
         )
     return found
 
@@ -121,7 +125,9 @@ class Counts(Case):
             found, wanted = counted(tables), slow(tables)
             shown = {
                 it.target: (
-                    it.titles, it.alone, {each.target: each.titles for each in it.overlaps},
+                    it.titles,
+                    it.alone,
+                    {each.target: each.titles for each in it.overlaps},
                     {each.year: each.titles for each in it.decades},
                 )
                 for it in found.targets
@@ -175,8 +181,11 @@ class Counts(Case):
             self.expect("after all", late, (Decade(2230, 1),))
         twice = counted({"a": [row(number, first="19950101"), row(number, first="20010101")]})
         self.expect("two rows of a title", twice.targets[0].decades[0], Decade(1990, 1))
-        self.expect("of all", counted({"a": [row(number, first="20200101")], "b": [row(number, first="20200101")]}).decades,
-                    (Decade(2020, 1),))
+        self.expect(
+            "of all",
+            counted({"a": [row(number, first="20200101")], "b": [row(number, first="20200101")]}).decades,
+            (Decade(2020, 1),),
+        )
 
     def test_overlaps(self) -> None:
         """The ten greatest, and all as rows; parts of one target are one, and a target without titles is there."""

@@ -6,7 +6,9 @@ import contextlib
 import csv
 import io
 import os
+import pathlib
 import subprocess
+import tempfile
 import unicodedata
 from collections.abc import Iterator
 
@@ -105,6 +107,43 @@ class Shown(Case):
         code = "from openlink_update.shown_text import report; report('x\\x1b[2J\\x85y', 'stderr')"
         done = subprocess.run([*PYTHON, "-c", code], capture_output=True, env={**os.environ, "PYTHONPATH": "update"})
         self.expect("standard error", done.stderr, b"x?[2J?y\n")
+
+    def test_lines(self) -> None:
+        """No line, and no part of one that the journal divides, begins as a command of mail does."""
+        for text, wanted in (
+            ("~!true", " ~!true"),
+            ("a\n~!true\n ~!true\na~!true", "a\n ~!true\n ~!true\na~!true"),
+            ("\x1b~!true", "?~!true"),
+            ("a" * 8000, "a" * 8000),
+            ("a" * 8000 + "~!true", "a" * 8000 + ".."),
+            ("é" * 8001, "é" * 8000 + ".."),
+            ("~" * 8000, " " + "~" * 7999 + ".."),
+        ):
+            self.expect(f"{text[:20]!r}, {len(text)} characters", shown_text.lines_to_print(text), wanted)
+
+    @needs.command("bsd-mailx")
+    def test_mail(self) -> None:
+        """What the mail program reads as a command in a text, it does not in the report of it."""
+        with tempfile.TemporaryDirectory() as folder:
+            mark = pathlib.Path(folder) / "mark"
+            lines = [f"~{it}" for it in (f"!touch {mark}", f"| touch {mark}", f": !touch {mark}", f"r !touch {mark}")]
+            for line in lines:
+                reported = io.StringIO()
+                with contextlib.redirect_stdout(reported):
+                    report(line)
+                    report(f"a: kept its old table\n{line}")
+                self.expect(f"the report of {line!r}", self.is_run(reported.getvalue(), mark), False)
+            self.expect("a text that is no report", self.is_run(lines[0], mark))
+
+    def is_run(self, text: str, mark: pathlib.Path) -> bool:
+        """Whether bsd-mailx makes the file for a text. With -I it reads commands in it, as some other programs do without
+        an option."""
+        mark.unlink(missing_ok=True)
+        (mark.parent / "rc").write_text("set sendmail=/bin/true\n")
+        environment = {**os.environ, "MAILRC": str(mark.parent / "rc"), "HOME": str(mark.parent)}
+        words = ["bsd-mailx", "-I", "-s", "report", "root"]
+        subprocess.run(words, input=f"{text}\n", text=True, env=environment, stdout=subprocess.DEVNULL, check=False)
+        return mark.exists()
 
     @needs.program()
     def test_lists(self) -> None:

@@ -38,8 +38,12 @@ def here(machine, safe, line):
     """A command of the chapter, with the paths of the folder that stands for the machine."""
     update = shlex.join([sys.executable, "-S", "-B", f"{machine.share}/update", *machine.update_words("--all")])
     test = f"nginx -t -c {machine.path('etc/nginx/nginx.conf')} -p {machine.folder} -e {machine.path('test.log')}"
-    places = {" /var/backups/": f" {safe}/", " /etc/": f" {machine.path('etc')}/", " /var/": f" {machine.path('var')}/",
-              " -C / ": f" -C {machine.folder} "}
+    places = {
+        " /var/backups/": f" {safe}/",
+        " /etc/": f" {machine.path('etc')}/",
+        " /var/": f" {machine.path('var')}/",
+        " -C / ": f" -C {machine.folder} ",
+    }
     line = re.sub("|".join(places), lambda found: places[found[0]], line)
     if line.startswith("chown ") and os.getuid() != 0:
         return "true"
@@ -49,8 +53,13 @@ def here(machine, safe, line):
 def ran(machine, safe, lines):
     """Runs the lines in one shell, and returns the status of each."""
     script = "".join(f"{here(machine, safe, line)}\necho status $?\n" for line in lines)
-    done = subprocess.run(["bash", "-c", script], env={**machine.environment, "LC_ALL": "C"}, capture_output=True,
-                          text=True, timeout=patience(120))
+    done = subprocess.run(
+        ["bash", "-c", script],
+        env={**machine.environment, "LC_ALL": "C"},
+        capture_output=True,
+        text=True,
+        timeout=patience(120),
+    )
     found = [int(it.split()[1]) for it in done.stdout.splitlines() if it.startswith("status ")]
     return found, done.stdout + done.stderr
 
@@ -107,13 +116,20 @@ class Backup(Case):
             self.expect(f"the restoring: {printed}", statuses, [0] * (len(restoring) - 1) + [1])
             machine.start_nginx()
             self.expect("the same pages", [it for it, page in pages(machine).items() if page != before[it]], [])
-            self.expect("the same secrets, for their owner alone",
-                        (read(alone.path("secrets.tsv")), stat.S_IMODE(os.stat(alone.path("secrets.tsv")).st_mode)),
-                        (SECRET, 0o600))
-            self.expect("the site of the package", os.path.exists(machine.path("etc/nginx/sites-enabled/default")),
-                        False)
-            self.expect("timers", sorted(os.path.basename(it) for it in glob.glob(machine.path("run", "*.started"))),
-                        ["openlink-update.timer.started", "openlink-walls.timer.started"])
+            self.expect(
+                "the same secrets, for their owner alone",
+                (read(alone.path("secrets.tsv")), stat.S_IMODE(os.stat(alone.path("secrets.tsv")).st_mode)),
+                (SECRET, 0o600),
+            )
+            self.expect(
+                "the site of the package", os.path.exists(machine.path("etc/nginx/sites-enabled/default")), False
+            )
+            self.expect(
+                "timers",
+                sorted(os.path.basename(it) for it in glob.glob(machine.path("run", "*.started"))),
+                ["openlink-update.timer.started", "openlink-walls.timer.started"],
+            )
             logs = glob.glob(machine.path("var/log/nginx/openlink*.log"))
-            self.expect("logs", (len(logs) > 3, {stat.S_IMODE(os.stat(path).st_mode) for path in logs}),
-                        (True, {0o640}))
+            self.expect(
+                "logs", (len(logs) > 3, {stat.S_IMODE(os.stat(path).st_mode) for path in logs}), (True, {0o640})
+            )

@@ -29,19 +29,24 @@ class Faults(Case):
             deliver(libraries, "B")
             north.input.write("tidal-press.txt", HTML)
             status, printed = machine.update("--all")
-            self.expect(f"a web page for a table: {printed}", (status, weeks(libraries)),
-                        (1, ("BBB", True, ["0", "1", "0"])))
+            self.expect(
+                f"a web page for a table: {printed}", (status, weeks(libraries)), (1, ("BBB", True, ["0", "1", "0"]))
+            )
             path = north.input.path("tidal-press.txt")
             self.expect_lines("of its library", printed, "north:", f"  {path}: a web page, not a table")
-            self.expect("in its report alone", ["a web page" in it.report()[1] for it in libraries],
-                        [False, True, False])
+            self.expect(
+                "in its report alone", ["a web page" in it.report()[1] for it in libraries], [False, True, False]
+            )
             self.expect("the old table", read(north.path("current/received/tidal-press.txt")), table.decode())
             deliver(libraries, "A")
             east.input.write("targets.tsv", targets.replace(b"\t", b" "))
             os.rename(north.path("input"), north.path("other"))
             status, printed = machine.update("--all")
-            self.expect(f"a slip in a list, and no input: {printed}", (status, weeks(libraries)),
-                        (4, ("BBA", True, ["3", "4", "0"])))
+            self.expect(
+                f"a slip in a list, and no input: {printed}",
+                (status, weeks(libraries)),
+                (4, ("BBA", True, ["3", "4", "0"])),
+            )
             east.input.write("targets.tsv", targets)
             os.rename(north.path("other"), north.path("input"))
             deliver(libraries, "B")
@@ -50,8 +55,11 @@ class Faults(Case):
             with open(east.path("lock"), "a") as lock:
                 fcntl.flock(lock, fcntl.LOCK_EX)
                 status, printed = machine.update("--all")
-            self.expect(f"another run, a probe and no JSON: {printed}", (status, weeks(libraries)),
-                        (4, ("BBB", True, ["4", "3", "1"])))
+            self.expect(
+                f"another run, a probe and no JSON: {printed}",
+                (status, weeks(libraries)),
+                (4, ("BBB", True, ["4", "3", "1"])),
+            )
             self.expect("the old names", "The library west" in machine.get(west.host, "/find")[1])
 
     def test_beside_one_alone(self) -> None:
@@ -76,14 +84,16 @@ class Faults(Case):
             # The page has its own address, for the browser's bookmark.
             text = other[1].replace("127.0.0.1", "links.library.example.org")
             self.expect("for any other name, too", (other[0], text), before)
-            self.expect("its week", "/titles/pp" in machine.get("a", "/find?issn=3030-0009&date=1994&volume=5")[1])
+            self.expect("its week", "/titles/pp" in machine.get("a", "/find?issn=3030-0002&date=1994&volume=5")[1])
             alone.deliver("A")
             east.input.deliver("B")
             self.expect("the first one alone", (machine.update()[0], east.week()), (0, "A"))
-            self.expect("its links", "/journals/pp" in machine.get("a", "/find?issn=3030-0009&date=1994&volume=5")[1])
-            report = machine.get("127.0.0.1", "/report.txt?issn=3030-0009", machine.local)
+            self.expect("its links", "/journals/pp" in machine.get("a", "/find?issn=3030-0002&date=1994&volume=5")[1])
+            report = machine.get("127.0.0.1", "/report.txt?issn=3030-0002", machine.local)
             self.expect("its local server", (report[0], "book-house" in report[1]), (200, True))
             self.expect("no report of it", os.path.exists(machine.path("etc/openlink/report")), False)
-            self.expect("remove",
-                        (machine.library("remove", "east")[0], machine.get("links.library.example.org", "/find")),
-                        (0, before))
+            self.expect(
+                "remove",
+                (machine.library("remove", "east")[0], machine.get("links.library.example.org", "/find")),
+                (0, before),
+            )

@@ -48,6 +48,13 @@ class Printed(Case):
                 Updates._print(io.StringIO("x" * count + "\n"), lines)
             self.expect(f"a line of {count}", len(lines), wanted)
 
+    def test_parts_of_lines(self) -> None:
+        """A long line is printed in parts. No part begins as a command of mail does."""
+        lines: list[str] = []
+        with mock.patch("openlink_update.machines.library_updates.report"):
+            Updates._print(io.StringIO("x" * 2**16 + "~!true\n~!true\n"), lines)
+        self.expect("their beginnings", [it[:3] for it in lines], ["xxx", " ~!", " ~!"])
+
 
 @needs.root()
 @needs.program()

@@ -17,25 +17,78 @@ from openlink_update.machines import libraries
 from openlink_update.machines import library_files
 
 GOOD = ("a", "east", "east-wanted", "a-1-b", "error", "lookup-rate", "l" * 32)
-BAD = ("", "-", "-east", "east-", "east--hall", "1st", "East", "east_hall", "east.hall", "east hall", "öst", "a/b",
-       "..", "a\nb", "a\n", "l" * 33, "input", "versions", "current", "before", "trial", "lock", "shared", "delivery",
-       "drain", "updated")
-BAD_HOSTS = ("", "East.example.org", "east.example.org;", "a b", "a..b", "a-.example.org", "a_b.example.org",
-             "a.example.org\nlisten 81", "a.example.org\n", "*.example.org", "$host", "a" * 64 + ".org",
-             ".".join(["a" * 60] * 5))
+BAD = (
+    "",
+    "-",
+    "-east",
+    "east-",
+    "east--hall",
+    "1st",
+    "East",
+    "east_hall",
+    "east.hall",
+    "east hall",
+    "öst",
+    "a/b",
+    "..",
+    "a\nb",
+    "a\n",
+    "l" * 33,
+    "input",
+    "versions",
+    "current",
+    "before",
+    "trial",
+    "lock",
+    "shared",
+    "delivery",
+    "drain",
+    "updated",
+)
+BAD_HOSTS = (
+    "",
+    "East.example.org",
+    "east.example.org;",
+    "a b",
+    "a..b",
+    "a-.example.org",
+    "a_b.example.org",
+    "a.example.org\nlisten 81",
+    "a.example.org\n",
+    "*.example.org",
+    "$host",
+    "a" * 64 + ".org",
+    ".".join(["a" * 60] * 5),
+)
 RIGHT = ["AmbientCapabilities=CAP_NET_BIND_SERVICE", "CapabilityBoundingSet=CAP_NET_BIND_SERVICE"]
 
 
 def left(machine):
     """What a library has outside of its folder, and folders of libraries."""
-    return sorted(os.path.relpath(path, machine.folder) for pattern in (
-        "etc/openlink/*", "etc/systemd/system/*") for path in glob.glob(machine.path(pattern)))
+    return sorted(
+        os.path.relpath(path, machine.folder)
+        for pattern in ("etc/openlink/*", "etc/systemd/system/*")
+        for path in glob.glob(machine.path(pattern))
+    )
 
 
 def syntax(machine):
     """Why nginx would not take the sites; nothing if it would."""
-    done = subprocess.run(["nginx", "-t", "-q", "-c", machine.path("etc/nginx/nginx.conf"), "-p", machine.folder, "-e",
-                           machine.path("test.log")], capture_output=True, text=True)
+    done = subprocess.run(
+        [
+            "nginx",
+            "-t",
+            "-q",
+            "-c",
+            machine.path("etc/nginx/nginx.conf"),
+            "-p",
+            machine.folder,
+            "-e",
+            machine.path("test.log"),
+        ],
+        capture_output=True,
+        text=True,
+    )
     return done.stderr if done.returncode else ""
 
 
@@ -61,24 +114,42 @@ class Names(Case):
             self.expect("a bad host", machine.library("add", "a", "a.example.org;")[0], 3)
             self.expect("nothing is left", (left(machine), machine.calls()), ([], []))
             for number, name in enumerate(GOOD):
-                status, printed = machine.library("add", name, f"links{number}.example.org", "--ports",
-                                                  str(free_ports(3)))
+                status, printed = machine.library(
+                    "add", name, f"links{number}.example.org", "--ports", str(free_ports(3))
+                )
                 self.expect(f"name {name}: {printed}", status, 0)
                 put_in_use(machine, name)
             self.expect("nginx -t", syntax(machine), "")
-            found = subprocess.run(["nginx", "-T", "-q", "-c", machine.path("etc/nginx/nginx.conf"), "-p",
-                                    machine.folder, "-e", machine.path("test.log")], capture_output=True,
-                                   text=True).stdout
+            found = subprocess.run(
+                [
+                    "nginx",
+                    "-T",
+                    "-q",
+                    "-c",
+                    machine.path("etc/nginx/nginx.conf"),
+                    "-p",
+                    machine.folder,
+                    "-e",
+                    machine.path("test.log"),
+                ],
+                capture_output=True,
+                text=True,
+            ).stdout
             for name in GOOD:
-                for pattern in (rf"^upstream openlink\.{name} {{", rf"^    set \$openlink_library {name};",
-                                rf"^js_preload_object targets__{name.replace('-', '_')} from "
-                                rf"\S+/{name}/current/targets"):
+                for pattern in (
+                    rf"^upstream openlink\.{name} {{",
+                    rf"^    set \$openlink_library {name};",
+                    rf"^js_preload_object targets__{name.replace('-', '_')} from " rf"\S+/{name}/current/targets",
+                ):
                     self.expect(f"{name}: {pattern}", len(re.findall(pattern, found, re.M)), 1)
             listed = [line.split("\t")[0] for line in machine.library("list")[1].splitlines()]
             self.expect("list", listed, sorted(GOOD))
             self.expect("the logs", len(glob.glob(machine.path("var/log/nginx/openlink.*"))), 2 * len(GOOD))
-            self.expect("one machine", read(machine.path("etc/nginx/conf.d/openlink.conf")),
-                        read(f"{machine.share}/nginx/machine.conf"))
+            self.expect(
+                "one machine",
+                read(machine.path("etc/nginx/conf.d/openlink.conf")),
+                read(f"{machine.share}/nginx/machine.conf"),
+            )
 
     def test_host_and_ports(self) -> None:
         """A host and ports are those of one library alone, also of one that is not in use yet."""
@@ -86,31 +157,45 @@ class Names(Case):
             first = free_ports(12)
             words = ("--ports", str(first), "--processes", "9")
             self.expect("the first", machine.library("add", "east", "east.example.org", *words)[0], 0)
-            self.expect("its line", machine.library("list")[1],
-                        f"east\teast.example.org\t{first}\t{' '.join(str(first + it) for it in range(1, 10))}"
-                        "\tno version\n")
+            self.expect(
+                "its line",
+                machine.library("list")[1],
+                f"east\teast.example.org\t{first}\t{' '.join(str(first + it) for it in range(1, 10))}" "\tno version\n",
+            )
             other = "server { listen 127.0.0.1:1; server_name a b.example.org; }"
             write(machine.path("etc/nginx/conf.d/other.conf"), other)
             taken = "another site of this machine has this name"
             for name, host, port, reason in (
-                    ("west", "east.example.org", first + 10, f"east.example.org: {taken}"),
-                    ("west", "b.example.org", first + 10, f"b.example.org: {taken}"),
-                    ("east", "west.example.org", first + 10, f"{machine.path('etc/openlink/east')} exists"),
-                    ("west", "west.example.org", first + 9, f"the ports from {first + 9} on are not free"),
-                    ("west", "west.example.org", first - 2, f"the ports from {first - 2} on are not free")):
-                self.expect(f"{name} {host} {port}", machine.library("add", name, host, "--ports", str(port)),
-                            (3, f"openlink-library: {reason}\n"))
+                ("west", "east.example.org", first + 10, f"east.example.org: {taken}"),
+                ("west", "b.example.org", first + 10, f"b.example.org: {taken}"),
+                ("east", "west.example.org", first + 10, f"{machine.path('etc/openlink/east')} exists"),
+                ("west", "west.example.org", first + 9, f"the ports from {first + 9} on are not free"),
+                ("west", "west.example.org", first - 2, f"the ports from {first - 2} on are not free"),
+            ):
+                self.expect(
+                    f"{name} {host} {port}",
+                    machine.library("add", name, host, "--ports", str(port)),
+                    (3, f"openlink-library: {reason}\n"),
+                )
             self.expect("nothing is left", [it for it in left(machine) if "west" in it or str(first + 10) in it], [])
-            for words in (("--processes", "0"), ("--processes", "10"), ("--mail", ""), ("--mail", "a b"),
-                          ("--mail", "-s")):
+            for words in (
+                ("--processes", "0"),
+                ("--processes", "10"),
+                ("--mail", ""),
+                ("--mail", "a b"),
+                ("--mail", "-s"),
+            ):
                 self.expect(f"{words}", machine.library("add", "west", "west.example.org", *words)[0], 2)
             ports = set()
             for name in ("north", "south"):  # at ports of their own choice
                 self.expect(name, machine.library("add", name, f"{name}.example.org")[0], 0)
                 cells = machine.library("list")[1].split(f"{name}\t")[1].split("\t")
                 ports.add(int(cells[1]))
-                self.expect(f"{name}: ports", (213 < int(cells[1]) < 317, cells[2].split()),
-                            (True, [str(int(cells[1]) + 1), str(int(cells[1]) + 2)]))
+                self.expect(
+                    f"{name}: ports",
+                    (213 < int(cells[1]) < 317, cells[2].split()),
+                    (True, [str(int(cells[1]) + 1), str(int(cells[1]) + 2)]),
+                )
                 for port in cells[2].split():
                     unit = read(machine.path(f"etc/systemd/system/openlink@{port}.service.d/library.conf"))
                     self.expect(f"{port}: its right", unit.splitlines()[-2:], RIGHT)
@@ -144,10 +229,16 @@ class Names(Case):
             self.expect("no place is left", re.findall("@[A-Z]+@", site + local), [])
             self.expect("the site of one library alone", read(alone), "# the site of one library\n")
             self.expect("mail", read(machine.path("etc/openlink/east/mail")), "staff@example.org\n")
-            self.expect("the sites", read(machine.path("etc/nginx/conf.d/openlink.libraries.conf")).splitlines()[-1],
-                        f"include {machine.path('etc/openlink')}/*/current/../../site.conf;")
-            self.expect("read after openlink.conf", sorted(os.listdir(machine.path("etc/nginx/conf.d"))),
-                        ["openlink.conf", "openlink.libraries.conf"])
+            self.expect(
+                "the sites",
+                read(machine.path("etc/nginx/conf.d/openlink.libraries.conf")).splitlines()[-1],
+                f"include {machine.path('etc/openlink')}/*/current/../../site.conf;",
+            )
+            self.expect(
+                "read after openlink.conf",
+                sorted(os.listdir(machine.path("etc/nginx/conf.d"))),
+                ["openlink.conf", "openlink.libraries.conf"],
+            )
 
     def test_failures(self) -> None:
         """A step that fails leaves nothing, and the next try ends well."""
@@ -171,7 +262,13 @@ class Names(Case):
                 status, printed = machine.library("remove", "east")
                 self.expect(f"during an update: {printed}", (status, len(left(machine))), (4, 3))
             machine.calls()
-            self.expect("no such library", machine.library("remove", "west"),
-                        (2, f"openlink-library: {machine.path('etc/openlink/west')}: no such library: "
-                            "openlink-library list\n"))
+            self.expect(
+                "no such library",
+                machine.library("remove", "west"),
+                (
+                    2,
+                    f"openlink-library: {machine.path('etc/openlink/west')}: no such library: "
+                    "openlink-library list\n",
+                ),
+            )
             self.expect("and nothing was told", machine.calls(), [])

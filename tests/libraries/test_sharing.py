@@ -38,8 +38,10 @@ def name_shared(library, shared, target):
     if os.path.exists(own):
         os.unlink(own)
     lines = library.input.read("targets.tsv").decode().splitlines()
-    lines = [f"{target}\topen-shelf.rules\t{shared}\tdropped up to 40" if line.startswith("open-shelf\t") else line
-             for line in lines]
+    lines = [
+        f"{target}\topen-shelf.rules\t{shared}\tdropped up to 40" if line.startswith("open-shelf\t") else line
+        for line in lines
+    ]
     library.input.write("targets.tsv", ("\n".join(lines) + "\n").encode())
     library.input.names = [target if it == "open-shelf" else it for it in library.input.names]
     library.write_targets()
@@ -48,6 +50,7 @@ def name_shared(library, shared, target):
 
 class Provider(http.server.BaseHTTPRequestHandler):
     """Gives the tables of a dictionary, by path, and counts what is asked."""
+
     tables, requests = {}, []
 
     def do_GET(self):
@@ -64,8 +67,10 @@ class Provider(http.server.BaseHTTPRequestHandler):
 
 def in_use(libraries, names):
     """The inodes of a table as it came and as it is served, in the version in use of each library."""
-    return [{library.inode("received", f"{name}.txt") for library, name in zip(libraries, names)},
-            {library.inode("tables", f"{name}.txt") for library, name in zip(libraries, names)}]
+    return [
+        {library.inode("received", f"{name}.txt") for library, name in zip(libraries, names)},
+        {library.inode("tables", f"{name}.txt") for library, name in zip(libraries, names)},
+    ]
 
 
 def check_first(case, libraries, names):
@@ -74,9 +79,11 @@ def check_first(case, libraries, names):
     told = [it.report()[1].replace("shelf:", "open-shelf:").replace("open-open-", "open-") for it in libraries]
     lines = [[line for line in text.splitlines() if "in use" not in line] for text in told]
     case.expect("what is said of it", (lines[1], lines[2], len(lines[0]) > 5), (lines[0], lines[0], True))
-    case.expect("it is as preparation makes it",
-                [contents(it.path("current/tables", f"{name}.txt")) for it, name in zip(libraries, names)],
-                [prepared_table(SHELF, datetime.date.today())] * 3)
+    case.expect(
+        "it is as preparation makes it",
+        [contents(it.path("current/tables", f"{name}.txt")) for it, name in zip(libraries, names)],
+        [prepared_table(SHELF, datetime.date.today())] * 3,
+    )
     own = [library.inode("received", "coastal-law.txt") for library in libraries]
     case.expect("equal tables of their own are one file too", len(set(own)), 1)
     other = {library.inode("index", "format") for library in libraries}
@@ -88,23 +95,32 @@ def check_next(case, machine, libraries, names):
     before = [in_use(libraries, names), [it.inode("received", "tidal-press.txt") for it in libraries]]
     keys = {os.path.basename(it) for it in glob.glob(libraries[0].path("current/index/keys/*"))}
     inodes = {name: libraries[0].inode("index/keys", name) for name in keys}
-    Provider.tables["/shelf"] = contents(SHELF).rstrip(b"\n") + b"\n" + contents(SHELF).splitlines()[-1].replace(
-        b"-", b"-", 1) + b"\n"
+    Provider.tables["/shelf"] = (
+        contents(SHELF).rstrip(b"\n") + b"\n" + contents(SHELF).splitlines()[-1].replace(b"-", b"-", 1) + b"\n"
+    )
     libraries[1].input.add_row("tidal-press", TITLE.encode())
     old = [library.current() for library in libraries]
     status, printed = machine.update("--fetch", "--all")
-    case.expect(f"another week: {printed}", (status, [it.current() != was for it, was in zip(libraries, old)]),
-                (0, [True] * 3))
+    case.expect(
+        f"another week: {printed}", (status, [it.current() != was for it, was in zip(libraries, old)]), (0, [True] * 3)
+    )
     after = [in_use(libraries, names), [it.inode("received", "tidal-press.txt") for it in libraries]]
-    case.expect("the shared one is new, and one", ([len(it) for it in after[0]], after[0][0] & before[0][0]),
-                ([1, 1], set()))
+    case.expect(
+        "the shared one is new, and one", ([len(it) for it in after[0]], after[0][0] & before[0][0]), ([1, 1], set())
+    )
     case.expect("what has not changed", [one == other for one, other in zip(before[1], after[1])], [True, False, True])
-    same = [name for name in keys if os.path.exists(libraries[0].path("current/index/keys", name))
-            and libraries[0].inode("index/keys", name) == inodes[name]]
+    same = [
+        name
+        for name in keys
+        if os.path.exists(libraries[0].path("current/index/keys", name))
+        and libraries[0].inode("index/keys", name) == inodes[name]
+    ]
     case.expect("files of the index", len(same) > len(keys) / 2, True)
-    case.expect("the version before is whole",
-                [contents(it.path(was, "received", f"{name}.txt")) for it, was, name in zip(libraries, old, names)],
-                [contents(SHELF)] * 3)
+    case.expect(
+        "the version before is whole",
+        [contents(it.path(was, "received", f"{name}.txt")) for it, was, name in zip(libraries, old, names)],
+        [contents(SHELF)] * 3,
+    )
     for library in libraries[:2]:
         status, printed = machine.update("--back", library.name)
         case.expect(f"back: {printed}", status, 0)
@@ -121,8 +137,11 @@ def check_faults(case, machine, libraries, names, shared):
     before = in_use(libraries, names)
     write(f"{shared}/shelf.csv", "<!DOCTYPE html><html><body>Sign in</body></html>")
     status, printed = machine.update("--all")
-    case.expect(f"a web page: {printed}", (status, [it.report()[0] for it in libraries], in_use(libraries, names)),
-                (1, ["1"] * 3, before))
+    case.expect(
+        f"a web page: {printed}",
+        (status, [it.report()[0] for it in libraries], in_use(libraries, names)),
+        (1, ["1"] * 3, before),
+    )
     case.expect("no two libraries share a lock", [os.path.exists(it.path("lock")) for it in libraries], [True] * 3)
 
 
@@ -181,13 +200,17 @@ class Sharing(Case):
             self.expect("without a folder", len(counted), 2)
             shared_tables.mark(place, shared, [])
             shared_tables.folder = place
-            for name, files, count in (("first", [("a", one)], 1), ("from another path", [("b", one)], 0),
-                                       ("another", [("b", two)], 1), ("not shared", [("b", one + b"\n")], 1),
-                                       ("not shared, again", [("b", one + b"\n")], 1),
-                                       ("two", [("a", one), ("b", two)], 1),
-                                       ("two, the same paths", [("a", one), ("b", two)], 0),
-                                       ("two, other paths", [("c", one), ("b", two)], 1),
-                                       ("the other order", [("b", two), ("a", one)], 1)):
+            for name, files, count in (
+                ("first", [("a", one)], 1),
+                ("from another path", [("b", one)], 0),
+                ("another", [("b", two)], 1),
+                ("not shared", [("b", one + b"\n")], 1),
+                ("not shared, again", [("b", one + b"\n")], 1),
+                ("two", [("a", one), ("b", two)], 1),
+                ("two, the same paths", [("a", one), ("b", two)], 0),
+                ("two, other paths", [("c", one), ("b", two)], 1),
+                ("the other order", [("b", two), ("a", one)], 1),
+            ):
                 counted.clear()
                 made = shared_tables.prepare(files)
                 self.expect(name, len(counted), count)
@@ -203,12 +226,24 @@ class Sharing(Case):
     def test_links(self) -> None:
         """Which files become one."""
         with tempfile.TemporaryDirectory() as folder:
-            texts = {"new": {"received/a": "aaaa", "tables/a": "bbbb", "index/k": "kkkk", "registry.tsv": "r",
-                             "code/a": "", "received/c": "xxxx"},
-                     "old": {"received/a": "aaaa", "index/k": "kkkk", "index/l": "kkkk", "code/a": "",
-                             "received/c": "yyyy"},
-                     "other": {"received/z": "aaaa", "tables/z": "bbbb", "index/m": "kkkk", "registry.tsv": "r",
-                               "received/c": "zzzz"}}
+            texts = {
+                "new": {
+                    "received/a": "aaaa",
+                    "tables/a": "bbbb",
+                    "index/k": "kkkk",
+                    "registry.tsv": "r",
+                    "code/a": "",
+                    "received/c": "xxxx",
+                },
+                "old": {"received/a": "aaaa", "index/k": "kkkk", "index/l": "kkkk", "code/a": "", "received/c": "yyyy"},
+                "other": {
+                    "received/z": "aaaa",
+                    "tables/z": "bbbb",
+                    "index/m": "kkkk",
+                    "registry.tsv": "r",
+                    "received/c": "zzzz",
+                },
+            }
             for version, files in texts.items():
                 for name, text in files.items():
                     os.makedirs(os.path.dirname(f"{folder}/{version}/{name}"), exist_ok=True)
@@ -216,14 +251,21 @@ class Sharing(Case):
                     os.utime(f"{folder}/{version}/{name}", (0, 0))  # one time: the bytes alone tell them apart
             for _ in "12":
                 same_files.link(f"{folder}/new", f"{folder}/old", [f"{folder}/other"])
-                same = {(one, other) for one in texts["new"] for version in ("old", "other") for other in texts[version]
-                        if os.path.samefile(f"{folder}/new/{one}", f"{folder}/{version}/{other}")}
-                self.expect("links", same,
-                            {("received/a", "received/z"), ("tables/a", "tables/z"), ("index/k", "index/k")})
+                same = {
+                    (one, other)
+                    for one in texts["new"]
+                    for version in ("old", "other")
+                    for other in texts[version]
+                    if os.path.samefile(f"{folder}/new/{one}", f"{folder}/{version}/{other}")
+                }
+                self.expect(
+                    "links", same, {("received/a", "received/z"), ("tables/a", "tables/z"), ("index/k", "index/k")}
+                )
                 for version, files in texts.items():
                     names = same_files.files_below(f"{folder}/{version}")
-                    self.expect(f"{version} is as it was", {name: read(f"{folder}/{version}/{name}") for name in names},
-                                files)
+                    self.expect(
+                        f"{version} is as it was", {name: read(f"{folder}/{version}/{name}") for name in names}, files
+                    )
             shutil.rmtree(f"{folder}/old")
             shutil.rmtree(f"{folder}/other")
             self.expect("without the others", read(f"{folder}/new/tables/a"), "bbbb")

@@ -45,8 +45,9 @@ class Turns(Case):
         self.expect("a dry run", (machine.update("--dry-run", "east")[0], weeks(libraries)[:2]), (0, ("AAB", True)))
         unknown = f"openlink-update: {machine.path('etc/openlink/south')}: no such library: openlink-library list\n"
         self.expect("an unknown one", machine.update("east", "south"), (2, unknown))
-        self.expect("none", machine.update(),
-                    (2, "openlink-update: this machine has several libraries: name some, or --all\n"))
+        self.expect(
+            "none", machine.update(), (2, "openlink-update: this machine has several libraries: name some, or --all\n")
+        )
         for words in (("--all", "east"), ("--input", "/x", "east"), ("--input", "/x", "--all")):
             self.expect(f"{words}", machine.update(*words)[0], 2)
 
@@ -90,18 +91,28 @@ class Turns(Case):
         status, printed = machine.update("--all")
         self.expect(f"the run: {printed}", (status, weeks(libraries)), (1, ("BBB", True, ["0", "0", "1"])))
         reports, subject = [it.report() for it in libraries], f"openlink-update of {{}} on {socket.gethostname()}: {{}}"
-        self.expect("reports name their own library",
-                    [[name for name in NAMES if f"/{name}/" in it[1]] for it in reports],
-                    [["east"], ["north"], ["west"]])
-        mails = [(subject.format("east", "0"), "east@example.org", reports[0][1]),
-                 (subject.format("west", "1"), "west@example.org", reports[2][1])]
+        self.expect(
+            "reports name their own library",
+            [[name for name in NAMES if f"/{name}/" in it[1]] for it in reports],
+            [["east"], ["north"], ["west"]],
+        )
+        mails = [
+            (subject.format("east", "0"), "east@example.org", reports[0][1]),
+            (subject.format("west", "1"), "west@example.org", reports[2][1]),
+        ]
         self.expect("mails", (machine.library("mail"), machine.mails()), ((0, ""), mails))
-        self.expect("once", (machine.library("mail"), machine.mails(), [it.report() for it in libraries]),
-                    ((0, ""), [], [None] * 3))
+        self.expect(
+            "once",
+            (machine.library("mail"), machine.mails(), [it.report() for it in libraries]),
+            ((0, ""), [], [None] * 3),
+        )
         for library, text in zip(libraries, ("1\n  a reason\n", "KILL\n", "0\nall is new\n")):
             write(library.path("report"), text)
-        self.expect("those that failed", (machine.library("mail", "--failed"), machine.mails()),
-                    ((0, ""), [(subject.format("east", "1"), "east@example.org", "  a reason\n")]))
+        self.expect(
+            "those that failed",
+            (machine.library("mail", "--failed"), machine.mails()),
+            ((0, ""), [(subject.format("east", "1"), "east@example.org", "  a reason\n")]),
+        )
         self.expect("the others are not kept", [it.report() for it in libraries], [None] * 3)
         for library in libraries:
             write(library.path("report"), "0\nall is new\n")
@@ -109,14 +120,22 @@ class Turns(Case):
         os.symlink("/bin/false", machine.path("bin/mail"))
         self.expect("no mail", machine.library("mail"), (4, "openlink-library: mail failed for east, west\n"))
         os.replace(machine.path("bin/mail.away"), machine.path("bin/mail"))
-        self.expect("later", (machine.library("mail")[0], [it[1] for it in machine.mails()]),
-                    (0, ["east@example.org", "west@example.org"]))
+        self.expect(
+            "later",
+            (machine.library("mail")[0], [it[1] for it in machine.mails()]),
+            (0, ["east@example.org", "west@example.org"]),
+        )
         units = [read(f"packaging/systemd/openlink-{it}.service") for it in ("update", "walls")]
-        self.expect("the units",
-                    ["ExecStopPost=+-/usr/local/sbin/openlink-library mail\n" in units[0],
-                     "ExecStopPost=+-/usr/local/sbin/openlink-library mail --failed\n" in units[1],
-                     "openlink-update --fetch --all\n" in units[0], "openlink-update --walls --all\n" in units[1]],
-                    [True] * 4)
+        self.expect(
+            "the units",
+            [
+                "ExecStopPost=+-/usr/local/sbin/openlink-library mail\n" in units[0],
+                "ExecStopPost=+-/usr/local/sbin/openlink-library mail --failed\n" in units[1],
+                "openlink-update --fetch --all\n" in units[0],
+                "openlink-update --walls --all\n" in units[1],
+            ],
+            [True] * 4,
+        )
 
     def test_never_in_use(self) -> None:
         machine = self.machine

@@ -1,8 +1,18 @@
 """A browser without a window, driven by its DevTools protocol: JSON in a WebSocket (RFC 6455)."""
 import base64, json, os, shutil, socket, struct, subprocess, tempfile, urllib.request
 
-COMMAND = ["chromium", "--headless=new", "--no-sandbox", "--disable-gpu", "--disable-dev-shm-usage", "--no-first-run",
-           "--disable-extensions", "--disable-background-networking", "--hide-scrollbars", "--remote-debugging-port=0"]
+COMMAND = [
+    "chromium",
+    "--headless=new",
+    "--no-sandbox",
+    "--disable-gpu",
+    "--disable-dev-shm-usage",
+    "--no-first-run",
+    "--disable-extensions",
+    "--disable-background-networking",
+    "--hide-scrollbars",
+    "--remote-debugging-port=0",
+]
 KEYS = {"Tab": (9, ""), "Enter": (13, "\r")}
 SECONDS = 60
 
@@ -11,8 +21,16 @@ class WebSocket:
     def __init__(self, port, path):
         self.peer = socket.create_connection(("127.0.0.1", port), SECONDS)
         key = base64.b64encode(os.urandom(16)).decode()
-        head = ["GET " + path + " HTTP/1.1", f"Host: 127.0.0.1:{port}", "Upgrade: websocket", "Connection: Upgrade",
-                f"Sec-WebSocket-Key: {key}", "Sec-WebSocket-Version: 13", "", ""]
+        head = [
+            "GET " + path + " HTTP/1.1",
+            f"Host: 127.0.0.1:{port}",
+            "Upgrade: websocket",
+            "Connection: Upgrade",
+            f"Sec-WebSocket-Key: {key}",
+            "Sec-WebSocket-Version: 13",
+            "",
+            "",
+        ]
         self.peer.sendall("\r\n".join(head).encode())
         head = b""
         while not head.endswith(b"\r\n\r\n"):
@@ -38,9 +56,9 @@ class WebSocket:
         while True:
             first, length = self.read(2)
             if length == 126:
-                length, = struct.unpack(">H", self.read(2))
+                (length,) = struct.unpack(">H", self.read(2))
             elif length == 127:
-                length, = struct.unpack(">Q", self.read(8))
+                (length,) = struct.unpack(">Q", self.read(8))
             data += self.read(length)
             if first & 128:
                 return data.decode() if first & 15 < 2 else "{}"
@@ -89,16 +107,26 @@ class Browser:
     def show(self, width, scheme, language):
         """How pages are shown from now on: `light`, `dark`, `forced` (the reader's few colours), `print`."""
         self.call("Emulation.setDeviceMetricsOverride", width=width, height=800, deviceScaleFactor=1, mobile=False)
-        features = {"prefers-color-scheme": "dark" if scheme == "dark" else "light",
-                    "forced-colors": "active" if scheme == "forced" else "none"}
-        self.call("Emulation.setEmulatedMedia", media="print" if scheme == "print" else "screen",
-                  features=[{"name": name, "value": value} for name, value in features.items()])
+        features = {
+            "prefers-color-scheme": "dark" if scheme == "dark" else "light",
+            "forced-colors": "active" if scheme == "forced" else "none",
+        }
+        self.call(
+            "Emulation.setEmulatedMedia",
+            media="print" if scheme == "print" else "screen",
+            features=[{"name": name, "value": value} for name, value in features.items()],
+        )
         self.call("Network.setExtraHTTPHeaders", headers={"Accept-Language": language})
 
     def slow_down(self, latency, bits):
         """From now on a reply begins after this number of milliseconds, and has this number of bits a second."""
-        self.call("Network.emulateNetworkConditions", offline=False, latency=latency, downloadThroughput=bits / 8,
-                  uploadThroughput=bits / 8)
+        self.call(
+            "Network.emulateNetworkConditions",
+            offline=False,
+            latency=latency,
+            downloadThroughput=bits / 8,
+            uploadThroughput=bits / 8,
+        )
 
     def names_of(self, role):
         """The names that a screen reader says for what has a role in the page, such as `link`."""

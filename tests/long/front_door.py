@@ -10,6 +10,7 @@ TOP = os.path.dirname(os.path.dirname(os.path.dirname(os.path.abspath(__file__))
 sys.path.append(f"{TOP}/tests")
 from fixtures.library_index import write_index
 from fixtures.patience import wait_until
+
 INSIDE = "FRONT_DOOR_NAMESPACES"
 SHARED = "/usr/local/share"  # where the files are that the site includes
 READER_LIMIT = re.compile(r"(zone=openlink_reader_\w+:\w+ rate=)\d+(?=r/s;)")
@@ -102,10 +103,18 @@ def hostile_queries(size=7900):
 
 def hostile_lists():
     """Addresses of lists and searches, the long ones of about 7,900 bytes."""
-    return ["/journals?q=an+of+ti+st+co+la", "/journals?q=of&page=40", "/books?q=" + "a+" * 3900,
-            "/journals?q=" + "%C3%A9t+" * 1100,
-            "/journals?q=" + "2901-0012+" * 780, "/journals/a/1", "/books", "/find", "/cite?title=" + "x+" * 3900,
-            "/find.ris?" + "rft.au=%C3%A9&" * 560]
+    return [
+        "/journals?q=an+of+ti+st+co+la",
+        "/journals?q=of&page=40",
+        "/books?q=" + "a+" * 3900,
+        "/journals?q=" + "%C3%A9t+" * 1100,
+        "/journals?q=" + "2901-0012+" * 780,
+        "/journals/a/1",
+        "/books",
+        "/find",
+        "/cite?title=" + "x+" * 3900,
+        "/find.ris?" + "rft.au=%C3%A9&" * 560,
+    ]
 
 
 def listens(port):
@@ -126,6 +135,7 @@ def hostile_lookups():
 class Door:
     """nginx and a supervised process of the program on each port of the site's upstream. `edit` makes the site's text
     from that of its file. A measurement may send from one address what many readers do."""
+
     has_reader_limits = True
 
     def __init__(self, program, site, worker_connections=4096, edit=lambda text: text):

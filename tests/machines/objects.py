@@ -11,51 +11,130 @@ LABELS = (KEY, LABEL)  # any names of this form, with values of that
 TEXTS = (re.compile(r"[\w.-]+", re.A), str)
 META = {"name!": NAME, "labels": LABELS, "annotations": (KEY, str), "namespace": NAME}
 SELECTOR = {"matchLabels!": LABELS}
-PROBE = {"exec!": {"command!": [str]}, "initialDelaySeconds": int, "periodSeconds": int, "timeoutSeconds": int,
-         "failureThreshold": int, "successThreshold": int}
+PROBE = {
+    "exec!": {"command!": [str]},
+    "initialDelaySeconds": int,
+    "periodSeconds": int,
+    "timeoutSeconds": int,
+    "failureThreshold": int,
+    "successThreshold": int,
+}
 RESOURCES = {"requests!": {"cpu": QUANTITY, "memory!": QUANTITY}, "limits!": {"cpu": QUANTITY, "memory!": QUANTITY}}
 CONTAINER = {
-    "name!": LABEL, "image!": re.compile(r"[a-z0-9.-]+(/[a-z0-9._-]+)+(:[\w.-]+)?(@sha256:[0-9a-f]{64})?", re.A),
+    "name!": LABEL,
+    "image!": re.compile(r"[a-z0-9.-]+(/[a-z0-9._-]+)+(:[\w.-]+)?(@sha256:[0-9a-f]{64})?", re.A),
     "command": [str],
-    "args": [str], "ports": [{"name!": LABEL, "containerPort!": int, "protocol": ["TCP"]}],
-    "env": [{"name!": re.compile(r"[A-Z_]+"), "value!": str}], "resources!": RESOURCES,
-    "startupProbe": PROBE, "readinessProbe": PROBE, "livenessProbe": PROBE,
+    "args": [str],
+    "ports": [{"name!": LABEL, "containerPort!": int, "protocol": ["TCP"]}],
+    "env": [{"name!": re.compile(r"[A-Z_]+"), "value!": str}],
+    "resources!": RESOURCES,
+    "startupProbe": PROBE,
+    "readinessProbe": PROBE,
+    "livenessProbe": PROBE,
     "lifecycle": {"preStop": {"exec!": {"command!": [str]}}},
-    "securityContext": {"allowPrivilegeEscalation": bool, "runAsNonRoot": bool, "readOnlyRootFilesystem": bool,
-                        "capabilities": {"drop": [str], "add": [str]}},
+    "securityContext": {
+        "allowPrivilegeEscalation": bool,
+        "runAsNonRoot": bool,
+        "readOnlyRootFilesystem": bool,
+        "capabilities": {"drop": [str], "add": [str]},
+    },
     "volumeMounts": [{"name!": LABEL, "mountPath!": re.compile(r"/.+"), "readOnly": bool, "subPath": str}],
 }
 POD = {
-    "securityContext": {"runAsNonRoot": bool, "runAsUser": int, "runAsGroup": int,
-                        "seccompProfile": {"type!": ["RuntimeDefault"]}},
-    "automountServiceAccountToken": bool, "enableServiceLinks": bool, "terminationGracePeriodSeconds": int,
-    "topologySpreadConstraints": [{"maxSkew!": int, "topologyKey!": KEY, "labelSelector": SELECTOR,
-                                   "whenUnsatisfiable!": re.compile("DoNotSchedule|ScheduleAnyway")}],
-    "initContainers": [CONTAINER], "containers!": [CONTAINER],
-    "volumes": [{"name!": LABEL, "emptyDir": {"sizeLimit": QUANTITY, "medium": str},
-                 "configMap": {"name!": NAME, "items": [{"key!": str, "path!": str}]}}],
+    "securityContext": {
+        "runAsNonRoot": bool,
+        "runAsUser": int,
+        "runAsGroup": int,
+        "seccompProfile": {"type!": ["RuntimeDefault"]},
+    },
+    "automountServiceAccountToken": bool,
+    "enableServiceLinks": bool,
+    "terminationGracePeriodSeconds": int,
+    "topologySpreadConstraints": [
+        {
+            "maxSkew!": int,
+            "topologyKey!": KEY,
+            "labelSelector": SELECTOR,
+            "whenUnsatisfiable!": re.compile("DoNotSchedule|ScheduleAnyway"),
+        }
+    ],
+    "initContainers": [CONTAINER],
+    "containers!": [CONTAINER],
+    "volumes": [
+        {
+            "name!": LABEL,
+            "emptyDir": {"sizeLimit": QUANTITY, "medium": str},
+            "configMap": {"name!": NAME, "items": [{"key!": str, "path!": str}]},
+        }
+    ],
 }
 KINDS = {
-    "Deployment": ("apps/v1", {
-        "spec!": {"replicas": int, "revisionHistoryLimit": int, "minReadySeconds": int, "progressDeadlineSeconds": int,
-                  "strategy": {"type!": re.compile("RollingUpdate"),
-                               "rollingUpdate": {"maxUnavailable": int, "maxSurge": int}},
-                  "selector!": SELECTOR, "template!": {"metadata!": {"labels!": LABELS, "annotations": (KEY, str)},
-                                                       "spec!": POD}}}),
-    "Service": ("v1", {"spec!": {"type": re.compile("ClusterIP"), "selector!": LABELS,
-                                 "ports!": [{"name": LABEL, "port!": int, "targetPort!": (int, LABEL),
-                                             "protocol": ["TCP"]}]}}),
-    "Ingress": ("networking.k8s.io/v1", {
-        "spec!": {"ingressClassName": NAME, "tls": [{"hosts": [HOST], "secretName": NAME}],
-                  "rules!": [{"host!": HOST, "http!": {"paths!": [{
-                      "path!": re.compile(r"/.*"), "pathType!": re.compile("Prefix|Exact"),
-                      "backend!": {"service!": {"name!": NAME, "port!": {"name": LABEL, "number": int}}}}]}}]}}),
-    "PodDisruptionBudget": ("policy/v1", {"spec!": {"minAvailable": int, "maxUnavailable": int,
-                                                    "selector!": SELECTOR}}),
-    "NetworkPolicy": ("networking.k8s.io/v1", {
-        "spec!": {"podSelector!": SELECTOR, "policyTypes!": [re.compile("Ingress|Egress")],
-                  "ingress!": [{"from!": [{"namespaceSelector!": SELECTOR}],
-                                "ports!": [{"port!": LABEL, "protocol!": ["TCP"]}]}]}}),
+    "Deployment": (
+        "apps/v1",
+        {
+            "spec!": {
+                "replicas": int,
+                "revisionHistoryLimit": int,
+                "minReadySeconds": int,
+                "progressDeadlineSeconds": int,
+                "strategy": {
+                    "type!": re.compile("RollingUpdate"),
+                    "rollingUpdate": {"maxUnavailable": int, "maxSurge": int},
+                },
+                "selector!": SELECTOR,
+                "template!": {"metadata!": {"labels!": LABELS, "annotations": (KEY, str)}, "spec!": POD},
+            }
+        },
+    ),
+    "Service": (
+        "v1",
+        {
+            "spec!": {
+                "type": re.compile("ClusterIP"),
+                "selector!": LABELS,
+                "ports!": [{"name": LABEL, "port!": int, "targetPort!": (int, LABEL), "protocol": ["TCP"]}],
+            }
+        },
+    ),
+    "Ingress": (
+        "networking.k8s.io/v1",
+        {
+            "spec!": {
+                "ingressClassName": NAME,
+                "tls": [{"hosts": [HOST], "secretName": NAME}],
+                "rules!": [
+                    {
+                        "host!": HOST,
+                        "http!": {
+                            "paths!": [
+                                {
+                                    "path!": re.compile(r"/.*"),
+                                    "pathType!": re.compile("Prefix|Exact"),
+                                    "backend!": {"service!": {"name!": NAME, "port!": {"name": LABEL, "number": int}}},
+                                }
+                            ]
+                        },
+                    }
+                ],
+            }
+        },
+    ),
+    "PodDisruptionBudget": (
+        "policy/v1",
+        {"spec!": {"minAvailable": int, "maxUnavailable": int, "selector!": SELECTOR}},
+    ),
+    "NetworkPolicy": (
+        "networking.k8s.io/v1",
+        {
+            "spec!": {
+                "podSelector!": SELECTOR,
+                "policyTypes!": [re.compile("Ingress|Egress")],
+                "ingress!": [
+                    {"from!": [{"namespaceSelector!": SELECTOR}], "ports!": [{"port!": LABEL, "protocol!": ["TCP"]}]}
+                ],
+            }
+        },
+    ),
     "ConfigMap": ("v1", {"data!": TEXTS}),
 }
 
@@ -75,8 +154,14 @@ def faults_of_value(value, form, place):
     elif isinstance(form, tuple):
         if not isinstance(value, dict) or not value:
             return [f"{place} has no names"]
-        return [line for name, it in value.items() for line in (*faults_of_value(name, form[0], f"{place}, {name}"),
-                                                                *faults_of_value(it, form[1], f"{place}.{name}"))]
+        return [
+            line
+            for name, it in value.items()
+            for line in (
+                *faults_of_value(name, form[0], f"{place}, {name}"),
+                *faults_of_value(it, form[1], f"{place}.{name}"),
+            )
+        ]
     elif isinstance(form, re.Pattern):
         is_right = isinstance(value, str) and bool(form.fullmatch(value))
     else:
@@ -90,8 +175,12 @@ def faults_of_object(value, form, place):
     forms = {name.rstrip("!"): it for name, it in form.items()}
     lines = [f"{place}.{name} is unknown" for name in value if name not in forms]
     lines += [f"{place}.{name[:-1]} is missing" for name in form if name.endswith("!") and name[:-1] not in value]
-    return lines + [line for name, it in value.items() if name in forms
-                    for line in faults_of_value(it, forms[name], f"{place}.{name}")]
+    return lines + [
+        line
+        for name, it in value.items()
+        if name in forms
+        for line in faults_of_value(it, forms[name], f"{place}.{name}")
+    ]
 
 
 def faults(it):

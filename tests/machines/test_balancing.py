@@ -55,8 +55,12 @@ class Balancer:
         made = re.sub(r"^    (log|chroot|user|group) .*\n", "", "\n".join(lines), flags=re.M)
         with open(f"{self.folder}/haproxy.cfg", "w") as file:
             file.write(made.replace("/run/haproxy/admin.sock mode 660", f"{self.folder}/admin.sock"))
-        self.child = children.start(["haproxy", "-f", f"{self.folder}/haproxy.cfg"], self.folder,
-                                    stdout=subprocess.DEVNULL, stderr=subprocess.DEVNULL)
+        self.child = children.start(
+            ["haproxy", "-f", f"{self.folder}/haproxy.cfg"],
+            self.folder,
+            stdout=subprocess.DEVNULL,
+            stderr=subprocess.DEVNULL,
+        )
         if not children.wait_for(self.port, self.child, patience(10)):
             raise RuntimeError("haproxy does not listen")
 
@@ -108,22 +112,44 @@ class BalancerFile(Case):
         folder = tempfile.mkdtemp(prefix="balancer.")
         try:
             certificate = f"{folder}/certificate.pem"
-            subprocess.run(["openssl", "req", "-x509", "-newkey", "rsa:2048", "-nodes", "-days", "2", "-subj", "/CN=a",
-                            "-keyout", f"{folder}/key", "-out", f"{folder}/cert"], check=True, capture_output=True)
+            subprocess.run(
+                [
+                    "openssl",
+                    "req",
+                    "-x509",
+                    "-newkey",
+                    "rsa:2048",
+                    "-nodes",
+                    "-days",
+                    "2",
+                    "-subj",
+                    "/CN=a",
+                    "-keyout",
+                    f"{folder}/key",
+                    "-out",
+                    f"{folder}/cert",
+                ],
+                check=True,
+                capture_output=True,
+            )
             with open(certificate, "wb") as both:
                 for name in ("cert", "key"):
                     with open(f"{folder}/{name}", "rb") as file:
                         both.write(file.read())
             with open(f"{folder}/haproxy.cfg", "w") as file:
-                file.write(re.sub(r"^    #(bind|http-request)", r"    \1", text(), flags=re.M)
-                           .replace("/etc/haproxy/certificate.pem", certificate))
+                file.write(
+                    re.sub(r"^    #(bind|http-request)", r"    \1", text(), flags=re.M).replace(
+                        "/etc/haproxy/certificate.pem", certificate
+                    )
+                )
             self.expect("with TLS", said(["haproxy", "-c", "-q", "-f", f"{folder}/haproxy.cfg"]), (0, ""))
         finally:
             shutil.rmtree(folder)
         # The link is cut just after a check: the next check and the one after it end without a reply.
         found = re.search(r"\bfall (\d+)", text())
-        longest = seconds("inter") + int(found[1]) * seconds("timeout check") + (int(found[1]) -
-                                                                                 1) * seconds("fastinter")
+        longest = (
+            seconds("inter") + int(found[1]) * seconds("timeout check") + (int(found[1]) - 1) * seconds("fastinter")
+        )
         self.expect(f"a machine whose link is cut: {longest:.1f} s", longest <= MOST_SECONDS)
 
 
@@ -152,8 +178,11 @@ class Balancing(Case):
             self.expect("none is sent to it", len(addresses_in(two)), before)
             one.site.nginx.terminate()
             one.site.nginx.wait()
-            self.expect("the maker is down: the name counts on", balancer.wait_for(one="DOWN", two="DOWN"),
-                        {"one": "DOWN", "two": "DOWN"})
+            self.expect(
+                "the maker is down: the name counts on",
+                balancer.wait_for(one="DOWN", two="DOWN"),
+                {"one": "DOWN", "two": "DOWN"},
+            )
             one.site.start_nginx()
             two.write("delivery", "20990101T000000Z\n")
             self.expect("it has it", balancer.wait_for(one="UP", two="UP"), {"one": "UP", "two": "UP"})

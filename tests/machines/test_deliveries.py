@@ -82,7 +82,7 @@ class Deliveries(Case):
 
     def both_serve(self, week):
         """The machines, once deliveries have brought both the versions up to this week."""
-        for it in "AB"[:"AB".index(week) + 1]:
+        for it in "AB"[: "AB".index(week) + 1]:
             self.one.input.deliver(it)
             status, printed = self.one.run_to(self.two, *["--send"] * (it == "A"))
             if status != 0:
@@ -96,10 +96,15 @@ class Deliveries(Case):
         first = one.current()
         self.expect("two machines, each with a version of its own", two.current() != first)
         status, printed = one.run_to(two, "--send")
-        self.expect(f"the first delivery: {printed}", (status, two.current(), two.health()[2]),
-                    (0, first, one.delivery()))
-        self.expect_lines("the first delivery", printed, f"other: {first} is in use",
-                          f"delivery {one.delivery()}: this machine, other")
+        self.expect(
+            f"the first delivery: {printed}", (status, two.current(), two.health()[2]), (0, first, one.delivery())
+        )
+        self.expect_lines(
+            "the first delivery",
+            printed,
+            f"other: {first} is in use",
+            f"delivery {one.delivery()}: this machine, other",
+        )
         statuses = two.aside("statuses")
         os.unlink(statuses)
         one.input.deliver("B")
@@ -156,12 +161,19 @@ class Deliveries(Case):
         one.input.deliver("A")
         status, printed = one.run_to(two)
         self.expect(f"cut: {printed}", (status, weeks(one), weeks(two), two.current()), (1, {"A"}, {"B"}, old))
-        self.expect_lines("cut", printed, "other: ssh: connect to host: No route to host",
-                          "missed by other, which get no readers until they have it")
+        self.expect_lines(
+            "cut",
+            printed,
+            "other: ssh: connect to host: No route to host",
+            "missed by other, which get no readers until they have it",
+        )
         self.expect("another delivery", one.delivery() > named)
         status, lines, header = two.health(one.delivery())
-        self.expect("it says so", (status, lines[0], header),
-                    (503, f"the delivery {one.delivery()} is missing: openlink-update --send brings it", named))
+        self.expect(
+            "it says so",
+            (status, lines[0], header),
+            (503, f"the delivery {one.delivery()} is missing: openlink-update --send brings it", named),
+        )
         self.expect("the other one is well", one.health(one.delivery())[0], 200)
         self.expect("still cut", one.run_to(two, "--send")[0], 1)
         os.unlink(two.aside("cut"))
@@ -209,8 +221,9 @@ class Deliveries(Case):
         one, two = self.both_serve("A")
         old, stamp = two.current(), hence(hours=1)
         status, printed = two.run("--receive", stamp)
-        self.expect(f"nothing was sent: {printed}", (status, two.current(), "nothing was sent" in printed),
-                    (3, old, True))
+        self.expect(
+            f"nothing was sent: {printed}", (status, two.current(), "nothing was sent" in printed), (3, old, True)
+        )
         shutil.copytree(two.path("versions", old), two.path("versions", f"{stamp}.sent"))
         os.unlink(two.path("versions", f"{stamp}.sent", "tables", "tidal-press.txt"))
         status, printed = two.run("--receive", stamp)
@@ -226,8 +239,11 @@ class Deliveries(Case):
                 file.write(f"{text}\n")
             one.remove("delivery")
             status, printed = one.run_to(two, "--send")
-            self.expect(f"a machine that names {text!a}: {printed!a}", (status, one.delivery() < limit, two.delivery()),
-                        (0, True, one.delivery()))
+            self.expect(
+                f"a machine that names {text!a}: {printed!a}",
+                (status, one.delivery() < limit, two.delivery()),
+                (0, True, one.delivery()),
+            )
             self.expect("it is told", printed, f"delivery {one.delivery()}: this machine, other\n")
         one.write("delivery", read(one, "delivery").replace(one.delivery(), "99991231T235959Z"))
         status, printed = one.run_to(two, "--send")
@@ -237,12 +253,21 @@ class Deliveries(Case):
 class OtherMachines(Case):
     def test_names(self) -> None:
         """Names are times of the calendar in digits of ASCII, at most a day ahead."""
-        bad = ("٢٠٢٧0101T000000Z", "99999999T999999Z", "20260230T000000Z", "99991231T235958Z", hence(days=1, minutes=1),
-               "", "20260101T000000Z\n", "20260101T000000Z.new")
+        bad = (
+            "٢٠٢٧0101T000000Z",
+            "99999999T999999Z",
+            "20260230T000000Z",
+            "99991231T235958Z",
+            hence(days=1, minutes=1),
+            "",
+            "20260101T000000Z\n",
+            "20260101T000000Z.new",
+        )
         good = ("20240229T235959Z", hence(hours=23))
         self.expect("names", [it for it in (*bad, *good) if library.is_stamp(it)], [*good])
-        self.expect("after a name ahead", library.stamp_after([hence(hours=1)[:-3] + "58Z"]),
-                    hence(hours=1)[:-3] + "59Z")
+        self.expect(
+            "after a name ahead", library.stamp_after([hence(hours=1)[:-3] + "58Z"]), hence(hours=1)[:-3] + "59Z"
+        )
         with tempfile.TemporaryDirectory() as folder:
             own = library.Library(folder)
             for name in (*bad[:5], *good):
@@ -267,8 +292,9 @@ class OtherMachines(Case):
         }
         for command, reason in cases.items():
             self.expect(command, said_by(self, command), [f"other: {reason}"])
-        self.expect("a mistake of these scripts", said_by(self, ArithmeticError("a\x1bb")),
-                    ["other: ArithmeticError: a?b"])
+        self.expect(
+            "a mistake of these scripts", said_by(self, ArithmeticError("a\x1bb")), ["other: ArithmeticError: a?b"]
+        )
         silent = Other("true")
         silent.ask()
         self.expect("a machine that answers nothing has nothing", (silent.delivery, silent.stamps), ("", {}))

@@ -18,7 +18,7 @@ from machines import objects
 
 FOLDER, SITE = "packaging/kubernetes", "front_door/http.conf"
 START = "packaging/container/start"
-UNITS = {"": 1, "k": 10 ** 3, "M": 10 ** 6, "G": 10 ** 9, "Ki": 2 ** 10, "Mi": 2 ** 20, "Gi": 2 ** 30}
+UNITS = {"": 1, "k": 10**3, "M": 10**6, "G": 10**9, "Ki": 2**10, "Mi": 2**20, "Gi": 2**30}
 WRITTEN = {"/run", "/var/lib/nginx"}  # by the script `start` and by nginx
 TIMES, WORKER_MB = 5, 60  # of the tables' bytes, for a process; the most that a worker of nginx had
 
@@ -55,8 +55,10 @@ def selectors(it):
     if it["kind"] != "Deployment":
         return []
     spread = [place["labelSelector"] for place in spec["template"]["spec"].get("topologySpreadConstraints", ())]
-    return [spec["template"]["metadata"]["labels"],
-            *(place["matchLabels"] for place in (spec.get("selector"), *spread) if place)]
+    return [
+        spec["template"]["metadata"]["labels"],
+        *(place["matchLabels"] for place in (spec.get("selector"), *spread) if place),
+    ]
 
 
 def built(folder):
@@ -108,8 +110,9 @@ class Set:
 
     def pods_of(self, labels):
         """The Deployments whose pods have these labels."""
-        return [it for it in self.of("Deployment")
-                if labels.items() <= it["spec"]["template"]["metadata"]["labels"].items()]
+        return [
+            it for it in self.of("Deployment") if labels.items() <= it["spec"]["template"]["metadata"]["labels"].items()
+        ]
 
     def faults_of_deployment(self, it):
         spec, pod = it["spec"], it["spec"]["template"]["spec"]
@@ -138,8 +141,11 @@ class Set:
 
     def faults_of_mounts(self, container, pod):
         names = [volume["name"] for volume in pod.get("volumes", ())]
-        lines = [f"{container['name']} mounts {it['name']}, which is no volume"
-                 for it in container.get("volumeMounts", ()) if it["name"] not in names]
+        lines = [
+            f"{container['name']} mounts {it['name']}, which is no volume"
+            for it in container.get("volumeMounts", ())
+            if it["name"] not in names
+        ]
         for volume in pod.get("volumes", ()):
             name = volume.get("configMap", {}).get("name")
             if name and not self.named("ConfigMap", name):
@@ -151,8 +157,11 @@ class Set:
         if len(pods) != 1:
             return [f"the Service {it['metadata']['name']} selects the pods of {len(pods)} Deployments"]
         names = [port["name"] for port in pods[0]["spec"]["template"]["spec"]["containers"][0].get("ports", ())]
-        return [f"no port of the container is named {port['targetPort']}" for port in it["spec"]["ports"]
-                if port["targetPort"] not in names]
+        return [
+            f"no port of the container is named {port['targetPort']}"
+            for port in it["spec"]["ports"]
+            if port["targetPort"] not in names
+        ]
 
     def faults_of_ingress(self, it):
         lines = []
@@ -164,8 +173,9 @@ class Set:
                 if wanted["port"].get("name") not in names:
                     lines.append(f"the Ingress leads to no port of a Service: {wanted}")
         hosts = [host for tls in it["spec"].get("tls", ()) for host in tls.get("hosts", ())]
-        return lines + [f"no certificate for {rule['host']}" for rule in it["spec"]["rules"]
-                        if rule["host"] not in hosts]
+        return lines + [
+            f"no certificate for {rule['host']}" for rule in it["spec"]["rules"] if rule["host"] not in hosts
+        ]
 
     def faults_of_budget(self, it):
         pods = self.pods_of(it["spec"]["selector"]["matchLabels"])
@@ -174,15 +184,15 @@ class Set:
         least, number = it["spec"].get("minAvailable", 0), pods[0]["spec"].get("replicas", 1)
         return [] if 0 < least < number else [f"of {number} pods {least} must be there"]
 
-
     def faults_of_policy(self, it):
         """It is for all pods of the library, and opens the port of readers alone."""
         spec = it["spec"]
         pods = self.pods_of(spec["podSelector"]["matchLabels"])
         if len(pods) != 1:
             return [f"the network policy is for the pods of {len(pods)} Deployments"]
-        lines = [f"the network policy does not bound {it}" for it in ("Ingress", "Egress")
-                 if it not in spec["policyTypes"]]
+        lines = [
+            f"the network policy does not bound {it}" for it in ("Ingress", "Egress") if it not in spec["policyTypes"]
+        ]
         names = [port["name"] for port in pods[0]["spec"]["template"]["spec"]["containers"][0].get("ports", ())]
         opened = [port["port"] for rule in spec["ingress"] for port in rule["ports"]]
         return lines + ([] if opened == names else [f"the network policy opens {opened}, and readers come to {names}"])
@@ -304,25 +314,37 @@ MISTAKES = [
     (("runAsNonRoot: true", "runAsNonRoot: false"), "the pod may run as root"),
     (("runAsUser: 10001", "runAsUser: 0"), "the pod may run as root"),
     (("        runAsGroup: 10001\n", ""), "the pod may run as root"),
-    (("                - ALL\n          volumeMounts:\n            - name: version\n              mountPath: /etc/openlink\n"
-      "              readOnly",
-      "                - ALL\n              add:\n                - KILL\n          volumeMounts:\n"
-      "            - name: version\n              mountPath: /etc/openlink\n              readOnly"),
-     "openlink keeps rights of root"),
+    (
+        (
+            "                - ALL\n          volumeMounts:\n            - name: version\n              mountPath: /etc/openlink\n"
+            "              readOnly",
+            "                - ALL\n              add:\n                - KILL\n          volumeMounts:\n"
+            "            - name: version\n              mountPath: /etc/openlink\n              readOnly",
+        ),
+        "openlink keeps rights of root",
+    ),
     (("automountServiceAccountToken: false", "automountServiceAccountToken: true"), "a token of the cluster"),
     (("        seccompProfile:\n          type: RuntimeDefault\n", "        seccompProfile: {}\n"), "type is missing"),
     (("readOnlyRootFilesystem: true", "readOnlyRootFilesystem: false"), "version may write its root"),
     (("                - ALL\n", "                - KILL\n"), "version keeps rights of root"),
-    (("              mountPath: /run\n", "              mountPath: /run\n              readOnly: true\n"),
-     "writes to ['/var/lib/nginx']"),
+    (
+        ("              mountPath: /run\n", "              mountPath: /run\n              readOnly: true\n"),
+        "writes to ['/var/lib/nginx']",
+    ),
     (("    - Egress\n", "", "base/network-policy.yaml"), "does not bound Egress"),
     (("port: http\n", "port: page\n", "base/network-policy.yaml"), "the network policy opens ['page']"),
     (("  - network-policy.yaml\n", "", "base/kustomization.yaml"), "there is no NetworkPolicy"),
 ]
 # Mistakes of an overlay, which only kubectl shows.
 MISTAKES_OF_OVERLAY = [
-    (("      app.kubernetes.io/instance: second\n", "      app.kubernetes.io/instance: example\n",
-      "second/kustomization.yaml"), "selects the pods of 2 Deployments"),
+    (
+        (
+            "      app.kubernetes.io/instance: second\n",
+            "      app.kubernetes.io/instance: example\n",
+            "second/kustomization.yaml",
+        ),
+        "selects the pods of 2 Deployments",
+    ),
     (("    - host: links.second", "    - host: links.third", "second/host.yaml"), "no certificate for links.third"),
 ]
 
@@ -345,12 +367,18 @@ class Objects(Case):
         value than they seem to."""
         with tempfile.TemporaryDirectory() as folder:
             path = os.path.join(folder, "a.yaml")
-            for text, wanted in (("a: 1\nb:\n- c: x # y\n  d: \"e # f\"\n- -g\n",
-                                  {"a": 1, "b": [{"c": "x", "d": "e # f"}, "-g"]}),
-                                 ("a:\n  b: true\nc:\n", {"a": {"b": True}, "c": None}),
-                                 ("a: {b: 1}\n", {"a": {"b": 1}}), ("a: 1\na: 2\n", None), ("a: 1\n   b: 2\n", None),
-                                 ("a: b: c\n", None), ("a: yes\n", None), ("a: |\n  b\n", {"a": "b\n"}),
-                                 ("a:\tb\n", None), ("a: 'b'\n", {"a": "b"})):
+            for text, wanted in (
+                ('a: 1\nb:\n- c: x # y\n  d: "e # f"\n- -g\n', {"a": 1, "b": [{"c": "x", "d": "e # f"}, "-g"]}),
+                ("a:\n  b: true\nc:\n", {"a": {"b": True}, "c": None}),
+                ("a: {b: 1}\n", {"a": {"b": 1}}),
+                ("a: 1\na: 2\n", None),
+                ("a: 1\n   b: 2\n", None),
+                ("a: b: c\n", None),
+                ("a: yes\n", None),
+                ("a: |\n  b\n", {"a": "b\n"}),
+                ("a:\tb\n", None),
+                ("a: 'b'\n", {"a": "b"}),
+            ):
                 with open(path, "w") as file:
                     file.write(text)
                 try:
@@ -366,9 +394,11 @@ class Objects(Case):
         for name, found in (("base", base), ("second", second), ("base and second", base + second)):
             self.expect(f"built: {name}", Set(copy.deepcopy(found)).faults(), [])
         plain = Set(base_of(f"{FOLDER}/base"))
-        self.expect("the base is as its files have it", {it["kind"]: it["spec"] for it in plain.all if "spec" in it
-                                                          and it["kind"] != "Deployment"},
-                    {it["kind"]: it["spec"] for it in base if "spec" in it and it["kind"] != "Deployment"})
+        self.expect(
+            "the base is as its files have it",
+            {it["kind"]: it["spec"] for it in plain.all if "spec" in it and it["kind"] != "Deployment"},
+            {it["kind"]: it["spec"] for it in base if "spec" in it and it["kind"] != "Deployment"},
+        )
         hosts = [it["spec"]["rules"][0]["host"] for it in Set(base + second).of("Ingress")]
         self.expect("hosts", len(set(hosts)), 2)
         for edit, wanted in MISTAKES_OF_OVERLAY:

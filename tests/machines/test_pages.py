@@ -20,10 +20,17 @@ MISSING = f"the delivery {AFTER} is missing: openlink-update --send brings it"
 VERSION = "20261120T000000Z"
 # The files `delivery` and `drain`, what the balancer expects, and the status and first line of the page.
 CASES = [
-    (None, None, "", 200, "ok"), (None, None, AFTER, 503, MISSING), (NAMED, None, "", 200, "ok"),
-    (NAMED, None, NAMED, 200, "ok"), (NAMED, None, BEFORE, 200, "ok"), (NAMED, None, AFTER, 503, MISSING),
-    (NAMED, "", "", 404, "drained"), (NAMED, "", NAMED, 404, "drained"), (NAMED, "", AFTER, 503, MISSING),
-    (NAMED, "20990101T000000Z\n", "", 404, "drained"), (NAMED, "20200101T000000Z\n", "", 200, "ok"),
+    (None, None, "", 200, "ok"),
+    (None, None, AFTER, 503, MISSING),
+    (NAMED, None, "", 200, "ok"),
+    (NAMED, None, NAMED, 200, "ok"),
+    (NAMED, None, BEFORE, 200, "ok"),
+    (NAMED, None, AFTER, 503, MISSING),
+    (NAMED, "", "", 404, "drained"),
+    (NAMED, "", NAMED, 404, "drained"),
+    (NAMED, "", AFTER, 503, MISSING),
+    (NAMED, "20990101T000000Z\n", "", 404, "drained"),
+    (NAMED, "20200101T000000Z\n", "", 200, "ok"),
 ]
 # Seconds from now at which draining ends, and the status and first line of the page. Those ahead are more than a
 # request takes here.
@@ -94,14 +101,18 @@ class HealthPage(Case):
             got, lines, header = machine.health(expected)
             case = f"delivery {delivery}, drain {drain!r}, expected {expected!r}"
             self.expect(case, (got, lines[0], header), (status, first, delivery))
-            self.expect(f"{case}: the last lines", lines[-2:],
-                        [f"delivery {delivery}" if delivery else "no delivery", lines[-1]])
+            self.expect(
+                f"{case}: the last lines",
+                lines[-2:],
+                [f"delivery {delivery}" if delivery else "no delivery", lines[-1]],
+            )
             self.expect(f"{case}: the version", lines[-1].startswith(f"version {machine.current()}, "))
         put(machine, "drain", None)
         self.expect("not for readers", machine.site.get("/health").status, 404)
         self.expect("another path", machine.site.get("/find", port=machine.site.balancer_port).status, 404)
-        self.expect("another method", machine.site.get("/health", "POST", b"", port=machine.site.balancer_port).status,
-                    405)
+        self.expect(
+            "another method", machine.site.get("/health", "POST", b"", port=machine.site.balancer_port).status, 405
+        )
 
     def test_ends_of_draining(self) -> None:
         """Draining ends at the second that the file names, as after a delivery that was killed."""
@@ -120,8 +131,11 @@ class HealthPage(Case):
         add_second(machine, port)
         dead = f"openlink.second: port {port} does not answer"
         status, lines, _ = machine.health()
-        self.expect("the second library has no process", (status, lines[0], dead in lines),
-                    (503, "no process of openlink.second answers", True))
+        self.expect(
+            "the second library has no process",
+            (status, lines[0], dead in lines),
+            (503, "no process of openlink.second answers", True),
+        )
         server = http.server.ThreadingHTTPServer(("127.0.0.1", port), Process)
         threading.Thread(target=server.serve_forever, daemon=True).start()
         status, lines, _ = machine.health()

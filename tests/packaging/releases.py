@@ -22,6 +22,7 @@ FILES = """
     usr/share/man/man8/openlink-update.8.gz usr/share/doc/openlink/copyright usr/share/doc/openlink/SECURITY.md
     usr/share/man/man8/openlink-fetch.8.gz usr/sbin/openlink-fetch usr/share/openlink/nginx/library.conf
     usr/share/man/man8/openlink-library.8.gz usr/sbin/openlink-library
+    usr/share/man/man8/openlink-desk.8.gz usr/sbin/openlink-desk
     lib/systemd/system/openlink@.service usr/share/openlink/nginx/openlink.conf
     usr/share/openlink/tables/ANY.tsv usr/share/doc/openlink/INSTALLING.md usr/share/doc/openlink/LIBRARIANS.md
     usr/share/doc/openlink/SEVERAL.md usr/share/doc/openlink/OPERATING.md usr/share/doc/openlink/CONSORTIUM.md

@@ -20,6 +20,7 @@ LINKS = {
     "usr/bin/openlink-holdings": "../share/openlink/holdings",
     "usr/bin/openlink-probe": "../share/openlink/probe",
     "usr/sbin/openlink-fetch": "../share/openlink/fetch",
+    "usr/sbin/openlink-desk": "../share/openlink/desk",
     "usr/sbin/openlink-library": "../share/openlink/library",
     "usr/sbin/openlink-update": "../share/openlink/update",
 }

@@ -20,7 +20,7 @@ from packaging import releases
 PROGRAM = Path(needs.PROGRAM)
 PAGE = "docs/INSTALLING.md"
 TARGETS = 14  # of the sample library
-LOGS = ("openlink", "openlink-error", "openlink-wanted")
+LOGS = ("openlink", "openlink-error", "openlink-wanted", "openlink-followed")
 
 
 @needs.program()

@@ -217,8 +217,9 @@ class Starts(Container):
             "nginx reads it",
             [it for it in self.calls() if f"nginx -c {self.machine.folder}/run/nginx.conf " in it] != [],
         )
-        log = os.stat(f"{self.machine.folder}/run/openlink-wanted.log")
-        self.expect("nobody else reads the log", log.st_mode & 0o777, 0o640)
+        for name in ("wanted", "followed"):
+            log = os.stat(f"{self.machine.folder}/run/openlink-{name}.log")
+            self.expect(f"nobody else reads the log {name}", log.st_mode & 0o777, 0o640)
 
     def test_a_registry_that_cannot_be_loaded_is_refused(self) -> None:
         self.machine.make("resolve.status", "3")

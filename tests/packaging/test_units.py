@@ -13,6 +13,8 @@ from packaging import spoiling
 FOLDER = "packaging/systemd"
 NAMES = [
     "openlink-connections.service",
+    "openlink-desk.service",
+    "openlink-desk.timer",
     "openlink-update.service",
     "openlink-update.timer",
     "openlink-walls.service",
@@ -24,6 +26,7 @@ PATHS = [f"{FOLDER}/{name}" for name in NAMES]
 MOST_EXPOSURE = {
     "openlink@.service": 14,
     "openlink-connections.service": 18,
+    "openlink-desk.service": 20,
     "openlink-update.service": 30,
     "openlink-walls.service": 30,
 }
@@ -48,7 +51,7 @@ class AcceptedUnits(Case):
         """A copy of the units whose commands exist, with the process of one port."""
         self.folder = tempfile.mkdtemp(prefix="units.")
         self.addCleanup(shutil.rmtree, self.folder)
-        for name in ("bin/openlink", "sbin/openlink-update", "sbin/openlink-library"):
+        for name in ("bin/openlink", "sbin/openlink-update", "sbin/openlink-library", "sbin/openlink-desk"):
             os.makedirs(os.path.dirname(f"{self.folder}/local/{name}"), exist_ok=True)
             shutil.copy("/bin/true", f"{self.folder}/local/{name}")
         for name in NAMES:
@@ -77,6 +80,7 @@ class AcceptedUnits(Case):
         self.expect("an unknown directive", "ProtectHomes" in self.said("verify", "openlink-bad.service")[1])
 
     def test_exposure_is_bounded(self) -> None:
+        self.expect("all services", sorted(MOST_EXPOSURE), sorted(it for it in NAMES if it.endswith(".service")))
         for name, most in MOST_EXPOSURE.items():
             options = ["--offline=yes", "--no-pager", f"--threshold={most}"]
             self.expect(name, self.said("security", name.replace("@.", "@8081."), *options)[0], 0)

@@ -11,9 +11,16 @@ from fixtures.program import Program, ProgramCase
 FIRST, LAST = "date_first_issue_online", "date_last_issue_online"
 # The lines of rules, and queries.
 GUARDS = [
-    (f"rule\nwhen rft.date from {FIRST} to {LAST}", [
-        f"rft.date=1999-05&{FIRST}=1995-01-01&{LAST}=", f"rft.date=1994&{FIRST}=1995",
-        f"rft.date=1995&{FIRST}=1995&{LAST}=1995", "rft.date=1999", f"{FIRST}=1995"]),
+    (
+        f"rule\nwhen rft.date from {FIRST} to {LAST}",
+        [
+            f"rft.date=1999-05&{FIRST}=1995-01-01&{LAST}=",
+            f"rft.date=1994&{FIRST}=1995",
+            f"rft.date=1995&{FIRST}=1995&{LAST}=1995",
+            "rft.date=1999",
+            f"{FIRST}=1995",
+        ],
+    ),
     ("rule\nwhen x from 1 to 999999999", ["x=1234567890", "x=999999999", "x=0", "x=1"]),
     ("rule\nwhen x from * to 9", ["x=7b", "x=b7", "x=10", "x="]),
     ("rule\nwhen has x", ["x=", "", "x=1&x=2"]),
@@ -21,9 +28,9 @@ GUARDS = [
     ("rule\nwhen given x", ["x=", "x=a", ""]),
     ("rule\nwhen lacks x", ["", "x=", "x=a"]),
     ("rule\nwhen lacks rft.au", ["", "rft.au=", "x=a"]),
-    ("rule\nwhen x is \"a\\\"b\"", ["x=a%22b", "x=a", ""]),
-    ("rule\nwhen x is \"\"", ["x=", "x=a", ""]),
-    ("rule\nwhen rft.au holds \"Li\"", ["rft.au=Wu&rft.au=Li", "rft.au=Li&rft.au=Wu", "rft.au=Wu", ""]),
+    ('rule\nwhen x is "a\\"b"', ["x=a%22b", "x=a", ""]),
+    ('rule\nwhen x is ""', ["x=", "x=a", ""]),
+    ('rule\nwhen rft.au holds "Li"', ["rft.au=Wu&rft.au=Li", "rft.au=Li&rft.au=Wu", "rft.au=Wu", ""]),
     ("rule\nwhen rft.au counts 2 to *", ["rft.au=A&rft.au=B", "rft.au=A", ""]),
     ("rule\nwhen rft.au counts 0 to 0", ["", "rft.au=A"]),
     ("rule\nwhen rft.au counts n to *", ["n=2&rft.au=A", "n=b&rft.au=A", "rft.au=A", "n=1"]),
@@ -31,7 +38,7 @@ GUARDS = [
     ("rule\nwhen has x\nlink {x}\n\nrule\nwhen has n", ["x=1", "n=1", "x=1&n=1", ""]),
 ]
 # Lines of rules that are refused both ways.
-REFUSED = ["rule\nwhen rft.au is \"x\"", "rule\nwhen x counts 1 to 2"]
+REFUSED = ['rule\nwhen rft.au is "x"', "rule\nwhen x counts 1 to 2"]
 LINK = "\nlink http://e.org/{rft.date}{?x,n,rft.au*}\n"
 DECLARED = "".join(f"list {name}\n" for name in LISTS[1::2])
 

@@ -14,7 +14,7 @@ from program import test_readme
 
 PAGE = "docs/man/openlink.1"
 # The scripts of update/ that have a help, with the sections of their pages, and the commands that have their own help.
-SCRIPTS = {"update": (8, ()), "fetch": (8, ()), "holdings": (1, ()),
+SCRIPTS = {"update": (8, ()), "desk": (8, ()), "fetch": (8, ()), "holdings": (1, ()),
            "library": (8, ("add", "remove", "list", "mail"))}
 # There are at least this many examples, commands, exit statuses and limits in the help.
 LEAST = {"examples": 3, "commands": 12, "exit statuses": 5, "limits": 5}
@@ -38,8 +38,12 @@ def examples(manual: str) -> str:
     """The examples of the manual page, as a page of blocks of code."""
     blocks = re.findall(r"^\.Bd -literal.*?\n(.*?)^\.Ed", manual, re.M | re.S)
     text = "".join(f"```\n{it}```\n" for it in blocks).replace("\\(aq", "'")
-    return re.sub(r"(compile) openlink$", r"\1 ./openlink", re.sub(r"^\$ openlink ", "$ ./openlink ", text, flags=re.M),
-                  flags=re.M)
+    return re.sub(
+        r"(compile) openlink$",
+        r"\1 ./openlink",
+        re.sub(r"^\$ openlink ", "$ ./openlink ", text, flags=re.M),
+        flags=re.M,
+    )
 
 
 def lists(manual: str, readme: str, help_text: str) -> dict[str, dict[str, list[str]]]:
@@ -74,8 +78,11 @@ def faults(found: dict[str, dict[str, list[str]]]) -> list[str]:
     wrong = []
     for what, by_place in found.items():
         (first, wanted), *others = by_place.items()
-        wrong += [f"the {what} of the {place} and the {first} differ: {got}, {wanted}" for place, got in others
-                  if got != wanted]
+        wrong += [
+            f"the {what} of the {place} and the {first} differ: {got}, {wanted}"
+            for place, got in others
+            if got != wanted
+        ]
         wrong += [f"{len(wanted)} {what}: {wanted}"] * (len(wanted) < LEAST.get(what, 1))
     return wrong
 
@@ -103,9 +110,16 @@ class Manual(Case):
     def test_a_spoilt_list(self) -> None:
         """The comparison fails if one of the three has a command, a status, an argument or a limit less."""
         texts = [read(PAGE), read("README.md"), printed(needs.PROGRAM, "--help")]
-        spoilt = [(0, "\n.Cm explain\n", "\n"), (0, "\n.It 3\n", "\n"), (1, "| `openlink lint", "| `openlink lynt"),
-                  (1, "\n| 4 | ", "\n| 5 | "), (1, "65,536", "65,537"), (2, "  openlink resolve", "  openlink"),
-                  (2, "\nExit status:", "\n"), (2, "\nLimits:", "\n")]
+        spoilt = [
+            (0, "\n.Cm explain\n", "\n"),
+            (0, "\n.It 3\n", "\n"),
+            (1, "| `openlink lint", "| `openlink lynt"),
+            (1, "\n| 4 | ", "\n| 5 | "),
+            (1, "65,536", "65,537"),
+            (2, "  openlink resolve", "  openlink"),
+            (2, "\nExit status:", "\n"),
+            (2, "\nLimits:", "\n"),
+        ]
         for at, before, after in spoilt:
             self.expect(f"{before!r} occurs", before in texts[at])
             changed = [it.replace(before, after) if number == at else it for number, it in enumerate(texts)]

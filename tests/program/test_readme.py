@@ -84,16 +84,25 @@ class Room:
     def printed(self, command: str) -> str:
         """What a command prints, with its errors, without the empty lines at its end."""
         words = ["bash", "-c", command.replace("./openlink", '"$program"')]
-        how: dict[str, Any] = {"cwd": self.folder, "env": {**os.environ, "program": needs.PROGRAM},
-                               "stdin": subprocess.DEVNULL, "stdout": subprocess.PIPE, "stderr": subprocess.STDOUT}
+        how: dict[str, Any] = {
+            "cwd": self.folder,
+            "env": {**os.environ, "program": needs.PROGRAM},
+            "stdin": subprocess.DEVNULL,
+            "stdout": subprocess.PIPE,
+            "stderr": subprocess.STDOUT,
+        }
         ran = subprocess.run(words, timeout=patience(120), **how)
         return ran.stdout.decode(errors="replace").rstrip("\n")
 
     def faults_of_commands(self, page: Page) -> list[str]:
-        got = [(command, self.printed(command), wanted.removesuffix("\n")) for command, wanted in page.commands
-               if command != TRY]
-        return [f"{command} prints {printed!r}, not {wanted!r}" for command, printed, wanted in got
-                if printed != wanted]
+        got = [
+            (command, self.printed(command), wanted.removesuffix("\n"))
+            for command, wanted in page.commands
+            if command != TRY
+        ]
+        return [
+            f"{command} prints {printed!r}, not {wanted!r}" for command, printed, wanted in got if printed != wanted
+        ]
 
 
 def faults_of_files(page: Page) -> list[str]:
@@ -188,8 +197,11 @@ class FirstCommands(Case):
         without_packages(self.room.folder, "bin")
         first, rest, page = self.served(2, PATH=f"{self.room.folder}/bin:{os.environ['PATH']}", DISPLAY=":0")
         self.expect("what is missing", first[1], "no front door: apt-get install libnginx-mod-http-js")
-        self.expect("what it says before it builds", rest,
-                    "no reader's page without these packages: apt-get install libnginx-mod-http-js\n")
+        self.expect(
+            "what it says before it builds",
+            rest,
+            "no reader's page without these packages: apt-get install libnginx-mod-http-js\n",
+        )
         self.expect("links that the menu lacks", [it for it in self.links() if it not in page], [])
         self.expect("a page is opened", os.path.exists(f"{self.room.folder}/opened"), False)
 

@@ -64,8 +64,11 @@ RUNS: list[tuple[list[str | bytes], int, str]] = [
     (["inspect", "empty.txt"], 3, "openlink: table: NoHeader\n"),
     (["lint", "some.rules", "empty.txt"], 3, "openlink: table: NoHeader\n"),
     (["lint", "issn.rules", "table.txt"], 0, "rules 1\n"),
-    (["lint", "some.rules", "table.txt"], 1,
-     "rules 1\nrule 1, guard 1: unknown name x\nrule 1, link: unknown name x\n"),
+    (
+        ["lint", "some.rules", "table.txt"],
+        1,
+        "rules 1\nrule 1, guard 1: unknown name x\nrule 1, link: unknown name x\n",
+    ),
     (["explain", "issn.rules", "table.txt", "rft.issn=1234-5678"], 1, "no row\n"),
     (["resolve", "registry.tsv", "rft.issn=1234-5678"], 1, ""),
     (["resolve", "registry.tsv", "url_ver=1"], 3, "openlink: query: WrongVersion\n"),

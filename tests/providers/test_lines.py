@@ -46,18 +46,30 @@ class Lines(Case):
         with Weeks() as weeks, ShippedCopy(weeks.path("shipped")):
             (Path(weeks.folder) / "shipped/press-x.rules").write_text("rule\nlink https://one.example.org/\n")
             line(weeks, "provider:press-x")
-            self.expect("new", (weeks.make()[0], weeks.menu(QUERY)),
-                        ("press: new, 1 row", {"press": "https://one.example.org/"}))
+            self.expect(
+                "new",
+                (weeks.make()[0], weeks.menu(QUERY)),
+                ("press: new, 1 row", {"press": "https://one.example.org/"}),
+            )
             (Path(weeks.folder) / "shipped/press-x.rules").write_text("rule\nlink https://two.example.org/\n")
-            self.expect("an upgrade", (weeks.make(), weeks.menu(QUERY)),
-                        (["press: rules changed"], {"press": "https://two.example.org/"}))
+            self.expect(
+                "an upgrade",
+                (weeks.make(), weeks.menu(QUERY)),
+                (["press: rules changed"], {"press": "https://two.example.org/"}),
+            )
             os.mkdir(weeks.path("input", "providers"))
             weeks.write("providers/press-x.rules", OWN.encode())
-            self.expect("her own", (weeks.make(), weeks.menu(QUERY)),
-                        (["press: rules changed"], {"press": f"https://own.example.org/{issn(1)}"}))
+            self.expect(
+                "her own",
+                (weeks.make(), weeks.menu(QUERY)),
+                (["press: rules changed"], {"press": f"https://own.example.org/{issn(1)}"}),
+            )
             os.remove(weeks.path("input", "providers", "press-x.rules"))
-            self.expect("again", (weeks.make(), weeks.menu(QUERY)),
-                        (["press: rules changed"], {"press": "https://two.example.org/"}))
+            self.expect(
+                "again",
+                (weeks.make(), weeks.menu(QUERY)),
+                (["press: rules changed"], {"press": "https://two.example.org/"}),
+            )
 
     def test_links(self) -> None:
         """Her own is opened by the one door: a link, a pipe or a folder keeps the target's old rules."""

@@ -43,8 +43,12 @@ class Written(Case):
     def test_kinds(self) -> None:
         """Which prefixes are before an encoded address."""
         for prefix, is_encoding in (
-            (PLAIN, False), (ENCODING, True), (ATHENS, True), ("https://p.example.org/login?user=1&qurl=", True),
-            ("https://p.example.org/qurl?url=", False), ("https://p.example.org/", False),
+            (PLAIN, False),
+            (ENCODING, True),
+            (ATHENS, True),
+            ("https://p.example.org/login?user=1&qurl=", True),
+            ("https://p.example.org/qurl?url=", False),
+            ("https://p.example.org/", False),
         ):
             self.expect(prefix, proxies.is_encoding(prefix), is_encoding)
 
@@ -54,8 +58,11 @@ class Written(Case):
             ("a DOI", DOI, DOI.replace("https://d", f"{PLAIN}https://d")),
             ("a page", PAGE, NO_PAGE + f"rule\nlink {PLAIN}{{+title_page}}\n"),
             ("no web link", "rule\nlink none:away\n", "rule\nlink none:away\n"),
-            ("lists, comments, line ends", "list s\r\n# c\r\n\r\nrule\r\nlink http://a.example/{?s*}\r\n",
-             f"list s\nrule\nlink {PLAIN}http://a.example/{{?s*}}\n"),
+            (
+                "lists, comments, line ends",
+                "list s\r\n# c\r\n\r\nrule\r\nlink http://a.example/{?s*}\r\n",
+                f"list s\nrule\nlink {PLAIN}http://a.example/{{?s*}}\n",
+            ),
             ("for everyone", f"# proxy: never\n{DOI}", f"# proxy: never\n{DOI}"),
         ):
             self.expect(name, written(rules, PLAIN), wanted)
@@ -68,12 +75,21 @@ class Written(Case):
         for name, rules, wanted in (
             ("a DOI", DOI, f"list x.doi_encoded\n{encoded}rule\nwhen given x.doi\nlink {ENCODING}{doi}{{x.doi}}\n"),
             ("a page", PAGE, f"{NO_PAGE}rule\nlink {ENCODING}{{title_page}}\n"),
-            ("text", "rule\nlink https://a.example/%20é?a=b&c={x.isbn}\n",
-             f"rule\nlink {ENCODING}https%3A%2F%2Fa.example%2F%2520%25C3%25A9%3Fa%3Db%26c%3D{{x.isbn}}\n"),
-            ("a column", "rule\nlink https://a.example/{title_id}\n",
-             f"rule\nlink {ENCODING}https%3A%2F%2Fa.example%2F{{title_id}}\n"),
-            ("a year", "rule\nlink https://a.example/{rft.date:4}\n",
-             f"rule\nlink {ENCODING}https%3A%2F%2Fa.example%2F{{rft.date:4}}\n"),
+            (
+                "text",
+                "rule\nlink https://a.example/%20é?a=b&c={x.isbn}\n",
+                f"rule\nlink {ENCODING}https%3A%2F%2Fa.example%2F%2520%25C3%25A9%3Fa%3Db%26c%3D{{x.isbn}}\n",
+            ),
+            (
+                "a column",
+                "rule\nlink https://a.example/{title_id}\n",
+                f"rule\nlink {ENCODING}https%3A%2F%2Fa.example%2F{{title_id}}\n",
+            ),
+            (
+                "a year",
+                "rule\nlink https://a.example/{rft.date:4}\n",
+                f"rule\nlink {ENCODING}https%3A%2F%2Fa.example%2F{{rft.date:4}}\n",
+            ),
         ):
             self.expect(name, written(rules, ENCODING), wanted)
 
@@ -92,8 +108,15 @@ class Written(Case):
         for prefix in (PLAIN, ENCODING):
             wanted = ["proxy: rule 1: a link that begins with {+title_url}: write {+title_page}, which is never empty"]
             self.expect("a host of the request", written("rule\nlink {+title_url}\n", prefix), wanted)
-        for prefix in ("https://p.example.org/{x}?url=", "https://p.example.org/#u=", "https://p.example.org/%zz",
-                       "https://p.example.org/'", 'https://p.example.org/"', "https://p.example.org/<", "https://p/é"):
+        for prefix in (
+            "https://p.example.org/{x}?url=",
+            "https://p.example.org/#u=",
+            "https://p.example.org/%zz",
+            "https://p.example.org/'",
+            'https://p.example.org/"',
+            "https://p.example.org/<",
+            "https://p/é",
+        ):
             self.expect(prefix, str(written(DOI, prefix))[:14], "['proxy: only ")
 
 
@@ -102,8 +125,10 @@ class Equal(Case):
     def test_links(self) -> None:
         """Behind each kind of proxy is the link that the rules have without it, encoded or as it is."""
         queries = ["", "x.isbn=9781234560102", "x.doi=10.5555/a", "rft.date=2015-03", f"x.doi={SICI}"]
-        rules = (DOI + "rule\nwhen given x.isbn\nlink https://a.example/b%20c/{x.isbn}?q=1&r={title_id}\n"
-                 "rule\nwhen given rft.date\nlink http://a.example/{rft.date:4}/x\n" + PAGE)
+        rules = (
+            DOI + "rule\nwhen given x.isbn\nlink https://a.example/b%20c/{x.isbn}?q=1&r={title_id}\n"
+            "rule\nwhen given rft.date\nlink http://a.example/{rft.date:4}/x\n" + PAGE
+        )
         with tempfile.TemporaryDirectory() as folder:
             program = Program(PATH, folder)
             for cell in ("https://a.example/p?x=1&y=%20", "none:"):
@@ -161,8 +186,11 @@ class InVersions(Case):
             self.expect("again", (weeks.make(), weeks.menu(f"rft.issn={number}{LATE}")), ([], behind))
             self.expect("walls", (weeks.make(walls=True), weeks.menu(f"rft.issn={number}{LATE}")), ([], behind))
             weeks.write("targets.tsv", b"press\tprovider:title-page\tpress.txt\n")
-            self.expect("no more", (weeks.make(), weeks.menu(f"rft.issn={number}{LATE}")),
-                        (["press: proxy changed"], {"press": page}))
+            self.expect(
+                "no more",
+                (weeks.make(), weeks.menu(f"rft.issn={number}{LATE}")),
+                (["press: proxy changed"], {"press": page}),
+            )
             self.expect("no rules of the proxy", (Path(weeks.version) / "rules/press.rules").exists(), False)
 
     def test_kept(self) -> None:

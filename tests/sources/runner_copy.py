@@ -14,7 +14,7 @@ from typing import Any
 from fixtures.cases import Case
 
 IMPORTS = "import os, subprocess, sys, time, unittest\nfrom fixtures import needs\nfrom fixtures.cases import Case\n"
-GOOD = '''
+GOOD = """
 class Sums(Case):
     def test_one(self):
         self.expect("one", 1, 1)
@@ -24,9 +24,9 @@ class Sums(Case):
 class Words(Case):
     def test_one(self):
         self.expect("a word", "a", "a")
-'''
+"""
 # Tests that are skipped.
-SKIPPED = '''
+SKIPPED = """
 class A(Case):
     @needs.command("nosuch-command")
     def test_a(self):
@@ -35,7 +35,7 @@ class A(Case):
 class B(Case):
     def test_b(self):
         self.expect("b", 1, 2)
-'''
+"""
 
 
 # The dictionary of the script test that says which modules start first, and how each is divided.
@@ -82,9 +82,14 @@ class RunnerCase(Case):
     def start(self, *arguments: str) -> subprocess.Popen[str]:
         """Starts the runner. What a shell starts in the background ignores an interrupt; the runner does not here."""
         path = f"{self.top}/bin:{os.environ['PATH']}"
-        how: dict[str, Any] = {"cwd": self.top, "env": {**os.environ, "PATH": path, "OPENLINK_JOBS": "4"},
-                               "stdout": subprocess.PIPE, "stderr": subprocess.STDOUT, "encoding": "utf-8",
-                               "preexec_fn": lambda: signal.signal(signal.SIGINT, signal.SIG_DFL)}
+        how: dict[str, Any] = {
+            "cwd": self.top,
+            "env": {**os.environ, "PATH": path, "OPENLINK_JOBS": "4"},
+            "stdout": subprocess.PIPE,
+            "stderr": subprocess.STDOUT,
+            "encoding": "utf-8",
+            "preexec_fn": lambda: signal.signal(signal.SIGINT, signal.SIG_DFL),
+        }
         return subprocess.Popen([sys.executable, "-B", "test", *arguments], **how)
 
     def given(self, *arguments: str) -> tuple[int, list[str]]:

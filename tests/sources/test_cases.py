@@ -53,8 +53,9 @@ class Comparisons(Case):
     def test_what_differs(self) -> None:
         self.compared += 1
         result = ended("different")
-        self.assertEqual([str(test).partition("[")[2][:-1] for test, _ in result.failures],
-                         ["first", "second", "third", "fourth"])
+        self.assertEqual(
+            [str(test).partition("[")[2][:-1] for test, _ in result.failures], ["first", "second", "third", "fourth"]
+        )
         self.assertIn("got '1', wanted '2'", result.failures[0][1])
         self.assertEqual(result.errors, [])
 

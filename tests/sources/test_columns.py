@@ -11,7 +11,7 @@ from collections.abc import Iterator
 
 from fixtures.cases import Case
 
-HEADERS = "update/openlink_update/received/headers.py"
+HEADERS = "update/openlink_update/received/column_names.py"
 CRATE = "crates/standard_names/src/columns.rt"
 FRONT_DOOR = "front_door/query.js"
 UPDATE = "update/openlink_update/tables/coverage.py"
@@ -48,11 +48,16 @@ def faults_of_columns(top: str) -> list[str]:
         f"the last columns of {CRATE}, and those that {UPDATE} adds": (last, added),
         HEADERS: (quoted(part(top, HEADERS, r"\nCOLUMNS = \((.*?)\n\)")), expected),
         FRONT_DOOR: ("".join(re.findall(r"'([^']*)'", listed)).split(" "), expected),
-        f"those that {FRONT_DOOR} adds":
-            (part(top, FRONT_DOOR, r"\bconst ADDED_COLUMNS = ' (.*?) ';").split(" "), added),
+        f"those that {FRONT_DOOR} adds": (
+            part(top, FRONT_DOOR, r"\bconst ADDED_COLUMNS = ' (.*?) ';").split(" "),
+            added,
+        ),
     }
-    found = [f"{what}: {sorted({*got} ^ {*wanted}) or 'another order'}" for what, (got, wanted) in same.items()
-             if got != wanted]
+    found = [
+        f"{what}: {sorted({*got} ^ {*wanted}) or 'another order'}"
+        for what, (got, wanted) in same.items()
+        if got != wanted
+    ]
     return found + ([] if len(expected) > MOST_OF_A_PART and added else [f"{CRATE}: no columns"])
 
 
@@ -81,8 +86,11 @@ def faults_of_lists(top: str) -> list[str]:
     expected = columns(top)[0]
     without_identifiers = [name for name in expected if name not in IDENTIFIERS]
     pieces = [(path, piece) for path, words in files(top) for piece in lists_in(words, expected)]
-    found = [f"{path}: {sorted({*piece} ^ {*expected}) or 'another order'}" for path, piece in pieces
-             if piece != expected and piece[: len(without_identifiers)] != without_identifiers]
+    found = [
+        f"{path}: {sorted({*piece} ^ {*expected}) or 'another order'}"
+        for path, piece in pieces
+        if piece != expected and piece[: len(without_identifiers)] != without_identifiers
+    ]
     places = {path.split("/")[0] for path, _ in pieces}
     return found + [f"no list of all columns in {' or '.join(those)}" for those in WITH_LISTS if not places & {*those}]
 

@@ -64,8 +64,11 @@ class Run:
 def faults_of(run: Run) -> list[str]:
     """What is said after the first tenth and is wrong by more than a third."""
     end = run.whole()
-    return [f"at {now:.0f} of {end:.0f} s: {left:.0f}" for now, left in run.said
-            if now > end / 10 and abs(left - (end - now)) > max((end - now) / 3, HALF_A_MINUTE)]
+    return [
+        f"at {now:.0f} of {end:.0f} s: {left:.0f}"
+        for now, left in run.said
+        if now > end / 10 and abs(left - (end - now)) > max((end - now) / 3, HALF_A_MINUTE)
+    ]
 
 
 class TimeLeft(Case):

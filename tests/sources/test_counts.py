@@ -61,10 +61,15 @@ month|counted|name|number
 2026-11|without a link||1
 2026-11|source|info:sid/a.b:c/d_e-f|1
 2026-11|source without full text|info:sid/a.b:c/d_e-f|1
-""".replace("|", "\t")
+""".replace(
+    "|", "\t"
+)
 HEAD = TABLE.partition("\n")[0] + "\n"
 OTHER_LINES = "openlink-counts: 9 of 24 lines have another form\n"
-USAGE = "usage: openlink-counts [--wanted [--index FOLDER]] [FILE..]\n"
+USAGE = """\
+usage: openlink-counts [--format tsv|json|xlsx] [--cost FILE] [--counter FILE].. [FILE..]
+       openlink-counts --wanted [--index FOLDER] [FILE..]
+"""
 
 Given = tuple[int, str, str]
 

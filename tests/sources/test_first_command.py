@@ -22,7 +22,7 @@ from schedule import Schedule
 JOBS = 4
 # It notes each call, and the start and the end of each proof. A proof is a process in a group of its own. That of the
 # crate KEPT does not end before there is a file NOTES.open.
-STAND_IN = r'''#!/usr/bin/env -S python3 -SE
+STAND_IN = r"""#!/usr/bin/env -S python3 -SE
 import os, subprocess, sys
 def given(flag):
     return sys.argv[sys.argv.index(flag) + 1]
@@ -59,7 +59,7 @@ if to.endswith(".rlib"):
 else:
     open(to, "w").close()
 note("end", name, jobs)
-'''
+"""
 # The seconds in which all proofs but one end.
 LIMIT = 60
 

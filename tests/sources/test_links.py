@@ -11,8 +11,19 @@ from collections.abc import Iterator
 from fixtures.cases import Case
 
 PAGES = ("README.md", "CHANGELOG.md", "CONTRIBUTING.md", "SECURITY.md", "docs/*.md", "benches/*.md")
-FOLDERS = (".ci/", "benches/", "crates/", "docs/", "edits/", "examples/", "front_door/", "packaging/", "tests/",
-           "tools/", "update/")
+FOLDERS = (
+    ".ci/",
+    "benches/",
+    "crates/",
+    "docs/",
+    "edits/",
+    "examples/",
+    "front_door/",
+    "packaging/",
+    "tests/",
+    "tools/",
+    "update/",
+)
 WITH_CRATES = ("ARCHITECTURE.md", "DECISIONS.md", "DEFINITIONS.md", "MACHINE.md", "README.md", "CONTRIBUTING.md")
 LINK = re.compile(r"\]\(([^()\s]+)\)")
 BARE = re.compile(r"`([^`\n]+)`")
@@ -97,8 +108,11 @@ class Links(Case):
         self.expect("what is wrong", [it for page, text in texts.items() for it in faults(page, text, known)], [])
         self.expect("pages", {*PAGES[:4], "docs/RULES.md", "benches/README.md"} <= {*pages})
         found = [it for text in texts.values() for it in links(text)]
-        counts = {"links": len(found), "links to headings": len([it for it in found if "#" in it]),
-                  "paths": sum(len(PATH.findall(text)) for text in texts.values())}
+        counts = {
+            "links": len(found),
+            "links to headings": len([it for it in found if "#" in it]),
+            "paths": sum(len(PATH.findall(text)) for text in texts.values()),
+        }
         for what, count in counts.items():
             self.expect(f"{count} {what}", count >= LEAST[what])
 

@@ -30,22 +30,27 @@ BAD = {
     "other_case": ("class A(unittest.TestCase):\n    def test_a(self):\n        pass\n", "not derived from fixtures"),
     "no_tests": (GOOD + "class C(Case):\n    X = 1\n", "the class C has no test"),
     "twice": (GOOD + "    def test_one(self):\n        self.expect('a', 1, 1)\n", "Words.test_one is defined 2 times"),
-    "subtest": ("class A(Case):\n    def test_a(self):\n        self.expect('a', 1, 2)\n"
-                "        self.skipTest('b')\n", "'2'"),
-    "set_up": ("class A(Case):\n    @classmethod\n    def setUpClass(cls):\n        1 / 0\n    def test_a(self):\n"
-               "        self.expect('a', 1, 1)\n", "ZeroDivision"),
+    "subtest": (
+        "class A(Case):\n    def test_a(self):\n        self.expect('a', 1, 2)\n" "        self.skipTest('b')\n",
+        "'2'",
+    ),
+    "set_up": (
+        "class A(Case):\n    @classmethod\n    def setUpClass(cls):\n        1 / 0\n    def test_a(self):\n"
+        "        self.expect('a', 1, 1)\n",
+        "ZeroDivision",
+    ),
     "dies": (GOOD + "    def test_x(self):\n        os._exit(0)\n", "status 0"),
     "exits": ("sys.exit(0)\n", "status 0"),
     "syntax": ("import nowhere_at_all\n" + GOOD, "nowhere_at_all"),
 }
-SLEEPS = '''
+SLEEPS = """
 class A(Case):
     def test_a(self):
         with open("pids", "w") as file:
             child = subprocess.Popen(["sleep", "1000"])
             file.write(f"{os.getpid()} {child.pid}\\n")
         time.sleep(1000)
-'''
+"""
 # What stands in for the toolchain: it says what the folder's file `said` has.
 RT = "#!/bin/sh\ncat said\nexit $(cat status)\n"
 
@@ -58,10 +63,14 @@ class Reports(RunnerCase):
         self.expect("the status", status, 0)
 
     def test_what_it_takes_of_a_processor(self) -> None:
-        self.module("works", GOOD + "    def test_work(self):\n        subprocess.run(['sh', '-c', 'i=0; while [ $i -lt "
-                    "3000000 ]; do i=$((i+1)); done'])\n        self.expect('a', 1, 1)\n")
-        self.module("sleeps", GOOD + "    def test_sleep(self):\n        time.sleep(2)\n"
-                    "        self.expect('a', 1, 1)\n")
+        self.module(
+            "works",
+            GOOD + "    def test_work(self):\n        subprocess.run(['sh', '-c', 'i=0; while [ $i -lt "
+            "3000000 ]; do i=$((i+1)); done'])\n        self.expect('a', 1, 1)\n",
+        )
+        self.module(
+            "sleeps", GOOD + "    def test_sleep(self):\n        time.sleep(2)\n" "        self.expect('a', 1, 1)\n"
+        )
         text, _ = self.start().communicate()
         found = dict(re.findall(r"test_(\w+): passed in \d+ s, (\d+) of a processor", text))
         self.expect("both", sorted(found), ["sleeps", "works"])
@@ -72,9 +81,15 @@ class Reports(RunnerCase):
         self.module("sums", GOOD)
         self.long({"sources.test_sums": 2})
         status, lines = self.given()
-        self.expect("the lines", sorted(lines), [
-            "3 passed, 0 failed", "sources.test_sums (1 of 2): passed: 2 tests, 2 comparisons",
-            "sources.test_sums (2 of 2): passed: 1 test, 2 comparisons"])
+        self.expect(
+            "the lines",
+            sorted(lines),
+            [
+                "3 passed, 0 failed",
+                "sources.test_sums (1 of 2): passed: 2 tests, 2 comparisons",
+                "sources.test_sums (2 of 2): passed: 1 test, 2 comparisons",
+            ],
+        )
         self.expect("the status", status, 0)
         found = self.given("sources.Words")[1][0]
         self.expect("a chosen class", found, "sources.test_sums: passed: 1 test, 1 comparison")
@@ -105,18 +120,28 @@ class Reports(RunnerCase):
 
     def test_crates(self) -> None:
         self.write("bin/rt", RT, 0o755)
-        cases = {"good": ("test result: ok. 3 passed; 0 failed; 0 ignored", 0),
-                 "bad": ("test result: FAILED. 3 passed; 2 failed", 1),
-                 "none": ("nothing", 0), "broken": ("test result: ok. 3 passed; 0 failed", 1)}
+        cases = {
+            "good": ("test result: ok. 3 passed; 0 failed; 0 ignored", 0),
+            "bad": ("test result: FAILED. 3 passed; 2 failed", 1),
+            "none": ("nothing", 0),
+            "broken": ("test result: ok. 3 passed; 0 failed", 1),
+        }
         for name, (said, status) in cases.items():
             self.write(f"crates/{name}/src/lib.rt", "#[test]\nfn a() {}\n")
             self.write(f"crates/{name}/said", f"{said}\n")
             self.write(f"crates/{name}/status", f"{status}\n")
         status, lines = self.given("--crates")
         heads = sorted(it for it in lines[:-1] if not it.startswith(" "))
-        self.expect("the lines", heads, [
-            "bad: failed: 2 failed, 3 tests passed; status 1", "broken: failed: 1 failed, 3 tests passed; status 1",
-            "good: passed: 3 tests", "none: failed: 1 failed; status 0"])
+        self.expect(
+            "the lines",
+            heads,
+            [
+                "bad: failed: 2 failed, 3 tests passed; status 1",
+                "broken: failed: 1 failed, 3 tests passed; status 1",
+                "good: passed: 3 tests",
+                "none: failed: 1 failed; status 0",
+            ],
+        )
         self.expect("the end", (status, lines[-1]), (1, "9 passed, 4 failed"))
 
     def test_no_program(self) -> None:
@@ -131,13 +156,34 @@ class Reports(RunnerCase):
 
 # Arguments, and the numbers of tests that pass.
 NAMES = [
-    (["sources"], 6), (["sums"], 3), (["sources.test_sums"], 3), (["sources.sums"], 3), (["sources.Sums"], 4),
-    (["sources.Sums.test_two"], 2), (["sources.test_sums.Sums.test_two"], 1), (["sources.Words", "sources.Sums"], 6),
-    (["a_crate"], 1), (["a_crate", "sums", "sources.test_sums.Words"], 4), (["-k", "two"], 2),
-    (["-k", "*Words.*one"], 2), (["sums", "-k", "one"], 2), (["--early", "-k", "two", "-k", "Words"], 4),
+    (["sources"], 6),
+    (["sums"], 3),
+    (["sources.test_sums"], 3),
+    (["sources.sums"], 3),
+    (["sources.Sums"], 4),
+    (["sources.Sums.test_two"], 2),
+    (["sources.test_sums.Sums.test_two"], 1),
+    (["sources.Words", "sources.Sums"], 6),
+    (["a_crate"], 1),
+    (["a_crate", "sums", "sources.test_sums.Words"], 4),
+    (["-k", "two"], 2),
+    (["-k", "*Words.*one"], 2),
+    (["sums", "-k", "one"], 2),
+    (["--early", "-k", "two", "-k", "Words"], 4),
 ]
-WRONG = [["nowhere"], ["sources.Nowhere"], ["sources.Sums.test_three"], ["sums", "nowhere"], ["-k", "nowhere"],
-         ["--nowhere"], ["--early", "--program"], ["source"], ["Sums"], ["--program", "sums"], [""]]
+WRONG = [
+    ["nowhere"],
+    ["sources.Nowhere"],
+    ["sources.Sums.test_three"],
+    ["sums", "nowhere"],
+    ["-k", "nowhere"],
+    ["--nowhere"],
+    ["--early", "--program"],
+    ["source"],
+    ["Sums"],
+    ["--program", "sums"],
+    [""],
+]
 
 
 class Names(RunnerCase):

@@ -15,8 +15,13 @@ SECONDS = 300
 
 
 def run(*arguments: str, **environment: str) -> tuple[int, str, str]:
-    ran = subprocess.run([f"{TOP}/{TRY}", *arguments], env={**os.environ, **environment}, capture_output=True,
-                         encoding="utf-8", timeout=patience(SECONDS))
+    ran = subprocess.run(
+        [f"{TOP}/{TRY}", *arguments],
+        env={**os.environ, **environment},
+        capture_output=True,
+        encoding="utf-8",
+        timeout=patience(SECONDS),
+    )
     return ran.returncode, ran.stdout, ran.stderr
 
 
@@ -36,8 +41,11 @@ class FirstMenu(Case):
     @needs.toolchain()
     def test_an_error(self) -> None:
         status, out, said = run("ctx_ver=other")
-        self.expect("a request of another version", (status, out, said.splitlines()[1:]),
-                    (3, "", ["openlink: query: WrongVersion"]))
+        self.expect(
+            "a request of another version",
+            (status, out, said.splitlines()[1:]),
+            (3, "", ["openlink: query: WrongVersion"]),
+        )
 
     def test_without_the_toolchain(self) -> None:
         with tempfile.TemporaryDirectory() as folder:

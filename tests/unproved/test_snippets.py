@@ -46,8 +46,9 @@ def blocks_in(text: str) -> list[tuple[int, list[str]]]:
     """The blocks of Rattle in the head of a file: the number of their first line, and their lines."""
     head = [line[3:] for line in text.split("\n") if line.startswith("//!")]
     fences = [number for number, line in enumerate(head) if line.startswith(" ```")]
-    return [(start + 2, head[start + 1 : end]) for start, end in zip(fences[::2], fences[1::2])
-            if head[start] != " ```text"]
+    return [
+        (start + 2, head[start + 1 : end]) for start, end in zip(fences[::2], fences[1::2]) if head[start] != " ```text"
+    ]
 
 
 def blocks() -> Blocks:

@@ -47,9 +47,11 @@ def fill(case, library, rooms, fill_up):
         shutil.rmtree(filler) if os.path.isdir(filler) else os.unlink(filler)
         is_new = status == 0
         case.expect(f"room {room}, the reason: {printed}", is_new or "No space left on device" in printed)
-        case.expect(f"room {room}: {printed}",
-                    (library.current() != first, library.weeks_served(), library.left_behind()),
-                    (is_new, {"B" if is_new else "A"}, []))
+        case.expect(
+            f"room {room}: {printed}",
+            (library.current() != first, library.weeks_served(), library.left_behind()),
+            (is_new, {"B" if is_new else "A"}, []),
+        )
         if is_new:
             break
     library.input.deliver("B")
@@ -68,8 +70,11 @@ class Disks(Case):
                 with Library(folder=os.path.join(folder, "library")) as library:
                     rooms = (0, 16, 64, 120, 180, 240, 300, 360, 420, 480)
                     statuses = fill(self, library, rooms, lambda room: fill_bytes(folder, room * 1024))
-                    self.expect(f"a full disk: {statuses}", (set(statuses[:-1]), len(statuses) > 4, statuses[-1]),
-                                ({4}, True, 0))
+                    self.expect(
+                        f"a full disk: {statuses}",
+                        (set(statuses[:-1]), len(statuses) > 4, statuses[-1]),
+                        ({4}, True, 0),
+                    )
 
     @needs.file_systems()
     def test_no_file_left(self) -> None:
@@ -78,20 +83,30 @@ class Disks(Case):
         with Library() as aside:
             with disk(aside, "size=8m,nr_inodes=1000") as folder:
                 with Library(folder=os.path.join(folder, "library")) as library:
-                    statuses = fill(self, library, (0, 20, 40, 80, 100, 118, 128, 140),
-                                    lambda room: fill_files(folder, room))
-                    self.expect(f"no file left: {statuses}", (set(statuses[:-1]), len(statuses) > 4, statuses[-1]),
-                                ({4}, True, 0))
+                    statuses = fill(
+                        self, library, (0, 20, 40, 80, 100, 118, 128, 140), lambda room: fill_files(folder, room)
+                    )
+                    self.expect(
+                        f"no file left: {statuses}",
+                        (set(statuses[:-1]), len(statuses) > 4, statuses[-1]),
+                        ({4}, True, 0),
+                    )
                 with Library(folder=os.path.join(folder, "other")) as library:
                     library.input.deliver("B")
                     first, filler = library.current(), os.path.join(folder, "filler")
                     fills = f"mkdir {filler}; touch $(seq -f {filler}/%g 1000) 2>/dev/null; exit 9"
                     status, printed = library.run(restart=f"sh -c '{fills}'")
-                    self.expect(f"a disk that is filled meanwhile: {printed}",
-                                (status, library.current(), library.weeks_served()), (3, first, {"A"}))
+                    self.expect(
+                        f"a disk that is filled meanwhile: {printed}",
+                        (status, library.current(), library.weeks_served()),
+                        (3, first, {"A"}),
+                    )
                     shutil.rmtree(filler)
-                    self.expect("no longer full", (library.run()[0], library.weeks_served(), library.left_behind()),
-                                (0, {"B"}, []))
+                    self.expect(
+                        "no longer full",
+                        (library.run()[0], library.weeks_served(), library.left_behind()),
+                        (0, {"B"}, []),
+                    )
 
     def test_oldest_away(self) -> None:
         """The command of INSTALLING's chapter "Disk" that deletes the oldest version: the next update is as ever."""
@@ -103,13 +118,15 @@ class Disks(Case):
                 library.input.deliver(week)
                 self.expect(f"week {week}", library.run()[0], 0)
             oldest, *kept = library.versions()
-            subprocess.run(["sh", "-ec",
-                            re.sub(r"/etc/openlink/versions/\w+", library.path("versions", oldest), command)],
-                           check=True)
+            subprocess.run(
+                ["sh", "-ec", re.sub(r"/etc/openlink/versions/\w+", library.path("versions", oldest), command)],
+                check=True,
+            )
             self.expect("versions", library.versions(), kept)
             library.input.deliver("B")
-            self.expect("the next week", (library.run()[0], library.weeks_served(), len(library.versions())),
-                        (0, {"B"}, 3))
+            self.expect(
+                "the next week", (library.run()[0], library.weeks_served(), len(library.versions())), (0, {"B"}, 3)
+            )
             self.expect("and back", (library.run("--back")[0], library.weeks_served()), (0, {"A"}))
 
     def test_file_limit(self) -> None:
@@ -117,7 +134,12 @@ class Disks(Case):
         with Library() as library:
             library.input.deliver("B")
             first = library.current()
-            child = subprocess.run(library.words(), capture_output=True, text=True,
-                                   preexec_fn=lambda: resource.setrlimit(resource.RLIMIT_FSIZE, (600, 600)))
-            self.expect(f"a limit: {child.stderr}", (child.returncode, library.current(), library.left_behind()),
-                        (4, first, []))
+            child = subprocess.run(
+                library.words(),
+                capture_output=True,
+                text=True,
+                preexec_fn=lambda: resource.setrlimit(resource.RLIMIT_FSIZE, (600, 600)),
+            )
+            self.expect(
+                f"a limit: {child.stderr}", (child.returncode, library.current(), library.left_behind()), (4, first, [])
+            )

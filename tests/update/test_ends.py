@@ -110,11 +110,14 @@ class Gate:
 
     def __init__(self, library, name):
         self.begun, self.opened = library.aside(f"{name}.begun"), library.aside(f"{name}.open")
-        self.restart = (f"sh -c 'echo PORT >>{self.begun}; until [ -e {self.opened} ]; do sleep 0.02; done; "
-                        f"exec {library.restart}'")
+        self.restart = (
+            f"sh -c 'echo PORT >>{self.begun}; until [ -e {self.opened} ]; do sleep 0.02; done; "
+            f"exec {library.restart}'"
+        )
 
     def wait_for(self, number):
         """Waits for the begin of the first, second and so on restart, and returns whether there is one."""
+
         def are_begun():
             if not os.path.exists(self.begun):
                 return False
@@ -149,14 +152,18 @@ class Ends(Case):
             self.expect(f"kills in each stage: {stages}", {"making", "trying", "restarting"} <= set(stages))
             library.input.deliver(OTHER[week])
             status, printed = library.run()
-            self.expect(f"the run after all: {printed}", (status, library.weeks_served(), library.left_behind()),
-                        (0, {OTHER[week]}, []))
+            self.expect(
+                f"the run after all: {printed}",
+                (status, library.weeks_served(), library.left_behind()),
+                (0, {OTHER[week]}, []),
+            )
         # Where a kill leaves no process for a moment, the page says so with status 503. It never says that there are no
         # links.
         wrong = [fault for fault in reader.faults if fault[1] != 503]
         self.expect("meanwhile each request has a good reply, or 503", (wrong[:3], reader.requests > 100), ([], True))
-        self.expect(f"{len(reader.faults)} of {reader.requests} requests have 503",
-                    len(reader.faults) * 20 < reader.requests)
+        self.expect(
+            f"{len(reader.faults)} of {reader.requests} requests have 503", len(reader.faults) * 20 < reader.requests
+        )
 
     def test_signals(self) -> None:
         """SIGINT and SIGTERM at 12 moments in all stages of a run: the run cleans up and goes back itself."""
@@ -193,9 +200,11 @@ class Ends(Case):
                 child.send_signal(number)
                 gate.open()
                 status, printed = ended(child)
-                self.expect(f"{number.name} at a restart: {printed}",
-                            (status, library.current(), library.weeks_served(), library.left_behind()),
-                            (3, first, {"A"}, []))
+                self.expect(
+                    f"{number.name} at a restart: {printed}",
+                    (status, library.current(), library.weeks_served(), library.left_behind()),
+                    (3, first, {"A"}, []),
+                )
                 self.expect("its name is said", f"ended by {number.name}" in printed)
 
     def test_process_that_ends_meanwhile(self) -> None:
@@ -206,11 +215,16 @@ class Ends(Case):
             with Library() as library:
                 first, mark, (port, other) = library.current(), library.aside("mark"), library.site.ports
                 library.input.deliver("B")
-                restart = (f"[ -e {mark} ] || {HERE}/restart {library.room} {other}; {fails.format(port, mark)}"
-                           f"{{ touch {mark}; exit 9; }}; exec {library.restart}")
+                restart = (
+                    f"[ -e {mark} ] || {HERE}/restart {library.room} {other}; {fails.format(port, mark)}"
+                    f"{{ touch {mark}; exit 9; }}; exec {library.restart}"
+                )
                 status, printed = library.run(restart=f"sh -c '{restart}'")
-                self.expect(f"a run that {name}: {printed}", (status, library.current(), library.weeks_served()),
-                            (3, first, weeks))
+                self.expect(
+                    f"a run that {name}: {printed}",
+                    (status, library.current(), library.weeks_served()),
+                    (3, first, weeks),
+                )
 
     def test_two_runs(self) -> None:
         """While a run is kept in its restarts, no other one begins, nor waits for it."""
@@ -220,14 +234,18 @@ class Ends(Case):
             child = library.begin(restart=gate.restart)
             self.expect("the first run is in its restarts", gate.wait_for(1))
             refusal = (4, f"openlink-update: {library.path('lock')}: another run has not ended\n")
-            for name, options in (("a second run", ()), ("a trial too", ("--dry-run",)),
-                                  ("going back too", ("--back",))):
+            for name, options in (
+                ("a second run", ()),
+                ("a trial too", ("--dry-run",)),
+                ("going back too", ("--back",)),
+            ):
                 self.expect(name, ended(library.begin(*options), 20), refusal)
             self.expect("they end before the first run", child.poll(), None)
             gate.open()
             status, printed = ended(child)
-            self.expect(f"the first run: {printed}", (status, library.weeks_served(), library.left_behind()),
-                        (0, {"B"}, []))
+            self.expect(
+                f"the first run: {printed}", (status, library.weeks_served(), library.left_behind()), (0, {"B"}, [])
+            )
 
     def test_closed_output(self) -> None:
         """Nobody reads what a run says."""

@@ -12,6 +12,7 @@ from fixtures import needs
 from fixtures.cases import Case
 from fixtures.library import Library
 from fixtures.library import Reader
+from fixtures.made_titles import issn
 from fixtures.weeks import MENUS
 from fixtures.weeks import TITLE
 from fixtures.weeks import tables
@@ -22,6 +23,7 @@ ALL = list(tables())
 def check_time(case, library):
     """The time of a run that ended well is beside the versions, whether or not anything was new; no other run has
     one."""
+
     def run(*options, **how):
         """Whether a run that comes an hour later writes its time, and its status."""
         with open(library.path("updated"), "w") as file:
@@ -68,22 +70,38 @@ class GoodWeeks(Case):
         with Library(ALL, processes=4) as library:
             status, printed = library.first
             self.expect("the first version", (status, library.names(), library.weeks_served()), (0, ALL, {"A"}))
-            self.expect_lines("the first version", printed, "tidal-press: new, 3 rows", "33 probes hold",
-                              f"{library.current()} is in use")
+            self.expect_lines(
+                "the first version",
+                printed,
+                "tidal-press: new, 3 rows",
+                "33 probes hold",
+                f"{library.current()} is in use",
+            )
             first = library.current()
             library.input.deliver("B")
             with Reader(library) as reader:
                 status, printed = library.run()
             self.expect("a good week", (status, library.weeks_served(), reader.faults), (0, {"B"}, []))
-            self.expect_lines("a good week", printed, "tidal-press: 1 row added, 0 gone",
-                              "  titles: 1 came, 0 gone: changes/tidal-press.txt", "coastal-law: rules changed",
-                              "33 probes hold")
-            self.expect("nothing else has changed", re.findall(r"^([\w-]+): ", printed, re.M),
-                        ["tidal-press", "coastal-law"])
+            self.expect_lines(
+                "a good week",
+                printed,
+                "tidal-press: 1 row added, 0 gone",
+                "  titles: 1 came, 0 gone: changes/tidal-press.txt",
+                "coastal-law: rules changed",
+                "33 probes hold",
+            )
+            self.expect(
+                "nothing else has changed", re.findall(r"^([\w-]+): ", printed, re.M), ["tidal-press", "coastal-law"]
+            )
             moved = [line for line in printed.splitlines() if " is now " in line]
-            self.expect("links that lead elsewhere", moved,
-                        ["  coastal-law https://coastal.example.com/journals/rcl is now "
-                         "https://coastal.example.com/titles/rcl"])
+            self.expect(
+                "links that lead elsewhere",
+                moved,
+                [
+                    "  coastal-law https://coastal.example.com/journals/rcl is now "
+                    "https://coastal.example.com/titles/rcl"
+                ],
+            )
             second = library.current()
             self.expect("two versions", library.versions(), [first, second])
             self.expect("nothing new", library.run(), (0, f"nothing new: {second} stays in use\n"))
@@ -94,12 +112,18 @@ class GoodWeeks(Case):
         """If no process answers, the run says so, also if nothing is new."""
         with Library() as library:
             first, ports = library.current(), ", ".join(map(str, library.site.ports))
-            self.expect("one process is down", (stop(library.site.supervisors[:1]), library.run())[1],
-                        (0, f"nothing new: {first} stays in use\n"))
+            self.expect(
+                "one process is down",
+                (stop(library.site.supervisors[:1]), library.run())[1],
+                (0, f"nothing new: {first} stays in use\n"),
+            )
             stop(library.site.supervisors)
             said = f"nothing new: {first} stays in use\n"
-            self.expect("all are down", library.run("--seconds", "1"),
-                        (4, f"{said}openlink-update: no process answers: ports {ports}\n"))
+            self.expect(
+                "all are down",
+                library.run("--seconds", "1"),
+                (4, f"{said}openlink-update: no process answers: ports {ports}\n"),
+            )
             self.expect("a trial asks none", library.run("--dry-run", "--seconds", "1"), (0, said))
 
     def test_changes(self) -> None:
@@ -107,31 +131,42 @@ class GoodWeeks(Case):
         with Library() as library:
             first = library.current()
             rows = library.input.read("book-house.txt").splitlines(keepends=True)
-            library.input.write("book-house.txt",
-                                b"".join(rows[:1] + rows[2:] + [rows[1].replace(b"\tLi\t", b"\tLee\t")]))
+            library.input.write(
+                "book-house.txt", b"".join(rows[:1] + rows[2:] + [rows[1].replace(b"\tLi\t", b"\tLee\t")])
+            )
             library.input.names = [name for name in library.input.names if name != "catalogue"]
-            library.input.write("extra.rules",
-                                b"rule\nwhen given rft.atitle\nlink https://extra.example.org/{rft.atitle}\n")
+            library.input.write(
+                "extra.rules", b"rule\nwhen given rft.atitle\nlink https://extra.example.org/{rft.atitle}\n"
+            )
             library.input.write("extra.txt", library.input.read("doi-resolver.txt"))
             library.input.names.append("extra")
             library.input.write_list()
-            library.input.write("probes.tsv",
-                                b"sid=google&issn=2901-0012&atitle=Storm&date=2003&volume=12\ttidal-press extra\n")
+            library.input.write(
+                "probes.tsv", b"sid=google&issn=2901-0012&atitle=Storm&date=2003&volume=12\ttidal-press extra\n"
+            )
             tried = library.run("--dry-run")
             self.expect("a trial", (tried[0], library.current(), library.versions()), (0, first, [first]))
             self.expect("a trial leaves nothing", library.left_behind(), [])
             status, printed = library.run()
-            lines = ["catalogue: gone, since the list does not name it", "book-house: 1 row added, 1 gone",
-                     "extra: new, 1 row",
-                     "  gains extra https://extra.example.org/Storm",
-                     "  loses catalogue https://catalogue.example.org/search?index=number&term=2901-0012"]
+            lines = [
+                "catalogue: gone, since the list does not name it",
+                "book-house: 1 row added, 1 gone",
+                "extra: new, 1 row",
+                "  gains extra https://extra.example.org/Storm",
+                "  loses catalogue https://catalogue.example.org/search?index=number&term=2901-0012",
+            ]
             labels = library.site.path("openlink/targets.json")
-            lines += [f"{labels}: not named, so they are shown last and not as full text: extra",
-                      f"{labels}: named, and no target: catalogue"]
+            lines += [
+                f"{labels}: not named, so they are shown last and not as full text: extra",
+                f"{labels}: named, and no target: catalogue",
+            ]
             self.expect_lines("what has changed", printed, *lines, "1 probe holds")
             self.expect_lines("what a trial says", tried[1], *lines, "a trial: nothing was put in use")
-            self.expect("targets", (status, library.names()),
-                        (0, ["tidal-press", "coastal-law", "book-house", "doi-resolver", "extra"]))
+            self.expect(
+                "targets",
+                (status, library.names()),
+                (0, ["tidal-press", "coastal-law", "book-house", "doi-resolver", "extra"]),
+            )
 
     def test_requests(self) -> None:
         """A thousand requests while versions change and processes are restarted."""
@@ -143,8 +178,9 @@ class GoodWeeks(Case):
                     library.input.deliver(week)
                     runs.append(library.run()[0])
             self.expect("runs under a thousand requests", set(runs), {0})
-            self.expect("each has a reply", (reader.requests >= 1000, reader.faults[:3], reader.weeks),
-                        (True, [], set(MENUS)))
+            self.expect(
+                "each has a reply", (reader.requests >= 1000, reader.faults[:3], reader.weeks), (True, [], set(MENUS))
+            )
 
     def test_back(self) -> None:
         """The version before, by hand, and forward again; old versions go."""
@@ -156,8 +192,11 @@ class GoodWeeks(Case):
                 stamps.append(library.current())
             self.expect("four versions are kept", library.versions(), stamps[-4:])
             self.expect("back", library.run("--back"), (0, f"{stamps[-2]} is in use again\n"))
-            self.expect("the version before", (library.current(), library.weeks_served(), library.left_behind()),
-                        (stamps[-2], {"A"}, []))
+            self.expect(
+                "the version before",
+                (library.current(), library.weeks_served(), library.left_behind()),
+                (stamps[-2], {"A"}, []),
+            )
             # A new version may have the stamp of the one that is removed, if both were made within a second.
             open(library.path("versions", stamps[-1], "mark"), "w").close()
             self.expect("forward", library.run()[0], 0)
@@ -167,28 +206,33 @@ class GoodWeeks(Case):
                 self.expect("back again", library.run("--back")[0], 0)
             status, printed = library.run("--back")
             self.expect("no version before", status, 3)
-            self.expect_lines("no version before", printed,
-                              "openlink-update: there is no version before the one in use")
+            self.expect_lines(
+                "no version before", printed, "openlink-update: there is no version before the one in use"
+            )
 
     def test_warnings(self) -> None:
         """A warning that the list allows, by its words; and walls that move with the month."""
         with Library() as library:
-            library.input.add_row("book-house", b"A book\t\t9781234562427\t\t\t\t\t\t\twww.books.example.net/x")
+            library.input.add_row("book-house", b"A book\t\t9781234562427\t\t\t\t\t\t\tbooks.example.net/x")
             status, printed = library.run()
             self.expect("a warning", status, 1)
-            self.expect_lines("a warning", printed,
-                              f"  {library.input.path('book-house.txt')}: title_url not a web link 1, first 3 "
-                              '"www.books.example.net/x"')
-            library.input.allowed["book-house"] = "rows 0; title_url not a web link"
+            self.expect_lines(
+                "a warning",
+                printed,
+                f"  {library.input.path('book-house.txt')}: title_url not a web link 1, first 3 "
+                '"books.example.net/x"',
+            )
+            library.input.allowed["book-house"] = "rows; title_url not a web link"
             library.input.write_list()
             self.expect("it is allowed", library.run()[0], 0)
-            row = b"Walls\t3040-0005\t\t2000\t\t\t\t\t\thttps://x.example.org\t\tw\tP1Y\tfulltext"
+            row = b"Walls\t3040-0007\t\t2000\t\t\t\t\t\thttps://x.example.org\t\tw\tP1Y\tfulltext"
             library.input.add_row("tidal-press", row)
             self.expect("a wall", library.run()[0], 0)
             with open(library.path("current", "tables", "tidal-press.txt")) as file:
                 cells = file.read().splitlines()[-1].split("\t")
-            self.expect("its date",
-                        bool(re.fullmatch(r"20\d\d-\d\d", cells[6])) and len(cells) > 12 and cells[12] == "P1Y")
+            self.expect(
+                "its date", bool(re.fullmatch(r"20\d\d-\d\d", cells[6])) and len(cells) > 12 and cells[12] == "P1Y"
+            )
 
     def test_walls(self) -> None:
         """The walls of the version in use, once they are not those of today: a new version takes its place, from the
@@ -196,23 +240,33 @@ class GoodWeeks(Case):
         with Library() as library:
             first = library.current()
             self.expect("no walls", library.run("--walls"), (0, f"no walls of months or days: {first} stays in use\n"))
-            row = "Walls\t3040-0005\t\t2000\t\t\t\t\t\thttps://x.example.org\t\tw\t{}\tfulltext"
+            row = "Walls\t3040-0007\t\t2000\t\t\t\t\t\thttps://x.example.org\t\tw\t{}\tfulltext"
             library.input.add_row("coastal-law", row.format("P1Y").encode())
             self.expect("a wall of years", library.run()[0], 0)
             stays = library.current()
-            self.expect("which moves every week", library.run("--walls"),
-                        (0, f"no walls of months or days: {stays} stays in use\n"))
+            self.expect(
+                "which moves every week",
+                library.run("--walls"),
+                (0, f"no walls of months or days: {stays} stays in use\n"),
+            )
             library.input.replace("coastal-law.txt", "P1Y", "P12M")
             self.expect("a wall of months", library.run()[0], 0)
             second, today = library.current(), datetime.date.today()
             old, new = (today - datetime.timedelta(days) for days in (400, 20))
-            for date, links in ((old, ["coastal-law"]), (old.year, ["coastal-law"]), (f"{old:%Y-%m}", ["coastal-law"]),
-                                (new, []), (f"{new}&coverage_to=99999999&x.from=20000101", []), ("", ["coastal-law"]),
-                                (1999, [])):
-                self.expect(f"readers of {date}", shown(library, "3040-0005", date), links)
+            for date, links in (
+                (old, ["coastal-law"]),
+                (old.year, ["coastal-law"]),
+                (f"{old:%Y-%m}", ["coastal-law"]),
+                (new, []),
+                (f"{new}&coverage_to=99999999&x.from=20000101", []),
+                ("", ["coastal-law"]),
+                (1999, []),
+            ):
+                self.expect(f"readers of {date}", shown(library, "3040-0007", date), links)
             days = f"rft.date={new}&x.from={new:%Y%m%d}&x.to={new:%Y%m%d}&coverage_from=0&coverage_to=99999999"
-            self.expect("a request to the program", library.menu(library.site.ports[0], f"rft.issn=3040-0005&{days}"),
-                        {})
+            self.expect(
+                "a request to the program", library.menu(library.site.ports[0], f"rft.issn=3040-0007&{days}"), {}
+            )
             self.expect("walls of today", library.run("--walls"), (0, f"nothing new: {second} stays in use\n"))
             with open(library.path("current", "tables", "coastal-law.txt"), "r+", encoding="utf-8") as file:
                 text = file.read()
@@ -224,11 +278,19 @@ class GoodWeeks(Case):
             library.input.write("probes.tsv", library.input.read("probes.tsv") + b"issn=3050-0001\tcatalogue\n")
             with Reader(library) as reader:
                 status, printed = library.run("--walls")
-            self.expect("walls of another day", (status, library.weeks_served(), reader.faults, library.left_behind()),
-                        (0, {"A"}, [], []))
-            self.expect_lines("walls of another day", printed, "coastal-law: moving walls changed", "33 probes hold",
-                              "not tried, since they differ with the version in use too: probes 34",
-                              f"{library.current()} is in use")
+            self.expect(
+                "walls of another day",
+                (status, library.weeks_served(), reader.faults, library.left_behind()),
+                (0, {"A"}, [], []),
+            )
+            self.expect_lines(
+                "walls of another day",
+                printed,
+                "coastal-law: moving walls changed",
+                "33 probes hold",
+                "not tried, since they differ with the version in use too: probes 34",
+                f"{library.current()} is in use",
+            )
             self.expect("it takes the place", library.versions(), [first, stays, library.current()])
             with open(library.path("current", "tables", "coastal-law.txt"), encoding="utf-8") as file:
                 self.expect("the wall", file.read().splitlines()[-1].split("\t")[-2:], ["20000101", day])
@@ -241,22 +303,39 @@ class GoodWeeks(Case):
             library.input.allowed["coastal-law"] = "gone up to 100%; less than half of the rows; came up to 15000%"
             library.input.write_list()
             cells = TITLE.split("\t")
-            numbers = [f"{4000000 + number}X" for number in range(300)]
-            library.input.add_row("coastal-law",
-                                  b"\n".join("\t".join([f"Large {number}", number, "", *cells[3:14], "x" * 59000,
-                                                        *cells[15:]]).encode() for number in numbers))
+            numbers = [issn(4000000 + number) for number in range(300)]
+            library.input.add_row(
+                "coastal-law",
+                b"\n".join(
+                    "\t".join([f"Large {number}", number, "", *cells[3:14], "x" * 59000, *cells[15:]]).encode()
+                    for number in numbers
+                ),
+            )
             status, printed = library.run()
             at = small.index("coastal-law") + 1
-            self.expect(f"two parts: {printed}", (status, library.names(), library.weeks_served()),
-                        (0, [*small[:at], "coastal-law.2", *small[at:]], {"A"}))
-            self.expect_lines("two parts", printed, "coastal-law: 300 rows added, 0 gone",
-                              "  2 parts: coastal-law, coastal-law.2",
-                              "  titles: 300 came, 0 gone: changes/coastal-law.txt", "33 probes hold")
-            ports = [library.menu(library.site.ports[0], f"rft.issn={number}&x.from=19940101&x.to=19940101")
-                     for number in (numbers[0], numbers[-1])]
+            self.expect(
+                f"two parts: {printed}",
+                (status, library.names(), library.weeks_served()),
+                (0, [*small[:at], "coastal-law.2", *small[at:]], {"A"}),
+            )
+            self.expect_lines(
+                "two parts",
+                printed,
+                "coastal-law: 300 rows added, 0 gone",
+                "  2 parts: coastal-law, coastal-law.2",
+                "  titles: 300 came, 0 gone: changes/coastal-law.txt",
+                "33 probes hold",
+            )
+            ports = [
+                library.menu(library.site.ports[0], f"rft.issn={number}&x.from=19940101&x.to=19940101")
+                for number in (numbers[0], numbers[-1])
+            ]
             self.expect("for processes", [list(menu) for menu in ports], [["coastal-law"], ["coastal-law.2"]])
-            self.expect("for readers", [shown(library, number, 1994) for number in (numbers[0], numbers[-1])],
-                        [["coastal-law"]] * 2)
+            self.expect(
+                "for readers",
+                [shown(library, number, 1994) for number in (numbers[0], numbers[-1])],
+                [["coastal-law"]] * 2,
+            )
             self.expect("nothing new", library.run(), (0, f"nothing new: {library.current()} stays in use\n"))
             self.expect("back", (library.run("--back")[0], library.names(), library.weeks_served()), (0, small, {"A"}))
             self.expect("forward", (library.run()[0], len(library.names())), (0, 6))
@@ -272,6 +351,7 @@ class GoodWeeks(Case):
             os.rename(library.input.path("targets.tsv"), library.input.path("other.tsv"))
             status, printed = library.run()
             self.expect("no list", status, 4)
-            self.expect_lines("no list", printed,
-                              f"openlink-update: {library.input.path('targets.tsv')}: No such file or directory")
+            self.expect_lines(
+                "no list", printed, f"openlink-update: {library.input.path('targets.tsv')}: No such file or directory"
+            )
             self.expect("a site without ports", library.run("--site", "/dev/null")[0], 4)

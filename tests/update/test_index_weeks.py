@@ -9,6 +9,7 @@ import shutil
 from fixtures import needs
 from fixtures.cases import Case
 from fixtures.library import Library
+from fixtures.made_titles import issn
 from fixtures.weeks import TITLE
 
 LIST = "js_var $openlink_list {};"
@@ -38,16 +39,21 @@ class IndexWeeks(Case):
             first = library.current()
             library.input.replace("coastal-law.txt", "Papers on Piers", "Papers on Quays")
             status, printed = library.run()
-            self.expect("a probe whose title has gone", (status, library.current(), targets(library)),
-                        (3, first, ["coastal-law"]))
+            self.expect(
+                "a probe whose title has gone",
+                (status, library.current(), targets(library)),
+                (3, first, ["coastal-law"]),
+            )
             self.expect_lines("a probe whose title has gone", printed, "  missing coastal-law: no row")
             library.input.write("probes.tsv", b"title=papers+on+quays&volume=5&date=1994\tcoastal-law\n")
             status, printed = library.run()
             self.expect(f"the title of the second week: {printed}", (status, targets(library)), (0, []))
             self.expect("by its new name", targets(library, BY_TITLE.replace("piers", "quays")), ["coastal-law"])
-            self.expect("the links of both versions are known",
-                        [line for line in printed.splitlines() if " gains " in line],
-                        ["  gains coastal-law https://coastal.example.com/journals/pp"])
+            self.expect(
+                "the links of both versions are known",
+                [line for line in printed.splitlines() if " gains " in line],
+                ["  gains coastal-law https://coastal.example.com/journals/pp"],
+            )
             self.expect("back", (library.run("--back")[0], targets(library)), (0, ["coastal-law"]))
 
     def test_format(self) -> None:
@@ -63,15 +69,21 @@ class IndexWeeks(Case):
             with open(library.path("current", "index", "format"), "w") as file:
                 file.write("0 list\n")
             status, printed = library.run()
-            self.expect(f"an older format: {printed}", (status, library.current() != first, targets(library)),
-                        (0, True, ["coastal-law"]))
+            self.expect(
+                f"an older format: {printed}",
+                (status, library.current() != first, targets(library)),
+                (0, True, ["coastal-law"]),
+            )
             second = library.current()
             self.expect("nothing new", library.run(), (0, f"nothing new: {second} stays in use\n"))
             shutil.rmtree(library.path("current", "index"))
             self.expect("a version without an index", targets(library), [])
             status, printed = library.run()
-            self.expect(f"then one with it: {printed}", (status, library.current() != second, targets(library)),
-                        (0, True, ["coastal-law"]))
+            self.expect(
+                f"then one with it: {printed}",
+                (status, library.current() != second, targets(library)),
+                (0, True, ["coastal-law"]),
+            )
 
     def test_switch(self) -> None:
         """The list of titles is in the index unless the site is without it."""
@@ -87,15 +99,16 @@ class IndexWeeks(Case):
                     file.write(site.replace(LIST.format("on"), LIST.format(state)))
                 before = library.current()
                 status, printed = library.run()
-                self.expect(f"{state}: {printed}", (status, library.current() != before, names_of(library)),
-                            (0, True, expected))
+                self.expect(
+                    f"{state}: {printed}", (status, library.current() != before, names_of(library)), (0, True, expected)
+                )
                 self.expect(f"titles are found, {state}", targets(library), ["coastal-law"])
                 self.expect(f"nothing new, {state}", library.run()[0], 0)
 
     def test_title_pages(self) -> None:
         """Rules without a link for a title alone are said, and readers get the addresses of their rows, which go back
         with the version."""
-        query = "/find.json?rft.genre=journal&rft.issn=3030-0009"
+        query = "/find.json?rft.genre=journal&rft.issn=3030-0002"
 
         def pages(library: Library) -> list[str]:
             return [page["url"] for page in json.loads(library.site.get(query).text).get("pages", [])]
@@ -103,14 +116,18 @@ class IndexWeeks(Case):
         with Library() as library:
             self.expect("a rule has a link", (targets(library, query), pages(library)), (["coastal-law"], []))
             rules = library.input.read("coastal-law.rules").decode()
-            library.input.write("coastal-law.rules", rules[:rules.rindex("rule\n")].encode())
+            library.input.write("coastal-law.rules", rules[: rules.rindex("rule\n")].encode())
             status, printed = library.run()
-            self.expect(f"none has: {printed}", (status, targets(library, query), pages(library)),
-                        (0, [], ["https://press.example.com/pp"]))
+            self.expect(
+                f"none has: {printed}",
+                (status, targets(library, query), pages(library)),
+                (0, [], ["https://press.example.com/pp"]),
+            )
             said = 'coastal-law: no link without a date for journals, such as "Review of Coastal Law"'
             self.expect_lines("none has", printed, said)
-            self.expect("back", (library.run("--back")[0], targets(library, query), pages(library)),
-                        (0, ["coastal-law"], []))
+            self.expect(
+                "back", (library.run("--back")[0], targets(library, query), pages(library)), (0, ["coastal-law"], [])
+            )
 
     def test_abbreviations(self) -> None:
         """The library's own list: it goes forward and back with the version, and a slip is said."""
@@ -121,8 +138,12 @@ class IndexWeeks(Case):
             status, printed = library.run()
             self.expect(f"with one: {printed}", (status, targets(library, query)), (0, ["coastal-law"]))
             place = library.input.path("abbreviations.tsv")
-            self.expect_lines("what is wrong", printed, "abbreviations.tsv: no table has None",
-                              f"{place}: line 3: not an abbreviation and a title with a tab between them")
+            self.expect_lines(
+                "what is wrong",
+                printed,
+                "abbreviations.tsv: no table has None",
+                f"{place}: line 3: not an abbreviation and a title with a tab between them",
+            )
             self.expect("nothing new", library.run()[1].splitlines()[-1][:11], "nothing new")
             library.input.write("abbreviations.tsv", b"PoP\t\xff\n")
             status, printed = library.run()
@@ -135,8 +156,13 @@ class IndexWeeks(Case):
     def test_many_titles(self) -> None:
         """As many titles as make a file in most places of keys/: all are there once the version is in use."""
         with Library() as library:
-            rows = [TITLE.replace("Papers on Piers", f"Papers {number}").replace("3030-0009", f"{4000000 + number}X")
-                    .replace("3030-0017", "").encode() for number in range(3000)]
+            rows = [
+                TITLE.replace("Papers on Piers", f"Papers {number}")
+                .replace("3030-0002", issn(4000000 + number))
+                .replace("3030-0010", "")
+                .encode()
+                for number in range(3000)
+            ]
             library.input.allowed["coastal-law"] = "came up to 150000%"
             library.input.write_list()
             library.input.add_row("coastal-law", b"\n".join(rows))

@@ -104,7 +104,7 @@ class PowerCuts(Case):
         on the disk before the next step. A sync that is left out is seen."""
         with Library(probes=2) as library:
             library.input.deliver("B")
-            library.input.add_row("coastal-law", b"Walls\t3040-0005\t\t2000\t\t\t\t\t\thttps://x.example.org\t\tw\tP9M")
+            library.input.add_row("coastal-law", b"Walls\t3040-0007\t\t2000\t\t\t\t\t\thttps://x.example.org\t\tw\tP9M")
             for name, options, syncs in (
                 ("a week", (), 7),
                 ("back", ("--back",), 3),
@@ -150,9 +150,7 @@ class Fetched(Case):
             trace = Trace(f"{aside}/calls", folder.top)
             status, printed = folder.fetch(before=trace.before)
             calls = trace.calls()
-        self.expect(
-            f"two files: {printed}", (status, left(trace.losses(folder.top, calls))), (0, Losses([], [], []))
-        )
+        self.expect(f"two files: {printed}", (status, left(trace.losses(folder.top, calls))), (0, Losses([], [], [])))
         spoilt = without_each_sync(trace, folder.top, calls)
         self.expect("calls that wait for the disk", len(spoilt), 8)  # file and folder, of two files and two states
         for place, losses in spoilt:

@@ -50,16 +50,18 @@ class Renames(Case):
                     number += 1
                     status, printed = library.run()
                     week = OTHER[week]
-                    self.expect(f"{name}, the run after {number - 1}: {printed}",
-                                (status, library.weeks_served(), library.left_behind()),
-                                (0, {week}, []))
+                    self.expect(
+                        f"{name}, the run after {number - 1}: {printed}",
+                        (status, library.weeks_served(), library.left_behind()),
+                        (0, {week}, []),
+                    )
                 self.expect(f"{name}: moments", (moments, number), (expected, expected + 1))
 
     def test_walls_killed_at_renames(self) -> None:
         """SIGKILL around the last renames of a run that moves walls, when the new version takes the place of
         another."""
         with Library(probes=5) as library:
-            row = "Walls\t3040-0005\t\t2000\t\t\t\t\t\thttps://x.example.org\t\tw\tP9M"
+            row = "Walls\t3040-0007\t\t2000\t\t\t\t\t\thttps://x.example.org\t\tw\tP9M"
             library.input.add_row("coastal-law", row.encode())
             self.expect("a wall of months", library.run()[0], 0)
             number, moments = 14, None
@@ -67,11 +69,17 @@ class Renames(Case):
                 age_walls(library)
                 moments = killed_at(library, number, "--walls")
                 served(self, f"walls, killed at moment {number}", library)
-                whole = [os.path.exists(library.path("versions", name, "index", "format"))
-                         for name in library.versions() if not name.endswith(".new")]
+                whole = [
+                    os.path.exists(library.path("versions", name, "index", "format"))
+                    for name in library.versions()
+                    if not name.endswith(".new")
+                ]
                 self.expect(f"walls, complete versions after {number}", set(whole), {True})
                 number += 1
                 status, printed = library.run("--walls")
-                self.expect(f"walls, the run after {number - 1}: {printed}",
-                            (status, library.weeks_served(), library.left_behind()), (0, {"A"}, []))
+                self.expect(
+                    f"walls, the run after {number - 1}: {printed}",
+                    (status, library.weeks_served(), library.left_behind()),
+                    (0, {"A"}, []),
+                )
             self.expect("walls: moments", (moments, number), (22, 23))

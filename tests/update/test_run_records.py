@@ -1,5 +1,5 @@
-"""The record of each run, in the folder `runs` of the library: what became of each target, and of the run; that strangers'
-texts stay texts; and that a record that cannot be written, or is damaged, stops nothing."""
+"""The record of each run, in the folder `runs` of the library: what became of each target, and of the run; that
+strangers' texts stay texts; and that a record that cannot be written, or is damaged, stops nothing."""
 from __future__ import annotations
 
 import json
@@ -17,7 +17,7 @@ from openlink_update import run_records
 from openlink_update.run_records import Recorder
 from openlink_update.versions import library as libraries
 
-HOSTILE = "a\x1b[31m\u202e<script>\n\"}]," + "\U0001f600" * 10_000
+HOSTILE = 'a\x1b[31m\u202e<script>\n"}],' + "\U0001f600" * 10_000
 
 
 def records(library: Library) -> list[dict[str, Any]]:
@@ -61,12 +61,21 @@ class RunRecords(Case):
             library.write_targets()
             self.expect("the fourth run", library.update()[0], 0)
             found = records(library)
-            self.expect("the records", [(it["work"], it["status"]) for it in found],
-                        [("update", 1), ("update", 1), ("update", 0), ("update", 0)])
-            self.expect("new", states(found[0]),
-                        {"good": ("new", 2, 0, 0), "bad": ("new", 2, 0, 0), "none": ("left out", 0, 0, 0)})
-            self.expect("kept", states(found[1]),
-                        {"good": ("changed", 3, 1, 0), "bad": ("kept", 2, 0, 0), "none": ("left out", 0, 0, 0)})
+            self.expect(
+                "the records",
+                [(it["work"], it["status"]) for it in found],
+                [("update", 1), ("update", 1), ("update", 0), ("update", 0)],
+            )
+            self.expect(
+                "new",
+                states(found[0]),
+                {"good": ("new", 2, 0, 0), "bad": ("new", 2, 0, 0), "none": ("left out", 0, 0, 0)},
+            )
+            self.expect(
+                "kept",
+                states(found[1]),
+                {"good": ("changed", 3, 1, 0), "bad": ("kept", 2, 0, 0), "none": ("left out", 0, 0, 0)},
+            )
             self.expect("as before", states(found[2]), {"good": ("unchanged", 3, 0, 0), "bad": ("unchanged", 2, 0, 0)})
             self.expect("gone", states(found[3])["bad"], ("gone", 0, 0, 0))
             reasons = next(it["lines"] for it in found[1]["targets"] if it["name"] == "bad")
@@ -83,15 +92,17 @@ class RunRecords(Case):
             library.write_targets()
             Path(library.library, "runs").write_text("")
             status, printed = library.update()
-            self.expect("the run", (status, f"no record of this run: {library.library}/runs: File exists" in printed),
-                        (0, True))
+            self.expect(
+                "the run", (status, f"no record of this run: {library.library}/runs: File exists" in printed), (0, True)
+            )
             self.expect("the version", library.served("registry.tsv") is None, False)
             os.unlink(f"{library.library}/runs")
             os.mkdir(f"{library.library}/runs")
             Path(library.library, "runs/20260101T000000Z.update.json").write_text('{"begun": [[[[')
             self.expect("beside a damaged one", library.update()[0], 0)
-            self.expect("trials have none", (library.update("--dry-run")[0], len(os.listdir(f"{library.library}/runs"))),
-                        (0, 2))
+            self.expect(
+                "trials have none", (library.update("--dry-run")[0], len(os.listdir(f"{library.library}/runs"))), (0, 2)
+            )
 
     def test_last_twelve_of_a_kind(self) -> None:
         with Library() as library:
@@ -119,12 +130,18 @@ class RunRecords(Case):
             run_notes.note_fetch(HOSTILE, HOSTILE)
             run_notes.note_probe(run_notes.ProbeResult(7, HOSTILE, HOSTILE, True))
             run_notes.hear(None)
-            broken = [(kind, text) for kind in ("target", "fetch", "probe", "line", "other")
-                      for text in ("", "[", "null", "7", "[" * 5000, '{"name": 7}', '{"state": "new"}', "[[]]")]
+            broken = [
+                (kind, text)
+                for kind in ("target", "fetch", "probe", "line", "other")
+                for text in ("", "[", "null", "7", "[" * 5000, '{"name": 7}', '{"state": "new"}', "[[]]")
+            ]
             record = made(Path(library.library), ("line", HOSTILE), *broken, *heard)
             texts = [*record.lines, *record.targets[0].lines, *record.fetches[-1], record.probes[0].query]
-            self.expect("a target", (len(record.targets), record.targets[0].state, len(record.targets[0].lines)),
-                        (1, "kept", 21))
+            self.expect(
+                "a target",
+                (len(record.targets), record.targets[0].state, len(record.targets[0].lines)),
+                (1, "kept", 21),
+            )
             self.expect("texts", len(texts) > 12, True)
             self.expect("controls", [it for it in texts if not it.isprintable()], [])
             self.expect("their length", max(map(len, texts)) <= 502, True)

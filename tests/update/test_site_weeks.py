@@ -38,8 +38,9 @@ def shows(library, text):
 def put_in_use(library):
     """Edits the site as an operator does, so that it names the targets.json of the version in use."""
     site = library.site
-    site.edit((f"targets from {site.path('openlink/targets.json')};",
-               f"targets from {library.path('current')}/targets.json;"))
+    site.edit(
+        (f"targets from {site.path('openlink/targets.json')};", f"targets from {library.path('current')}/targets.json;")
+    )
 
 
 def cells_in(library, *names):
@@ -57,16 +58,22 @@ class SiteWeeks(Case):
             library.input.write("targets.json", labelled("One"))
             status, printed = library.run()
             self.expect(f"not yet in use: {printed}", (status, label(library)), (0, "Coastal Law Society"))
-            self.expect_lines("not yet in use", printed,
-                              f"{path} is not in use: {library.site.path('openlink.conf')} names "
-                              f"{library.site.path('openlink/targets.json')}")
+            self.expect_lines(
+                "not yet in use",
+                printed,
+                f"{path} is not in use: {library.site.path('openlink.conf')} names "
+                f"{library.site.path('openlink/targets.json')}",
+            )
             put_in_use(library)
             self.expect("in use", shows(library, "One"))
             first = library.current()
             library.input.write("targets.json", labelled("Two"))
             status, printed = library.run()
-            self.expect(f"another label alone: {printed}", (status, library.current() != first, shows(library, "Two")),
-                        (0, True, True))
+            self.expect(
+                f"another label alone: {printed}",
+                (status, library.current() != first, shows(library, "Two")),
+                (0, True, True),
+            )
             second = library.current()
             # The sample's targets.json names targets that this library lacks, which is said first.
             status, printed = library.run()
@@ -76,16 +83,24 @@ class SiteWeeks(Case):
             second = library.current()
             library.input.write("targets.json", labelled("Three", group=[]))
             status, printed = library.run()
-            self.expect(f"a wrong one: {printed}", (status, library.current(), shows(library, "Two")),
-                        (1, second, True))
-            self.expect_lines("a wrong one", printed, "targets.json: the old one is kept",
-                              f'  {path}: unknown name "group"',
-                              f"nothing new: {second} stays in use; old files of targets.json kept")
+            self.expect(
+                f"a wrong one: {printed}", (status, library.current(), shows(library, "Two")), (1, second, True)
+            )
+            self.expect_lines(
+                "a wrong one",
+                printed,
+                "targets.json: the old one is kept",
+                f'  {path}: unknown name "group"',
+                f"nothing new: {second} stays in use; old files of targets.json kept",
+            )
             hidden = [{"name": "Full text", "onlyWithout": "In the library"}, *sample()["groups"][1:]]
             library.input.write("targets.json", labelled("Four", groups=hidden))
             status, printed = library.run()
-            self.expect(f"links that a probe lacks: {printed}", (status, library.current(), shows(library, "Two")),
-                        (3, second, True))
+            self.expect(
+                f"links that a probe lacks: {printed}",
+                (status, library.current(), shows(library, "Two")),
+                (3, second, True),
+            )
             os.unlink(path)
             library.input.deliver("B")
             status, printed = library.run()
@@ -101,11 +116,16 @@ class SiteWeeks(Case):
             library.input.write("targets.json", labelled("Two"))
             status, printed = library.run("--reload", "false")
             self.expect(f"a reload that fails: {printed}", (status, library.current()), (3, first))
-            self.expect_lines("a reload that fails", printed, "openlink-update: false: status 1, no message",
-                              f"{first} again: false: status 1, no message")
+            self.expect_lines(
+                "a reload that fails",
+                printed,
+                "openlink-update: false: status 1, no message",
+                f"{first} again: false: status 1, no message",
+            )
             status, printed = library.run()
-            self.expect(f"the run after it: {printed}", (status, shows(library, "Two"), library.left_behind()),
-                        (0, True, []))
+            self.expect(
+                f"the run after it: {printed}", (status, shows(library, "Two"), library.left_behind()), (0, True, [])
+            )
 
     def test_exports(self) -> None:
         """Each version has the holdings for others, as they were in its week."""
@@ -113,14 +133,18 @@ class SiteWeeks(Case):
             titles = [it[0] for it in cells_in(library, "kbart.txt")]
             self.expect("KBART", ("Annals of Tidal Studies" in titles, "Papers on Piers" in titles), (True, True))
             self.expect("a spreadsheet", "Papers on Piers" in [it[0] for it in cells_in(library, "titles.tsv")])
-            self.expect("Google Scholar", sorted(os.listdir(library.path("current", "export", "scholar"))),
-                        ["holdings-1.xml", "links.xml"])
+            self.expect(
+                "Google Scholar",
+                sorted(os.listdir(library.path("current", "export", "scholar"))),
+                ["holdings-1.xml", "links.xml"],
+            )
             library.input.replace("coastal-law.txt", "Papers on Piers", "Papers on Quays")
             self.expect("another week", library.run()[0], 0)
             for names in (("kbart.txt",), ("titles.tsv",), ("scholar", "holdings-1.xml")):
                 with open(library.path("current", "export", *names), encoding="utf-8") as file:
                     text = file.read()
-                self.expect(f"{names[-1]} of that week", ("Papers on Quays" in text, "Papers on Piers" in text),
-                            (True, False))
+                self.expect(
+                    f"{names[-1]} of that week", ("Papers on Quays" in text, "Papers on Piers" in text), (True, False)
+                )
             library.run("--back")
             self.expect("the week before", "Papers on Piers" in [it[0] for it in cells_in(library, "kbart.txt")])

@@ -16,7 +16,7 @@ import sys
 EARLY, UNPROVED = "sources", "unproved"
 MODULE = "tools/run_tests/module.py"
 # A package whose modules import one of Debian's, which another Python than Debian's may lack.
-WITH_MODULE = {"properties": "hypothesis"}
+WITH_MODULE = {"desk": "jinja2", "properties": "hypothesis"}
 _DEBIANS = "/usr/bin/python3"
 
 

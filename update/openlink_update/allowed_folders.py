@@ -6,14 +6,14 @@ import os
 import stat
 from pathlib import Path
 
-from openlink_update.input_files import lines_in
+from openlink_update.input_files import Line, lines_in
 
 _MOST_BYTES = 65_536
 _FILE = os.O_RDONLY | os.O_NOFOLLOW | os.O_NONBLOCK | os.O_NOCTTY
 
 
-def read(path: Path) -> tuple[list[Path], list[str]]:
-    """The folders of a list, none if there is no list, and a line for each error in it."""
+def lines_of_root(path: Path) -> tuple[list[Line], list[str]]:
+    """The lines of a list that only root could have written, none if there is no list, and why it is not used."""
     try:
         with open(os.open(path, _FILE), "rb") as file:
             if not _is_of_root(os.fstat(file.fileno())):
@@ -21,14 +21,19 @@ def read(path: Path) -> tuple[list[Path], list[str]]:
             data = file.read(_MOST_BYTES + 1)
             if len(data) > _MOST_BYTES:
                 return [], [f"{path}: not used: more than {_MOST_BYTES:,} bytes"]
-            lines = list(lines_in(data))
+            return list(lines_in(data)), []
     except FileNotFoundError:
         return [], []
     except OSError as fault:
         return [], [f"{path}: not used: {fault.strerror}"]
     except UnicodeDecodeError:
         return [], [f"{path}: not used: not UTF-8"]
-    folders, faults = [], []
+
+
+def read(path: Path) -> tuple[list[Path], list[str]]:
+    """The folders of a list, none if there is no list, and a line for each error in it."""
+    lines, faults = lines_of_root(path)
+    folders = list[Path]()
     for line in lines:
         folder = line.cells[0].strip()
         if len(line.cells) == 1 and os.path.isabs(folder):

@@ -13,6 +13,7 @@ from openlink_update import run_notes
 
 # Controls of ASCII but the end of a line, those of Latin-1, and those that end a line or set its direction.
 _UNSAFE = re.compile("[\x00-\x09\x0b-\x1f\x7f-\x9f\u061c\u200e\u200f\u2028-\u202e\u2066-\u2069]")
+_MOST_OF_A_LINE = 8000  # characters that are printed: the journal divides lines of more than 48 KB
 _FORMULA = tuple("=+-@＝＋－＠")  # how a cell begins that some spreadsheets run as a formula
 
 
@@ -38,6 +39,17 @@ def lines_of_counts(*counts: Count) -> list[str]:
 def printable(text: str) -> str:
     """A text that is safe to print: a tab is a space, and other characters that are not safe are question marks."""
     return _UNSAFE.sub("?", text.replace("\t", " "))
+
+
+def lines_to_print(text: str) -> str:
+    """A text as it is printed and sent by mail. No line begins with ~, after which some mail programs read a command,
+    and none is so long that the journal divides it, since its second part could begin so."""
+    return "\n".join(map(_line_to_print, printable(text).split("\n")))
+
+
+def _line_to_print(line: str) -> str:
+    line = f" {line}" if line.startswith("~") else line
+    return line if len(line) <= _MOST_OF_A_LINE else f"{line[:_MOST_OF_A_LINE]}.."
 
 
 def line_of(text: str, most: int = 500) -> str:
@@ -68,10 +80,11 @@ def prepare_streams() -> None:
 
 
 def report(line: str, stream: str = "stdout") -> None:
-    """Prints a line, without the controls that a table or a server may have put in it, and notes it for the record of
-    the run. That nobody reads it, or that it cannot be written, does not end a run."""
-    run_notes.note(run_notes.LINE, printable(line))
-    _print(printable(line), stream)
+    """Prints a line, without the controls and commands that a table or a server may have put in it, and notes it for
+    the record of the run. That nobody reads it, or that it cannot be written, does not end a run."""
+    text = lines_to_print(line)
+    run_notes.note(run_notes.LINE, text)
+    _print(text, stream)
 
 
 def report_cells(*cells: str) -> None:

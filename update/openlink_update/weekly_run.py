@@ -3,6 +3,7 @@ import contextlib
 import dataclasses
 import datetime
 import functools
+import os
 from collections.abc import Callable, Sequence
 from pathlib import Path
 
@@ -11,9 +12,9 @@ from openlink_update.exports import export_files
 from openlink_update.fetch import sources
 from openlink_update.index import abbreviations
 from openlink_update.input_files import InputFolder
-from openlink_update.outcome import ALL_NEW, DEVICE, KEPT, Failure, ignore_signals
+from openlink_update.outcome import ALL_NEW, DEVICE, KEPT, Failure, Unreadable, ignore_signals
 from openlink_update.received import archives
-from openlink_update.rights import handover
+from openlink_update.rights import filters, handover
 from openlink_update.rights.lent_files import Lent
 from openlink_update.rights.sandbox import Job, Parent, Sandbox, input_by
 from openlink_update.run_notes import ProbeResult
@@ -78,6 +79,8 @@ class Run:
         if it has several."""
         self.library, self.sandbox, self.others = library, sandbox, others
         self._of_all: Sandbox | None = None  # that of the user who prepares what is shared
+        self._of_filters: Sandbox | None = None  # that of the user who runs filters
+        self._among = options.among or options.library
         self.processes = Processes(site.ports, options.restart, options.reload, options.seconds)
         self._program, self._site = options.program, site
         self.names_file = NamesFile(site, library.path("current"))
@@ -159,8 +162,9 @@ class Run:
         def work(parent: Parent) -> str:
             return self._make(plan, unfinished, older, parent)
 
-        lent = (*received, *inputs)
-        text = self.sandbox.run(Job(work, (unfinished,), lent, has_network=False, shared=self._shared_table))
+        lent, filtered = (*received, *inputs), functools.partial(self._filtered, plan.folder)
+        job = Job(work, (unfinished,), lent, has_network=False, shared=self._shared_table, filtered=filtered)
+        text = self.sandbox.run(job)
         if self.sandbox.number is not None and text.startswith(_NEW):
             handover.take(unfinished, self.sandbox.number)
             _check_sizes(unfinished)
@@ -174,6 +178,17 @@ class Run:
             self._of_all = self.sandbox.other(self.library.folder.parent, "shared")
         return shared_tables.for_library(files, self._of_all)
 
+    def _filtered(self, folder: InputFolder, name: str, data: bytes) -> bytes:
+        """What a filter of the library gives for the bytes of a file. Unreadable if root has not allowed it, or if it
+        fails."""
+        program, place = filters.program_of(folder, name), filters.Place(self.library.path("filter"))
+        limits = filters.limits_in(place.folder)
+        if self._of_filters is None and self.sandbox.number is not None:
+            self._of_filters = self.sandbox.other(Path(self._among), f"{self.library.folder} filter", limits)
+        elif self._of_filters is None and os.geteuid() == 0:
+            raise Unreadable("no user is free who could run it, and root does not")
+        return filters.filtered(place, program, data, self._of_filters or Sandbox(None, limits))
+
     def _make(self, plan: "_Plan", unfinished: Path, older: Path | None, parent: Parent) -> str:
         folder, received = input_by(parent, plan.folder), None
         if self.sandbox.number is not None:
@@ -182,7 +197,7 @@ class Run:
         if older:
             received = parent.lent(making.received_in(older))
         program = Program(self._program, unfinished)
-        maker = Maker(unfinished, older, program, datetime.date.today(), report, received)
+        maker = Maker(unfinished, older, program, datetime.date.today(), report, received, parent.filtered)
         word = plan.make(maker, folder)
         if word == _NO_WALLS:
             return word

@@ -31,9 +31,13 @@ def install(program, scratch):
     installation.install(SHARED)
     commands = f"{scratch}/bin"
     os.mkdir(commands)
-    for name, path in (("openlink", program), ("openlink-update", f"{SHARED}/update"),
-                       ("openlink-library", f"{SHARED}/library"), ("openlink-probe", f"{SHARED}/probe"),
-                       ("systemctl", f"{HERE}/systemctl")):
+    for name, path in (
+        ("openlink", program),
+        ("openlink-update", f"{SHARED}/update"),
+        ("openlink-library", f"{SHARED}/library"),
+        ("openlink-probe", f"{SHARED}/probe"),
+        ("systemctl", f"{HERE}/systemctl"),
+    ):
         os.symlink(path, f"{commands}/{name}")
     return commands
 
@@ -42,15 +46,21 @@ class Host:
     def __init__(self, number, scratch, commands):
         self.name, self.address, self.veth = f"host{number}", f"{NETWORK}.1.{number}", f"v{number}"
         self.folder, self.commands, self.is_reached = f"{scratch}/host{number}", commands, True
-        self.environment = {**os.environ, "PATH": f"{commands}:{os.environ['PATH']}:/usr/sbin:/sbin",
-                            "CONSORTIUM": scratch}
+        self.environment = {
+            **os.environ,
+            "PATH": f"{commands}:{os.environ['PATH']}:/usr/sbin:/sbin",
+            "CONSORTIUM": scratch,
+        }
         os.mkdir(self.folder)
         shutil.copytree("/etc", f"{self.folder}/etc", symlinks=True)
         for name in ("log", "lib"):
             os.mkdir(f"{self.folder}/{name}")
         self.write_nginx()
-        self.child = subprocess.Popen(["unshare", "--net", "--mount", "--propagation", "private", "sh", "-c",
-                                       self.mounts()], stdout=subprocess.PIPE, env=self.environment)
+        self.child = subprocess.Popen(
+            ["unshare", "--net", "--mount", "--propagation", "private", "sh", "-c", self.mounts()],
+            stdout=subprocess.PIPE,
+            env=self.environment,
+        )
         self.child.stdout.readline()
         self.space = os.stat(f"/proc/{self.child.pid}/ns/net").st_ino
         with open(f"{scratch}/{self.name}.pid", "w") as file:
@@ -81,8 +91,11 @@ class Host:
     def lay_link(self):
         do("ip", "link", "add", self.veth, "type", "veth", "peer", "name", "eth0", "netns", str(self.child.pid))
         do("ip", "link", "set", self.veth, "master", BRIDGE, "up")
-        for words in (("ip", "link", "set", "lo", "up"), ("ip", "link", "set", "eth0", "up"),
-                      ("ip", "addr", "add", f"{self.address}/16", "dev", "eth0")):
+        for words in (
+            ("ip", "link", "set", "lo", "up"),
+            ("ip", "link", "set", "eth0", "up"),
+            ("ip", "addr", "add", f"{self.address}/16", "dev", "eth0"),
+        ):
             self.inside(*words)
 
     def words(self, *words):
@@ -97,8 +110,15 @@ class Host:
 
     def run(self, *words):
         """The status of a command on this host, and what it says."""
-        done = subprocess.run(self.words(*words), cwd="/", env=self.environment, stdin=subprocess.DEVNULL,
-                              stdout=subprocess.PIPE, stderr=subprocess.STDOUT, text=True)
+        done = subprocess.run(
+            self.words(*words),
+            cwd="/",
+            env=self.environment,
+            stdin=subprocess.DEVNULL,
+            stdout=subprocess.PIPE,
+            stderr=subprocess.STDOUT,
+            text=True,
+        )
         return done.returncode, done.stdout
 
     def cut(self):
@@ -179,10 +199,12 @@ class Haproxy:
             text = text.replace(f"192.0.2.2{number}:", f"{host.address}:")
         text = re.sub(r"^    (log|chroot|user|group) .*\n", "", text, flags=re.M)
         with open(self.path, "w") as file:
-            file.write(text.replace("/run/haproxy/admin.sock mode 660", self.socket)
-                       .replace("bind :80", f"bind {BALANCER}:80"))
-        self.child = subprocess.Popen(["haproxy", "-W", "-f", self.path], stdout=subprocess.DEVNULL,
-                                      stderr=subprocess.DEVNULL)
+            file.write(
+                text.replace("/run/haproxy/admin.sock mode 660", self.socket).replace("bind :80", f"bind {BALANCER}:80")
+            )
+        self.child = subprocess.Popen(
+            ["haproxy", "-W", "-f", self.path], stdout=subprocess.DEVNULL, stderr=subprocess.DEVNULL
+        )
 
     def reload(self):
         self.child.send_signal(signal.SIGUSR2)

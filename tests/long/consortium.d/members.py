@@ -39,14 +39,26 @@ class Member:
     def write_first(self):
         """The lists of its input, which the weeks do not change, and its first files. Returns the first state."""
         os.makedirs(self.folder, exist_ok=True)
-        self.write("targets.tsv", "".join(f"{it.name}\t{it.name}.rules\t{it.file}\tgone up to 50%\n"
-                                          for it in self.providers) + "loan\tloan.rules\tANY.tsv\n")
+        self.write(
+            "targets.tsv",
+            "".join(f"{it.name}\t{it.name}.rules\t{it.file}\tgone up to 50%\n" for it in self.providers)
+            + "loan\tloan.rules\tANY.tsv\n",
+        )
         self.write("ANY.tsv", "print_identifier\nANY\n")
         self.write("loan.rules", links.LOAN_RULES)
-        self.write("targets.json", json.dumps({
-            "groups": [{"name": FULL}, {"name": LOANS, "onlyWithout": FULL}], "words": {"library": self.name},
-            "targets": {**{it.name: {"label": self.label(it), "group": FULL} for it in self.providers},
-                        LOAN: {"label": "Loan", "group": LOANS}}}))
+        self.write(
+            "targets.json",
+            json.dumps(
+                {
+                    "groups": [{"name": FULL}, {"name": LOANS, "onlyWithout": FULL}],
+                    "words": {"library": self.name},
+                    "targets": {
+                        **{it.name: {"label": self.label(it), "group": FULL} for it in self.providers},
+                        LOAN: {"label": "Loan", "group": LOANS},
+                    },
+                }
+            ),
+        )
         return self.advance()
 
     def advance(self, broken=None):

@@ -59,7 +59,8 @@ class Visitor(threading.Thread):
         others = set(re.findall(r"lib-\d+", str(reply))) - {self.member.name}
         (self.strange if others else self.wrong).append(
             f"{self.member.name} {kind}?{request.query()}: {str(reply)[:600]}\n  right are: "
-            f"{[[link[:4] for link in state.links(request)] for state in states]}")
+            f"{[[link[:4] for link in state.links(request)] for state in states]}"
+        )
 
     def reply(self, target):
         peer = http.client.HTTPConnection(*self.balancer, timeout=SECONDS, source_address=(self.address, 0))
@@ -75,15 +76,20 @@ class Visitors:
     """All readers, and what they met in a trial."""
 
     def __init__(self, members, addresses, balancer, pause):
-        self.all = [Visitor(number, members[number % len(members)], address, balancer, pause)
-                    for number, address in enumerate(addresses)]
+        self.all = [
+            Visitor(number, members[number % len(members)], address, balancer, pause)
+            for number, address in enumerate(addresses)
+        ]
         self.begun, self.before = 0, {}
         for it in self.all:
             it.start()
 
     def counts(self):
-        return {"replies": sum(it.replies for it in self.all), "wrong": sum(len(it.wrong) for it in self.all),
-                "strange": sum(len(it.strange) for it in self.all)}
+        return {
+            "replies": sum(it.replies for it in self.all),
+            "wrong": sum(len(it.wrong) for it in self.all),
+            "strange": sum(len(it.strange) for it in self.all),
+        }
 
     def begin(self):
         """Begins a trial."""
@@ -98,8 +104,12 @@ class Visitors:
         faults = [(end - start, why) for it in self.all for start, end, why in list(it.faults) if end >= self.begun]
         faults += [(now - it.since[0], it.since[1]) for it in self.all if it.since]
         seconds = sorted(time_ for it in self.all for time_ in list(it.seconds))
-        return {**found, "faults": sorted(faults, reverse=True), "median": seconds[len(seconds) // 2] if seconds else 0,
-                "slowest": seconds[-1] if seconds else 0}
+        return {
+            **found,
+            "faults": sorted(faults, reverse=True),
+            "median": seconds[len(seconds) // 2] if seconds else 0,
+            "slowest": seconds[-1] if seconds else 0,
+        }
 
     def examples(self):
         return [text for it in self.all for text in (*it.strange, *it.wrong)]

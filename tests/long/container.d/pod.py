@@ -51,10 +51,16 @@ def variables_of(found, folder):
     pod = found.of("Deployment")[0]["spec"]["template"]["spec"]
     container = pod["containers"][0]
     host, port = address_of(found)
-    return {"host": host, "port": str(port), "name": container["name"], "image": container["image"],
-            "version_image": pod["initContainers"][0]["image"], "library": library_of(folder),
-            "workers": workers_of(container, os.cpu_count()),
-            "probes": "\n".join(shlex.join(container[name]["exec"]["command"]) for name in PROBES)}
+    return {
+        "host": host,
+        "port": str(port),
+        "name": container["name"],
+        "image": container["image"],
+        "version_image": pod["initContainers"][0]["image"],
+        "library": library_of(folder),
+        "workers": workers_of(container, os.cpu_count()),
+        "probes": "\n".join(shlex.join(container[name]["exec"]["command"]) for name in PROBES),
+    }
 
 
 def adapt(spec):

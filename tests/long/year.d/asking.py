@@ -4,9 +4,25 @@ import html, http.client, json, random, re, threading, time
 from links import FULL, Request
 
 SECONDS = 30  # for a reply
+PAGES = "The page of this title"
+COVERAGE = re.compile(r" <span>[^<]*</span>$")  # which the name of a link has
 HEADING = re.compile(r'<h2>(.*?)</h2>|<ul class="actions">|<li><a href="(http[^"]*)">(.*?)</a>')
-DATES = ("1976", "1979-12", "1984-05", "1991-02-03", "2003", "2011-07", "2012-12-31", "2021", "2022-03-01", "2025",
-         "2026-07", "2026-12-15", "2027-05", "")
+DATES = (
+    "1976",
+    "1979-12",
+    "1984-05",
+    "1991-02-03",
+    "2003",
+    "2011-07",
+    "2012-12-31",
+    "2021",
+    "2022-03-01",
+    "2025",
+    "2026-07",
+    "2026-12-15",
+    "2027-05",
+    "",
+)
 BY_TITLE, BY_STRANGER = 0.1, 0.05  # shares of requests by a title, and for what nobody has
 
 
@@ -52,8 +68,11 @@ def json_links(text):
     data = json.loads(text)
     if "groups" not in data:
         raise ValueError(text)
-    return [(group["name"], link["target"], link["label"], link["url"], link.get("coverage"))
-            for group in data["groups"] for link in group["links"]]
+    return [
+        (group["name"], link["target"], link["label"], link["url"], link.get("coverage"))
+        for group in data["groups"]
+        for link in group["links"]
+    ]
 
 
 def page_links(text):
@@ -63,7 +82,7 @@ def page_links(text):
     found, group = [], None
     for heading, address, label in HEADING.findall(text):
         if address and group:
-            found.append((group, html.unescape(label), html.unescape(address)))
+            found.append((group, html.unescape(COVERAGE.sub("", label)), html.unescape(address)))
         else:
             group = html.unescape(heading) or None
     return found
@@ -81,14 +100,22 @@ def state_text(request, span, start, end):
     """A state that was allowed while a reader waited: when, its links, and the rows of the number."""
     state, since, until = span
     until = "on" if until is None else f"to {until - end:+.3f} s from the reply"
-    rows = {name: [(row.first, row.last, row.volume, row.embargo, row.id) for row in rows]
-            for name, rows in state.rows_of(request).items()}
-    return "\n    ".join([f"  right is {state.name}, from {since - start:+.3f} s from the request {until}:",
-                          str([link[:4] for link in state.links(request)]), str(rows)])
+    rows = {
+        name: [(row.first, row.last, row.volume, row.embargo, row.id) for row in rows]
+        for name, rows in state.rows_of(request).items()
+    }
+    return "\n    ".join(
+        [
+            f"  right is {state.name}, from {since - start:+.3f} s from the request {until}:",
+            str([link[:4] for link in state.links(request)]),
+            str(rows),
+        ]
+    )
 
 
-def is_right(kind, reply, expected, is_settled):
-    """Whether a reply is the one for these links. Beside a link may be the coverage of another version meanwhile."""
+def is_right(kind, reply, expected, pages, is_settled):
+    """Whether a reply is the one for these links, and has no other pages of the title. Beside a link may be the coverage
+    of another version meanwhile."""
     status, text, location = reply
     if kind == "/go":
         full = [link for link in expected if link[0] == FULL]
@@ -98,9 +125,14 @@ def is_right(kind, reply, expected, is_settled):
         return False
     if kind == "/find.json":
         links = json_links(text)
-        return ([link[:4] for link in links] == [link[:4] for link in expected]
-                and (not is_settled or [it[4] for it in links] == [coverage_of(it[4]) for it in expected]))
-    return page_links(text) == [(group, label, address) for group, _, label, address, _ in expected]
+        return [link[:4] for link in links] == [link[:4] for link in expected] and (
+            not is_settled or [it[4] for it in links] == [coverage_of(it[4]) for it in expected]
+        )
+    links = page_links(text)
+    if any(group == PAGES and address not in pages for group, _, address in links):
+        return False
+    full = [link for link in links if link[0] != PAGES]
+    return full == [(group, label, address) for group, _, label, address, _ in expected]
 
 
 class Reader(threading.Thread):
@@ -138,13 +170,17 @@ class Reader(threading.Thread):
     def compare(self, kind, request, reply, start, end):
         spans = self.allowed.between(start, end)
         try:
-            if any(is_right(kind, reply, state.links(request), len(spans) == 1) for state, _, _ in spans):
-                return
+            for state, _, _ in spans:
+                if is_right(kind, reply, state.links(request), state.pages(request), len(spans) == 1):
+                    return
         except (ValueError, LookupError) as fault:
             reply = (*reply, repr(fault))
         texts = [state_text(request, span, start, end) for span in spans]
-        self.wrong.append("\n".join([f"{kind}?{request.query()}: {str(reply)[:1500]}",
-                                     f"  the reply took {end - start:.3f} s", *texts]))
+        self.wrong.append(
+            "\n".join(
+                [f"{kind}?{request.query()}: {str(reply)[:1500]}", f"  the reply took {end - start:.3f} s", *texts]
+            )
+        )
 
     def reply(self, target):
         # From an address of its own: nginx goes on counting the connections of a worker that was killed as open.

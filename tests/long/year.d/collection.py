@@ -30,7 +30,7 @@ class Row:
 class Provider:
     name: str
     host: int
-    form: str   # of its files: a name of tables.FORMS
+    form: str  # of its files: a name of tables.FORMS
     rules: str  # a name of links.RULES
     rows: tuple = ()
     edition: int = 1  # of its addresses
@@ -48,7 +48,7 @@ class Collection:
     """The providers as they are in a week; `advance` makes the next one."""
 
     def __init__(self, source, forms, rules):
-        self.source, made = source, Made(seed=source.randrange(10 ** 6), vocabulary=3000)
+        self.source, made = source, Made(seed=source.randrange(10**6), vocabulary=3000)
         self.journals = [self.title(made, number, issn) for number in range(2500)]
         self.books = [self.title(made, number, isbn) for number in range(600)]
         self.stable = self.journals[:STABLE]
@@ -69,8 +69,11 @@ class Collection:
 
     def first_rows(self, provider, number):
         pool = self.books if provider.rules == "books" else self.journals[STABLE:]
-        rows = [row for title in self.source.sample(pool, self.source.randrange(50, 400))
-                for row in self.rows_of(title, f"t{number}")]
+        rows = [
+            row
+            for title in self.source.sample(pool, self.source.randrange(50, 400))
+            for row in self.rows_of(title, f"t{number}")
+        ]
         if provider.rules == "books":
             return rows
         own = [title for place, title in enumerate(self.stable) if place % 5 == number % 5]

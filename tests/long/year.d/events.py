@@ -88,8 +88,10 @@ def full_disk(year, name):
     """A disk with little room: nothing new is used. Then there is room, and all is."""
     empty = year.machine.fill(name, year.source.randrange(MOST_ROOM[name]))
     year.explain_kill()
-    year.expect(r".*(No space left on device|the disk is full or cannot be written).*",
-                r"press-\d\d\.txt: .*(No space|disk is full).*")
+    year.expect(
+        r".*(No space left on device|the disk is full or cannot be written).*",
+        r"press-\d\d\.txt: .*(No space|disk is full).*",
+    )
     try:
         if name == "input":
             year.fetch(status=4)

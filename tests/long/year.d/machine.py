@@ -8,11 +8,21 @@ from fixtures.providers import HOSTS, Providers, sign
 from links import FULL, LOAN, LOANS
 
 HERE = os.path.dirname(os.path.abspath(__file__))
-REPLIES = {"401": "return 401", "403": "return 403", "404": "return 404", "500": "return 500", "204": "return 204",
-           "503": "add_header Retry-After 3600 always; return 503", "to-http": "return 302 http://{plain}$uri",
-           "loop": "return 302 /loop", "login": "rewrite ^ /login last", "cut": "rewrite ^ /raw/cut last",
-           "cut-pieces": "rewrite ^ /raw/cut-pieces last", "drip": "rewrite ^ /raw/drip last",
-           "large": "rewrite ^ /raw/large last"}
+REPLIES = {
+    "401": "return 401",
+    "403": "return 403",
+    "404": "return 404",
+    "500": "return 500",
+    "204": "return 204",
+    "503": "add_header Retry-After 3600 always; return 503",
+    "to-http": "return 302 http://{plain}$uri",
+    "loop": "return 302 /loop",
+    "login": "rewrite ^ /login last",
+    "cut": "rewrite ^ /raw/cut last",
+    "cut-pieces": "rewrite ^ /raw/cut-pieces last",
+    "drip": "rewrite ^ /raw/drip last",
+    "large": "rewrite ^ /raw/large last",
+}
 SERVER = """    server {{
 {listens}        ssl_certificate {folder}/{name}.pem;
         ssl_certificate_key {folder}/{name}.key;
@@ -35,12 +45,19 @@ def servers_of(providers):
     """What nginx serves of a provider: its file, or what a file in slips/ says. The last host has a server of its own,
     since its certificate expires."""
     folder, port = providers.folder, providers.year_port
-    lines = "".join(f"            if (-f {folder}/files/slips$uri.{name}) {{ {action}; }}\n"
-                    for name, action in REPLIES.items()).replace("{plain}", f"{HOSTS[0]}:{providers.plain}")
+    lines = "".join(
+        f"            if (-f {folder}/files/slips$uri.{name}) {{ {action}; }}\n" for name, action in REPLIES.items()
+    ).replace("{plain}", f"{HOSTS[0]}:{providers.plain}")
     return "".join(
-        SERVER.format(folder=folder, name=name, raw=providers.raw.server_address[1], replies=lines,
-                      listens="".join(f"        listen {host}:{port} ssl;\n" for host in hosts))
-        for name, hosts in (("server", HOSTS[:-1]), ("own", HOSTS[-1:])))
+        SERVER.format(
+            folder=folder,
+            name=name,
+            raw=providers.raw.server_address[1],
+            replies=lines,
+            listens="".join(f"        listen {host}:{port} ssl;\n" for host in hosts),
+        )
+        for name, hosts in (("server", HOSTS[:-1]), ("own", HOSTS[-1:]))
+    )
 
 
 class Vendors(Providers):
@@ -76,8 +93,15 @@ class Vendors(Providers):
             os.unlink(self.path("files", "slips", f"{provider.file}.{kind}"))
 
     def ports(self):
-        return {self.year_port, self.port, self.second, self.plain, self.stranger, self.expired,
-                self.raw.server_address[1]}
+        return {
+            self.year_port,
+            self.port,
+            self.second,
+            self.plain,
+            self.stranger,
+            self.expired,
+            self.raw.server_address[1],
+        }
 
     def certify(self, days):
         """Gives the last host a certificate that is good for these days."""
@@ -130,9 +154,15 @@ class Door(FrontDoor):
 
 def names_of(labels):
     """A targets.json that names these targets."""
-    return json.dumps({"groups": [{"name": FULL}, {"name": LOANS, "onlyWithout": FULL}],
-                       "targets": {**{name: {"label": label, "group": FULL} for name, label in labels.items()},
-                                   LOAN: {"label": "Loan", "group": LOANS}}})
+    return json.dumps(
+        {
+            "groups": [{"name": FULL}, {"name": LOANS, "onlyWithout": FULL}],
+            "targets": {
+                **{name: {"label": label, "group": FULL} for name, label in labels.items()},
+                LOAN: {"label": "Loan", "group": LOANS},
+            },
+        }
+    )
 
 
 class Machine(Library):
@@ -146,8 +176,9 @@ class Machine(Library):
         self.folder = os.path.join(self.room, "library")
         for name, size in (("library", ROOM), ("input", INPUT_ROOM), ("temporary", "64m")):
             os.mkdir(self.aside(name))
-            subprocess.run(["mount", "-t", "tmpfs", "-o", f"size={size},mode=755", "tmpfs", self.aside(name)],
-                           check=True)
+            subprocess.run(
+                ["mount", "-t", "tmpfs", "-o", f"size={size},mode=755", "tmpfs", self.aside(name)], check=True
+            )
         self.input = Input(self.aside("input/week"))
         self.site = Door(self, processes)
         self.restart = f"{FIXTURES}/restart {self.room} PORT"
@@ -161,8 +192,13 @@ class Machine(Library):
     def dated(self, *words):
         """Starts a script on the machine's day."""
         environment = {**os.environ, "CURL_CA_BUNDLE": self.authority, "TMPDIR": self.aside("temporary")}
-        return subprocess.Popen([*PYTHON, f"{HERE}/dated.py", f"{self.day}T04:00:00", *words], stdout=subprocess.PIPE,
-                                stderr=subprocess.STDOUT, text=True, env=environment)
+        return subprocess.Popen(
+            [*PYTHON, f"{HERE}/dated.py", f"{self.day}T04:00:00", *words],
+            stdout=subprocess.PIPE,
+            stderr=subprocess.STDOUT,
+            text=True,
+            env=environment,
+        )
 
     def begin(self, *options):
         return self.dated(*self.words(*options))
@@ -195,8 +231,12 @@ class Machine(Library):
         thread.start()
         result = ended(self.begin())
         thread.join()
-        self.site.edit((f"targets from {self.site.path('openlink/targets.json')};",
-                        f"targets from {self.path('current')}/targets.json;"))
+        self.site.edit(
+            (
+                f"targets from {self.site.path('openlink/targets.json')};",
+                f"targets from {self.path('current')}/targets.json;",
+            )
+        )
         return result
 
     def fill(self, name, room):
@@ -216,7 +256,7 @@ class Machine(Library):
 
     def left_over(self, vendors):
         """Files, processes and ports that a run has left. A process gets a few seconds to end with its run."""
-        known = ("current", "versions", "lock", "lock.users", "updated")
+        known = ("current", "versions", "lock", "lock.users", "updated", "runs", "desk")
         names = [name for name in os.listdir(self.folder) if name not in known]
         names += [name for name in self.versions() if name.endswith(".new")]
         names += [f"temporary/{name}" for name in os.listdir(self.aside("temporary"))]
@@ -229,8 +269,11 @@ class Machine(Library):
     def strangers(self, vendors):
         """Processes in this namespace, and ports at which something listens, that are not of the machine itself."""
         servers, own = (self.site.nginx.pid, vendors.nginx.pid), (os.getpid(), *self.pids()[0])
-        found = [f"process {pid}: {name}" for pid, parent, name in processes()
-                 if pid not in (*servers, *own) and parent not in servers]
+        found = [
+            f"process {pid}: {name}"
+            for pid, parent, name in processes()
+            if pid not in (*servers, *own) and parent not in servers
+        ]
         ports = {self.site.port, self.site.report_port, *self.site.ports, *vendors.ports()}
         return found + [f"port {port}" for port in listening() - ports]
 

@@ -9,18 +9,33 @@ KEPT = "kept its old rules and table"
 AGAIN = "  the table of "
 CHANGED = re.compile(r"new, \d+ rows?|(rules changed)?(, )?(\d+ rows? added, \d+ gone)?|moving walls changed")
 TITLES = re.compile(r"  titles: \d+ came, \d+ gone: changes/press-\d\d\.txt")
+NO_DATE = re.compile(r"no link without a date for (journals|books), such as .*")
 FETCHED = re.compile(r"(new|changed), [\d,]+ bytes")
 STAMP = r"\d{8}T\d{6}Z"
 # Lines that come every week, and after a run that was ended or killed.
-USUAL = [re.compile(text) for text in (
-    r"\d+ files? asked for, \d+ new or changed, \d+ not fetched", r"\d+ probes hold", r"loan: new, 1 row",
-    rf"{STAMP} is in use(; old files of [-.\w, ]+ kept)?",
-    rf"nothing new: {STAMP} stays in use(; old files of [-.\w, ]+ kept)?",
-    r"\S+/probes\.tsv:\d+: \S+(\n  press-\d\d \S+ is now \S+)*")]
-AFTER_A_KILL = [re.compile(text) for text in (
-    r"the last run was killed while it restarted processes: going back first", rf"{STAMP} (is|stays) in use( again)?",
-    r"openlink-(update|fetch): ended by SIGTERM", r"\S+/lock: another run has not ended", r"openlink-update: .*",
-    r"the links of the version in use are not known: .*", r"\S+/probes\.tsv:\d+: .*(\n.*)*")]
+USUAL = [
+    re.compile(text)
+    for text in (
+        r"\d+ files? asked for, \d+ new or changed, \d+ not fetched",
+        r"\d+ probes hold",
+        r"loan: new, 1 row",
+        rf"{STAMP} is in use(; old files of [-.\w, ]+ kept)?",
+        rf"nothing new: {STAMP} stays in use(; old files of [-.\w, ]+ kept)?",
+        r"\S+/probes\.tsv:\d+: \S+(\n  press-\d\d \S+ is now \S+)*",
+    )
+]
+AFTER_A_KILL = [
+    re.compile(text)
+    for text in (
+        r"the last run was killed while it restarted processes: going back first",
+        rf"{STAMP} (is|stays) in use( again)?",
+        r"openlink-(update|fetch): ended by SIGTERM",
+        r"\S+/lock: another run has not ended",
+        r"openlink-update: .*",
+        r"the links of the version in use are not known: .*",
+        r"\S+/probes\.tsv:\d+: .*(\n.*)*",
+    )
+]
 
 
 def sections_of(text):
@@ -49,10 +64,16 @@ class Week:
             found += self.faults_of(section, said)
         for name, slip in self.slips.items():
             lines = said.get(name, [])
-            found += [f"the mail does not say of {name}: {part}" for part in map(self.full(name), slip.says)
-                      if not any(part in line for line in lines)]
-        found += [f"the mail does not say: {it.pattern}" for it in self.required
-                  if not any(it.search(line) for line in text.splitlines())]
+            found += [
+                f"the mail does not say of {name}: {part}"
+                for part in map(self.full(name), slip.says)
+                if not any(part in line for line in lines)
+            ]
+        found += [
+            f"the mail does not say: {it.pattern}"
+            for it in self.required
+            if not any(it.search(line) for line in text.splitlines())
+        ]
         return found
 
     def full(self, name):
@@ -81,8 +102,16 @@ class Week:
         if text == KEPT:
             is_kept = slip and slip.outcome == slips.KEPT or name in self.kept_once
             return [] if is_kept else [f"kept without a reason: {name}: {lines}"]
+        if NO_DATE.fullmatch(text):
+            return []
+        if slip and any(text.startswith(part) for part in slip.says):
+            said[name].append(text)
+            return []
         known = (*self.forms[name], *(slip.says if slip else ()), *([AGAIN] if name in self.mended else []))
-        others = [line for line in lines if not TITLES.fullmatch(line)
-                  and not any(part in line for part in map(self.full(name), known))]
+        others = [
+            line
+            for line in lines
+            if not TITLES.fullmatch(line) and not any(part in line for part in map(self.full(name), known))
+        ]
         wrong = [f"said of {name} without a reason: {line}" for line in others]
         return wrong if CHANGED.fullmatch(text) else [*wrong, f"said of {name}: {text}"]

@@ -23,10 +23,13 @@ def rule_without_end(year, provider):
 
 
 def rule_with_another_name(year, provider):
-    year.mail.slips[provider.name] = Slip(KEPT, (f"  {year.path(f'{provider.name}.rules')}: rule 1, guard 1: "
-                                                 "unknown name titel_id, did you mean title_id",))
-    return written(year, f"{provider.name}.rules",
-                   "rule\nwhen given titel_id\nlink https://press.example.com/{title_id}\n")
+    year.mail.slips[provider.name] = Slip(
+        KEPT,
+        (f"  {year.path(f'{provider.name}.rules')}: rule 1, guard 1: " "unknown name titel_id, did you mean title_id",),
+    )
+    return written(
+        year, f"{provider.name}.rules", "rule\nwhen given titel_id\nlink https://press.example.com/{title_id}\n"
+    )
 
 
 def table_that_is_not_there(year, provider):
@@ -38,8 +41,10 @@ def table_that_is_not_there(year, provider):
 
 def name_that_is_missing(year, provider):
     year.unnamed = frozenset({provider.name})
-    year.expect(rf"{re.escape(year.path('targets.json'))}: not named, so they are shown last and not as full text: "
-                rf"{provider.name}")
+    year.expect(
+        rf"{re.escape(year.path('targets.json'))}: not named, so they are shown last and not as full text: "
+        rf"{provider.name}"
+    )
     names = json.loads(year.machine.input.read("targets.json"))
     del names["targets"][provider.name]
     return renamed(year, written(year, "targets.json", json.dumps(names)))
@@ -47,9 +52,11 @@ def name_that_is_missing(year, provider):
 
 def renamed(year, mend):
     """What mends targets.json, after which it names all targets."""
+
     def mended():
         year.unnamed = frozenset()
         mend()
+
     return mended
 
 
@@ -80,6 +87,7 @@ def secret_that_is_missing(year, provider):
     def mended():
         mend()
         os.chmod(year.path("secrets.tsv"), 0o600)
+
     os.chmod(year.path("secrets.tsv"), 0o600)
     return mended
 
@@ -101,18 +109,25 @@ def line_of_targets(year, provider):
 
 
 def probe_that_differs(year, provider):
-    year.expect(r"openlink-update: 1 of \d+ probes differ with the new version", r"  missing [-\w.]+: .*",
-                rf"{re.escape(year.path('probes.tsv'))}:1: .*(\n.*)*")
+    year.expect(
+        r"openlink-update: 1 of \d+ probes differ with the new version",
+        r"  missing [-\w.]+: .*",
+        rf"{re.escape(year.path('probes.tsv'))}:1: .*(\n.*)*",
+    )
     query, _, names = year.machine.input.read("probes.tsv").decode().partition("\t")
     other = next(it.name for it in year.collection.providers if it.name not in names.split("\n")[0])
     return written(year, "probes.tsv", f"{query}\t{other} {names}")
 
 
 USABLE = {
-    "a rule without its end": rule_without_end, "a rule with another name": rule_with_another_name,
-    "a table that is not there": table_that_is_not_there, "a name that targets.json lacks": name_that_is_missing,
-    "targets.json without its end": names_without_end, "an address of no host": address_of_no_host,
-    "secrets that others may read": secrets_for_all, "a secret that is missing": secret_that_is_missing,
+    "a rule without its end": rule_without_end,
+    "a rule with another name": rule_with_another_name,
+    "a table that is not there": table_that_is_not_there,
+    "a name that targets.json lacks": name_that_is_missing,
+    "targets.json without its end": names_without_end,
+    "an address of no host": address_of_no_host,
+    "secrets that others may read": secrets_for_all,
+    "a secret that is missing": secret_that_is_missing,
     "an unknown option of a source": unknown_option,
 }
 UNUSABLE = {"a line of targets.tsv": line_of_targets, "a probe that differs": probe_that_differs}

@@ -5,8 +5,10 @@ from collection import PLAIN
 
 OWN = {"a table too large": PLAIN + 2, "an expired certificate": PLAIN + 3}  # the providers whose slips these are
 AN_OLD_FILE = "an old file"
-ONE_OF = ({"a name that targets.json lacks", "targets.json without its end"},  # in a week
-          {"secrets that others may read", "a secret that is missing"})
+ONE_OF = (
+    {"a name that targets.json lacks", "targets.json without its end"},  # in a week
+    {"secrets that others may read", "a secret that is missing"},
+)
 KINDS = [*slips.KINDS, *operator_slips.USABLE, AN_OLD_FILE]
 BEFORE_FETCH = {
     "the fetch is killed": lambda year: events.ended_fetch(year, signal.SIGKILL),
@@ -27,12 +29,25 @@ IN_PLACE = {
 }
 AFTER = {"back": events.back_and_forward, "walls": events.move_walls}
 # How often each event comes in 52 weeks; the others twice.
-OFTEN = {"the update is killed": 9, "the update is ended": 6, "kills beside the update": 8, "the fetch is killed": 4,
-         "back": 4, "walls": 12, "the update fetches": 3}
+OFTEN = {
+    "the update is killed": 9,
+    "the update is ended": 6,
+    "kills beside the update": 8,
+    "the fetch is killed": 4,
+    "back": 4,
+    "walls": 12,
+    "the update fetches": 3,
+}
 QUIET = 10  # of 52 weeks have no slip and no event
-SLIPS = 80  # in 52 weeks
-RETRIED = ("status 500", "status 503 with Retry-After", "a transfer that is cut", "an address of no host",
-           "a transfer that is cut between pieces", "a slow transfer")
+SLIPS = 100  # in 52 weeks
+RETRIED = (
+    "status 500",
+    "status 503 with Retry-After",
+    "a transfer that is cut",
+    "an address of no host",
+    "a transfer that is cut between pieces",
+    "a slow transfer",
+)
 
 
 @dataclasses.dataclass
@@ -46,14 +61,14 @@ def weeks(source, count):
     plans = [Plan() for _ in range(count)]
     busy = [plan for place, plan in enumerate(plans) if count < 20 or place % 5 != 4]
     kinds = KINDS + source.choices(KINDS, k=max(0, SLIPS - len(KINDS)))
-    for number, kind in enumerate(source.sample(kinds, len(kinds))[:3 * len(busy)]):
+    for number, kind in enumerate(source.sample(kinds, len(kinds))[: 3 * len(busy)]):
         plan = busy[number % len(busy)]
         if not any(kind in group and group & set(plan.kinds) for group in (*ONE_OF, {kind})):
             plan.kinds.append(kind)
     every = [*BEFORE_FETCH, *BEFORE_UPDATE, *IN_PLACE, *AFTER]
     found = [name for name in every for _ in range(OFTEN.get(name, 2))]
     source.shuffle(found)
-    for number, name in enumerate(found[:2 * len(busy)]):
+    for number, name in enumerate(found[: 2 * len(busy)]):
         turn = number % len(busy)
         plan = next((it for it in busy[turn:] + busy[:turn] if not clashes(name, it)), None)
         if plan:
@@ -92,8 +107,11 @@ def chosen(year, kind, busy):
     """A provider for a slip: one that had none in the week before, and whose files it can befall."""
     if kind in OWN:
         return year.collection.providers[OWN[kind]]
-    found = [it for it in year.collection.providers[:PLAIN] if it.name not in busy
-             and it.rules != "books" and it.form in ("tabs", "gzip", "zip")]
+    found = [
+        it
+        for it in year.collection.providers[:PLAIN]
+        if it.name not in busy and it.rules != "books" and it.form in ("tabs", "gzip", "zip")
+    ]
     return year.source.choice(found)
 
 
@@ -105,8 +123,11 @@ def old_file(year, provider):
     before = numbers_of(served)
     is_kept = len(before - numbers_of(rows)) * 100 > 10 * len(before)
     says = "  {file}: numbers gone " if is_kept else "  the table of "
-    return {provider.name: slips.Slip(slips.KEPT if is_kept else slips.USED, (says,), rows=rows,
-                                      data=tables.file_of(provider, rows))}
+    return {
+        provider.name: slips.Slip(
+            slips.KEPT if is_kept else slips.USED, (says,), rows=rows, data=tables.file_of(provider, rows)
+        )
+    }
 
 
 def numbers_of(rows):

@@ -1,17 +1,48 @@
 """The bytes of a provider's file in the form in which it sends its table, and what the mail says of such a file."""
 import csv, gzip, io, zipfile
 
-COLUMNS = ("publication_title", "print_identifier", "online_identifier", "date_first_issue_online",
-           "num_first_vol_online", "num_first_issue_online", "date_last_issue_online", "num_last_vol_online",
-           "num_last_issue_online", "title_url", "first_author", "title_id", "embargo_info", "coverage_depth", "notes",
-           "publisher_name", "publication_type")
+COLUMNS = (
+    "publication_title",
+    "print_identifier",
+    "online_identifier",
+    "date_first_issue_online",
+    "num_first_vol_online",
+    "num_first_issue_online",
+    "date_last_issue_online",
+    "num_last_vol_online",
+    "num_last_issue_online",
+    "title_url",
+    "first_author",
+    "title_id",
+    "embargo_info",
+    "coverage_depth",
+    "notes",
+    "publisher_name",
+    "publication_type",
+)
 ABOVE = "Titles of this year\n\nSent by the provider\n"
 
 
 def cells_of(row, host):
-    return [row.title, row.printed, row.online, row.first, row.volume, "", row.last, "", "",
-            f"https://{host}/journals/{row.id}", "", row.id, row.embargo, "fulltext", "", "Press",
-            "serial" if row.is_journal else "monograph"]
+    return [
+        row.title,
+        row.printed,
+        row.online,
+        row.first,
+        row.volume,
+        "",
+        row.last,
+        "",
+        "",
+        f"https://{host}/journals/{row.id}",
+        "",
+        row.id,
+        row.embargo,
+        "fulltext",
+        "",
+        "Press",
+        "serial" if row.is_journal else "monograph",
+    ]
 
 
 def text_of(cells, separator="\t", end="\n"):
@@ -47,11 +78,23 @@ def spoken(date):
     return f"{date[8:]}/{date[5:7]}/{date[:4]}" if len(date) == 10 and int(date[8:]) > 12 else date
 
 
-
 def in_other_words(cells):
     header, rows = cells[0], cells[1:]
-    return [header, *([f'"{row[0]}"', f"{row[1].replace('-', chr(0x2013))} ", f"{row[2]} (online)", spoken(row[3]),
-                       *row[4:6], spoken(row[6]) or "present", *row[7:]] for row in rows)]
+    return [
+        header,
+        *(
+            [
+                f'"{row[0]}"',
+                f"{row[1].replace('-', chr(0x2013))} ",
+                f"{row[2]} (online)",
+                spoken(row[3]),
+                *row[4:6],
+                spoken(row[6]) or "present",
+                *row[7:],
+            ]
+            for row in rows
+        ),
+    ]
 
 
 def with_old_numbers(cells):
@@ -69,17 +112,27 @@ FORMS = {
     "commas": (lambda cells: text_of(cells, ",").encode(), ("commas between cells: ",)),
     "zip": (lambda cells: zipped({"table.txt": text_of(cells)}), ()),
     "UTF-16": (lambda cells: text_of(cells, end="\r\n").encode("utf-16"), ("UTF-16: ",)),
-    "windows-1252": (lambda cells: text_of(cells, end="\r\n").encode("cp1252"),
-                     ("not UTF-8, read as windows-1252: ",)),
+    "windows-1252": (lambda cells: text_of(cells, end="\r\n").encode("cp1252"), ("not UTF-8, read as windows-1252: ",)),
     "semicolons": (lambda cells: text_of(cells, ";").encode(), ("semicolons between cells: ",)),
-    "lines above": (lambda cells: (ABOVE + text_of(with_other_names(cells))).encode(),
-                    ("above the header, left out: ", "names of columns as the standard spells them: ")),
-    "other words": (lambda cells: text_of(in_other_words(cells)).encode(), (
-        "quotes around a cell removed: ", "spaces at the ends removed: ", "dashes in identifiers replaced by hyphens: ",
-        "words after an identifier removed: ", "dates in the standard's form: ",
-        "last dates that mean today removed: ")),
-    "old numbers": (lambda cells: text_of(with_old_numbers(cells)).encode(),
-                    ("ISBNs of ten digits written with thirteen: ",)),
+    "lines above": (
+        lambda cells: (ABOVE + text_of(with_other_names(cells))).encode(),
+        ("above the header, left out: ", "names of columns as the standard spells them: "),
+    ),
+    "other words": (
+        lambda cells: text_of(in_other_words(cells)).encode(),
+        (
+            "quotes around a cell removed: ",
+            "spaces at the ends removed: ",
+            "dashes in identifiers replaced by hyphens: ",
+            "words after an identifier removed: ",
+            "dates in the standard's form: ",
+            "last dates that mean today removed: ",
+        ),
+    ),
+    "old numbers": (
+        lambda cells: text_of(with_old_numbers(cells)).encode(),
+        ("ISBNs of ten digits written with thirteen: ",),
+    ),
 }
 
 

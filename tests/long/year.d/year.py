@@ -11,7 +11,7 @@ from fixtures.patience import patience
 
 MONDAY = datetime.date(2027, 1, 4)
 SECRET = PLAIN + 1  # the provider whose address has a token
-ALLOWED = {PLAIN + 2: "gone up to 100%; less than half of the rows"}
+ALLOWED = {PLAIN + 2: "gone up to 100%; came up to 200000%; less than half of the rows"}
 KEY = "s3cr3t/+&token"
 READERS, PAUSE, PROCESSES = 3, 0.04, 3
 ASKED_AFTER = 50  # requests after a run, when only one page is right
@@ -62,15 +62,26 @@ class Year:
     def write_lists(self):
         providers = self.collection.providers
         write = self.machine.input.write
-        write("targets.tsv", "".join(f"{it.name}\t{it.name}.rules\t{it.file}\t{ALLOWED.get(number, '')}\n"
-                                     for number, it in enumerate(providers)) + "loan\tloan.rules\tANY.tsv\n")
+        write(
+            "targets.tsv",
+            "".join(
+                f"{it.name}\t{it.name}.rules\t{it.file}\t{ALLOWED.get(number, '')}\n"
+                for number, it in enumerate(providers)
+            )
+            + "loan\tloan.rules\tANY.tsv\n",
+        )
         write("ANY.tsv", "print_identifier\nANY\n")
         write("loan.rules", links.LOAN_RULES)
         write("secrets.tsv", f"TOKEN\t{KEY}\n")
         os.chmod(self.path("secrets.tsv"), 0o600)
-        write("sources.tsv", "".join(f"{it.file}\t{self.vendors.address_of(it)}"
-                                     f"{'?token={TOKEN}' if it is self.secret else ''}\tleast 20 rows\n"
-                                     for it in providers))
+        write(
+            "sources.tsv",
+            "".join(
+                f"{it.file}\t{self.vendors.address_of(it)}"
+                f"{'?token={TOKEN}' if it is self.secret else ''}\tleast 20 rows\n"
+                for it in providers
+            ),
+        )
         write("targets.json", self.names)
         write("probes.tsv", "".join(map(self.probe_of, self.collection.stable)))
 
@@ -165,7 +176,7 @@ class Year:
 
     def check_pages(self):
         for reader in self.readers:
-            for text in reader.wrong[reader.told:]:
+            for text in reader.wrong[reader.told :]:
                 self.counts["wrong pages"] += 1
                 if self.counts["wrong pages"] <= MOST_SHOWN:
                     self.fault(f"a wrong page: {text}")
@@ -224,8 +235,10 @@ class Year:
         self.titles = self.collection.journals + self.collection.books
         self.allowed = Allowed(self.state)
         self.settle(self.state)
-        self.readers = [Reader(self.machine.site.port, self.allowed, self.titles, self.source.random(), PAUSE)
-                        for _ in range(READERS)]
+        self.readers = [
+            Reader(self.machine.site.port, self.allowed, self.titles, self.source.random(), PAUSE)
+            for _ in range(READERS)
+        ]
         for reader in self.readers:
             reader.start()
         self.end_week()
@@ -238,7 +251,6 @@ class Year:
             if reader.is_alive():
                 reader.end()
         self.peaks["update"] = resource.getrusage(resource.RUSAGE_CHILDREN).ru_maxrss * 1024 / 1e6
-
 
     def close(self):
         self.vendors.stop()

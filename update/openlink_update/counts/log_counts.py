@@ -1,16 +1,16 @@
 """Counts what the front door's logs hold, by month. A line has no reader's address and no query. There are three forms:
 
-    TIME STATUS METHOD PATH SECONDS found=FULL/ALL targets=NAME,NAME from=SOURCE    a request; older lines lack `targets`
+    TIME STATUS METHOD PATH SECONDS found=FULL/ALL targets=NAME,NAME from=SOURCE    a request
     MONTH target=NAME NUMBER    a link that a reader followed, and the ISSN or ISBN of the request, or -
     MONTH NUMBER YEAR           a title that was asked for in vain, and the year, or -
 
-The path of an error that nginx found is /fault. A path with a space is none of the front door's. Whoever sends requests
-chooses sources and numbers, so each kind of name has a greatest number; what comes after it is counted together, under
-OTHERS, and a log of any size takes the same memory."""
+Older lines of requests lack `targets`. The path of an error that nginx found is /fault. A path with a space is none of
+the front door's. Whoever sends requests chooses sources and numbers, so each kind of name has a greatest number; what
+comes after it is counted together, under OTHERS, and a log of any size takes the same memory."""
 import re
 from collections import Counter, defaultdict
 from collections.abc import Iterable, Iterator, Sequence
-from typing import BinaryIO
+from typing import Protocol
 
 OTHERS = "(others)"
 _NO_SOURCE = b"(none)"
@@ -20,9 +20,9 @@ REQUESTS, PROBES, WITHOUT_FULL_TEXT, WITHOUT_LINK = "requests", "probes", "witho
 ERRORS, SOURCE, SOURCE_WITHOUT = "errors", "source", "source without full text"
 SHOWN, FOLLOWED, FOLLOWED_TITLE, IN_VAIN = "shown", "followed", "followed title", "asked in vain"
 _KINDS = (
-    REQUESTS, PROBES, WITHOUT_FULL_TEXT, WITHOUT_LINK, ERRORS, SOURCE, SOURCE_WITHOUT, SHOWN, FOLLOWED, FOLLOWED_TITLE,
-    IN_VAIN,
-)  # fmt: skip
+    *(REQUESTS, PROBES, WITHOUT_FULL_TEXT, WITHOUT_LINK, ERRORS),
+    *(SOURCE, SOURCE_WITHOUT, SHOWN, FOLLOWED, FOLLOWED_TITLE, IN_VAIN),
+)
 
 _BLOCK = 2**20  # bytes that are read at once
 _MOST_LINE = 2**17  # bytes; nginx writes shorter ones
@@ -62,6 +62,13 @@ _REQUEST_LINES = re.compile(
 _FOLLOWED_LINES = re.compile(
     rb"^(?:(\d{4}-[01]\d) target=([A-Za-z0-9_.-]{1,100}) (" + _ISSN_OR_ISBN + rb"|-)|(.+))$\n?", re.M
 )
+
+
+class Readable(Protocol):
+    """A file of bytes, or what is read like one."""
+
+    def read(self, size: int, /) -> bytes:
+        ...
 
 
 class _Names:
@@ -231,7 +238,7 @@ class Counts:
                 self._add_targets(month, status == _REDIRECT, names, number)
 
 
-def counts_of(files: Iterable[BinaryIO]) -> Counts:
+def counts_of(files: Iterable[Readable]) -> Counts:
     """What these files hold, each from its beginning on."""
     counts = Counts()
     for file in files:
@@ -240,7 +247,7 @@ def counts_of(files: Iterable[BinaryIO]) -> Counts:
     return counts
 
 
-def blocks_of(file: BinaryIO) -> Iterator[bytes]:
+def blocks_of(file: Readable) -> Iterator[bytes]:
     """The lines of a file, in blocks of whole lines. Of one that is longer than any of a log a part is left out."""
     rest = b""
     while chunk := file.read(_BLOCK):

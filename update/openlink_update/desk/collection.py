@@ -42,7 +42,7 @@ class Decade:
 
 
 @dataclasses.dataclass(frozen=True)
-class _Holdings:
+class Holdings:
     """What a target has."""
 
     target: str
@@ -58,7 +58,7 @@ class _Holdings:
 @dataclasses.dataclass(frozen=True)
 class Collection:
     titles: int  # of all targets
-    targets: tuple[_Holdings, ...]  # in the order of the menu
+    targets: tuple[Holdings, ...]  # in the order of the menu
     decades: tuple[Decade, ...]  # of all targets
 
     def rows(self) -> list[tuple[str, str, str, str]]:
@@ -190,7 +190,7 @@ def _counted(tables: Mapping[str, _Rows], numbers: _Numbers) -> Collection:
         sets[name] = _set_of(masks, count)
     alone = _alone(sets)
     found = tuple(
-        _Holdings(name, own.bit_count(), (own & alone).bit_count(), tuple(_overlaps(name, sets)), decades[name])
+        Holdings(name, own.bit_count(), (own & alone).bit_count(), tuple(_overlaps(name, sets)), decades[name])
         for name, own in sets.items()
     )
     return Collection(count, found, _decades_of(collections.Counter(every)))

@@ -4,6 +4,8 @@ import importlib.util
 from pathlib import Path
 from typing import Protocol
 
+from openlink_update.shown_text import printable
+
 FOLDER = Path(__file__).resolve().parent / "templates"
 _MODULE = "jinja2"
 PACKAGE = "python3-jinja2"
@@ -19,6 +21,12 @@ class _Environment(Protocol):
         """The template in a file."""
 
 
+def _shown(value: object) -> object:
+    """A value as a page has it: of a text, without characters that HTML may not have or that change its direction. What
+    a macro of a template has written is no plain text."""
+    return printable(value) if type(value) is str else value
+
+
 def are_there() -> bool:
     """Whether the package is installed."""
     return importlib.util.find_spec(_MODULE) is not None
@@ -30,6 +38,7 @@ class Templates:
         made: _Environment = module.Environment(
             loader=module.FileSystemLoader(str(FOLDER)),
             autoescape=True,
+            finalize=_shown,
             undefined=module.StrictUndefined,
             trim_blocks=True,
             lstrip_blocks=True,

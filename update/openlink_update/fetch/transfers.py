@@ -44,7 +44,7 @@ _OPTIONS = (
 # What curl prints: the headers of the replies, then what write-out says, which is missing if curl was killed. Its JSON
 # (%{json}, %{header_json}) would be shorter, but version 7.88 writes other characters for those that are not ASCII.
 _OUTPUT = re.compile(r"(.*)\nend (\d+) (\d+) ([\d.]+) (\d+) (\S*)\n([^\n]*)", re.S)
-_MOST_OUTPUT = 2**20  # bytes that are read of it
+_MOST_OUTPUT = 2**20  # bytes of it; headers after a reply's body have no end for curl
 _LENGTH = re.compile(r"[0-9]{1,15}")
 
 
@@ -107,7 +107,7 @@ class Transfer:
         """Starts it, with the seconds that it may take. The path `body` gets the body of a reply, up to these bytes.
         The host has these `addresses`; if there are none, curl looks them up."""
         self._body, self._seconds, self._most_bytes, self._started = Path(body), seconds, most_bytes, time.monotonic()
-        self.exit, self.reply = 0, _Reply()
+        self.exit, self.reply, self._has_endless_headers = 0, _Reply(), False
         lines = [
             *_OPTIONS,
             f"url = {_quoted(address)}",
@@ -131,7 +131,8 @@ class Transfer:
         children.write(self._child, "\n".join(lines).encode() + b"\n")
 
     def has_ended(self) -> bool:
-        if self._child.poll() is None and self.took() > self._seconds + _SECONDS_TO_END:
+        is_late = self.took() > self._seconds + _SECONDS_TO_END
+        if self._child.poll() is None and (is_late or os.fstat(self._output.fileno()).st_size > _MOST_OUTPUT):
             self.stop()
         return self._child.poll() is not None
 
@@ -148,6 +149,9 @@ class Transfer:
         reply = _Reply.parse(self._output.read().decode("latin-1"))
         self._output.close()
         self.exit = self._child.returncode if reply else self._child.returncode or _TIMED_OUT
+        self._has_endless_headers = length > _MOST_OUTPUT
+        if self._has_endless_headers:
+            self.exit = _TOO_LARGE
         self.reply = reply or _Reply()
 
     def written(self) -> int:
@@ -155,6 +159,8 @@ class Transfer:
 
     def fault(self) -> str | None:
         """Why there is no whole reply, or None."""
+        if self._has_endless_headers:
+            return "headers of more than 1 MB"
         if self.exit in (0, 22):  # 22: a status from 400 on
             return None
         if self.exit == _TOO_LARGE or self.exit == WRITE_FAILED and self.written() >= self._most_bytes:

@@ -168,7 +168,8 @@ def write_machine(places: Places) -> None:
 
 def write_logs(places: Places, name: str) -> None:
     """Makes a library's logs, which only nginx and the group `adm` may read."""
-    for path in (places.logs / f"openlink.{name}.log", places.logs / f"openlink.{name}.wanted.log"):
+    for end in "log", "wanted.log", "followed.log":
+        path = places.logs / f"openlink.{name}.{end}"
         if path.exists():
             continue
         os.makedirs(places.logs, exist_ok=True)

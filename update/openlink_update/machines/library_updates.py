@@ -14,7 +14,7 @@ from typing import IO
 from openlink_update import COMMANDS, children
 from openlink_update.machines.libraries import REPORT, SHARED, SITE, Libraries
 from openlink_update.outcome import ALL_NEW, DEVICE, WENT_BACK, Interrupted, raise_signals
-from openlink_update.shown_text import printable, report
+from openlink_update.shown_text import lines_to_print, report
 from openlink_update.versions import shared_tables
 
 ALONE = ""  # the library of a machine alone, in the list of names
@@ -111,7 +111,7 @@ class Updates:
         left, left_out = _MOST_PRINTED, 0
         last: collections.deque[str] = collections.deque(maxlen=_LAST)
         while text := output.readline(_MOST_LINE):
-            line = printable(text.rstrip("\n"))
+            line = lines_to_print(text.rstrip("\n"))
             left -= len(text)
             if left >= 0:
                 lines.append(f"{line}\n")

@@ -1,3 +1,3 @@
 """What a run of root does as a user without rights: all that reads bytes of providers."""
 
-__all__ = ["handover", "lent_files", "limits", "sandbox"]
+__all__ = ["filters", "handover", "lent_files", "limits", "sandbox"]

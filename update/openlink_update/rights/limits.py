@@ -29,7 +29,8 @@ class Limits:
     memory: int = MEMORY_MB * _MB
     disk: int | None = None  # bytes of the library's folders, if its site has a line
     folders: tuple[Path, ...] = ()  # that these are in
-    line: str = "$openlink_disk"  # where the site says so
+    line: str = "$openlink_disk"  # where the site says so; "" if nothing does
+    owner: str = "the library"
 
     def apply(self) -> None:
         """Sets those that the system keeps, for this process and its children."""
@@ -87,5 +88,6 @@ class DiskLimit:
         if self._limits.disk is None:
             text = f"it writes more than {_MOST_ADDED // _MB:,} MB"
         else:
-            text = f"the library has more than {self._limits.disk // _MB:,} MB on the disk"
-        return Exceeded(f"{text}, so it was ended: {self._limits.line} allows more")
+            text = f"{self._limits.owner} has more than {self._limits.disk // _MB:,} MB on the disk"
+        more = f": {self._limits.line} allows more" if self._limits.line else ""
+        return Exceeded(f"{text}, so it was ended{more}")

@@ -14,11 +14,11 @@ import sys
 import time
 from collections.abc import Callable, Iterator, Sequence
 from pathlib import Path
-from typing import Protocol
+from typing import BinaryIO, Protocol
 
 from openlink_update import run_notes
 from openlink_update.input_files import InputFolder
-from openlink_update.outcome import DEVICE, Failure, reset_signals
+from openlink_update.outcome import DEVICE, Failure, Unreadable, reset_signals
 from openlink_update.rights import library_user
 from openlink_update.rights.lent_files import MOST_MESSAGE, Lender, Lent, LentFolder
 from openlink_update.rights.library_user import LibraryUser
@@ -31,6 +31,7 @@ _SHARE = 20  # of the time, one part may go to looking at the disk
 _SECONDS_TO_SEND, _PAUSE_TO_END = 10, 0.01  # for a child to take a reply, or to end
 _MOST_FILES = 100  # of a table that is shared
 _RESULT, _FAULT, _PAUSE, _SHARED, _GO, _NOTE = b"R", b"F", b"P", b"S", b"G", b"N"
+_FILTERED, _REFUSED = b"L", b"X"
 
 
 class Parent(Protocol):
@@ -44,6 +45,9 @@ class Parent(Protocol):
 
     def prepared(self, files: Sequence[tuple[str, bytes]]) -> bytes | None:
         """What that process has of a table that is shared."""
+
+    def filtered(self, name: str, data: bytes) -> bytes:
+        """What a filter gives for the bytes of a file. Unreadable says why it gives nothing."""
 
 
 _Work = Callable[[Parent], str]
@@ -63,10 +67,15 @@ def _none(_: Sequence[tuple[str, bytes]]) -> int | None:
     return None
 
 
+def no_filter(name: str, data: bytes) -> bytes:
+    """What a filter gives where none may run."""
+    raise Unreadable("none may run here")
+
+
 @dataclasses.dataclass(frozen=True)
 class Job:
     """What is run, the folders that it writes to, and those that are lent; what root does when the function pauses,
-    whether it may use the network, and how root finds a shared table."""
+    whether it may use the network, and how root finds a shared table, and has a filter run."""
 
     work: _Work
     written: tuple[Path, ...] = ()
@@ -74,6 +83,7 @@ class Job:
     at_pause: Callable[[], None] = _nothing
     has_network: bool = True
     shared: Callable[[Sequence[tuple[str, bytes]]], int | None] = _none
+    filtered: Callable[[str, bytes], bytes] = no_filter
 
 
 class _Itself:
@@ -90,6 +100,9 @@ class _Itself:
 
     def prepared(self, files: Sequence[tuple[str, bytes]]) -> bytes | None:
         return None
+
+    def filtered(self, name: str, data: bytes) -> bytes:
+        return self._job.filtered(name, data)
 
 
 class _Root:
@@ -113,10 +126,7 @@ class _Root:
         if len(files) > _MOST_FILES or sum(len(data) for _, data in files) > MOST_BYTES:
             return None
         with contextlib.ExitStack() as stack:
-            copies = [stack.enter_context(open(os.memfd_create("openlink"), "wb")) for _ in files]
-            for copy, (_, data) in zip(copies, files):
-                copy.write(data)
-                copy.flush()
+            copies = [stack.enter_context(_copy_of(data)) for _, data in files]
             names = os.fsencode("\0".join(path for path, _ in files))
             socket.send_fds(self._peer, [_SHARED + names], [copy.fileno() for copy in copies])
             reply, lent, _, _ = socket.recv_fds(self._peer, MOST_MESSAGE, 1)
@@ -126,6 +136,26 @@ class _Root:
             with open(descriptor, "rb") as file:
                 return file.read()
         return None
+
+    def filtered(self, name: str, data: bytes) -> bytes:
+        with _copy_of(data) as copy:
+            socket.send_fds(self._peer, [_FILTERED + name.encode()], [copy.fileno()])
+            reply, lent, _, _ = socket.recv_fds(self._peer, MOST_MESSAGE, 1)
+        if not reply:
+            raise Failure("the run has ended", DEVICE)
+        for descriptor in lent:
+            with open(descriptor, "rb") as file:
+                file.seek(0)
+                return file.read()
+        raise Unreadable(reply[1:].decode("utf-8", "replace"))
+
+
+def _copy_of(data: bytes) -> BinaryIO:
+    """A file in memory with these bytes."""
+    file = open(os.memfd_create("openlink"), "w+b")
+    file.write(data)
+    file.flush()
+    return file
 
 
 class Sandbox:
@@ -142,12 +172,12 @@ class Sandbox:
         """The same, with several times the time."""
         return Sandbox(self._user, dataclasses.replace(self._limits, seconds=self._limits.seconds * times))
 
-    def other(self, folder: Path, name: str) -> "Sandbox":
-        """That of another user, with the same limits. A Failure if none is free."""
+    def other(self, folder: Path, name: str, limits: Limits | None = None) -> "Sandbox":
+        """That of another user, with the same limits unless others are given. A Failure if none is free."""
         user = library_user.claim(folder, name)
         if user is None:
             raise Failure("no user is free", DEVICE)
-        return Sandbox(user, self._limits)
+        return Sandbox(user, limits or self._limits)
 
     @property
     def number(self) -> int | None:
@@ -197,6 +227,10 @@ class Sandbox:
                         files = _files_of(message[1:], sent)
                         found = job.shared(files) if files else None
                         _send(peer, _GO, [] if found is None else [found])
+                    case kind if kind == _FILTERED:
+                        begun = time.monotonic()
+                        _send(peer, *_filtered_by(job, message[1:], sent))
+                        clock.end += time.monotonic() - begun  # a filter has limits of its own
                     case _:
                         _send(peer, *lender.answer(message, sent))
             finally:
@@ -227,6 +261,21 @@ def _files_of(names: bytes, descriptors: Sequence[int]) -> list[tuple[str, bytes
             file.seek(0)
             found.append((name, file.read(state.st_size)))
     return found
+
+
+def _filtered_by(job: Job, name: bytes, sent: Sequence[int]) -> tuple[bytes, list[int]]:
+    """The reply to a child that has sent a file to be filtered. Nothing of its bytes is looked at."""
+    files = _files_of(name, sent)
+    try:
+        if len(files) != 1:
+            raise Unreadable("no file came to be filtered")
+        with _copy_of(job.filtered(*files[0])) as copy:
+            return _GO, [os.dup(copy.fileno())]
+    except Unreadable as fault:
+        text = str(fault)
+    except OSError as fault:
+        text = f"{fault.filename or 'a file'}: {fault.strerror}"
+    return _REFUSED + line_of(text).encode("utf-8", "replace"), []
 
 
 def _received(peer: socket.socket) -> tuple[bytes, list[int]]:

@@ -82,7 +82,7 @@ def faults_of(words: Mapping[str, object], language: str) -> list[str]:
     for name, form in _NUMBERS.items():
         if name in texts and not re.fullmatch(form, texts[name]):
             faults.append(f"words: {name} is no number with one mark")
-    return faults + (_left_over(texts, expected) if language.partition("-")[0].lower() != "en" else [])
+    return faults + left_over(texts, expected, language)
 
 
 def _has_places(name: str, text: str, english: str) -> bool:
@@ -91,9 +91,11 @@ def _has_places(name: str, text: str, english: str) -> bool:
     return count == wanted or (count < wanted and name.partition(".")[2] in _OF_ONE_NUMBER)
 
 
-def _left_over(texts: Mapping[str, str], expected: Mapping[str, str]) -> list[str]:
+def left_over(texts: Mapping[str, str], expected: Mapping[str, str], language: str) -> list[str]:
     """Errors of texts in English: those that are as in the English file, if they have several words, those with
     English words, and in a language with other letters those with Latin ones."""
+    if language.partition("-")[0].lower() == "en":
+        return []
     every = "".join(texts.values())
     is_latin = sum(letter.isascii() for letter in every if letter.isalpha()) * 2 > sum(map(str.isalpha, every))
     faults = []

@@ -2,7 +2,7 @@
 import re
 from collections.abc import Collection, Sequence
 
-from openlink_update.shown_text import Count, amount, lines_of_counts, printable
+from openlink_update.shown_text import amount, printable
 from openlink_update.received.column_names import IDENTIFIERS
 from openlink_update.tables.cells import ANY
 from openlink_update.tables.identifiers import form_of
@@ -95,6 +95,9 @@ def without_footer(columns: Sequence[str], rows: list[list[str]]) -> list[str]:
             break
         if filled:
             below.append(number)
+    if not below:
+        return []
+    first = shown(rows[below[-1]]).strip().replace('"', "'")
     for number in below:
         del rows[number]
-    return lines_of_counts(Count("below the table, left out", len(below), "row"))
+    return [f'below the table, left out: {amount(len(below), "row")}, the first "{first}"']

@@ -7,9 +7,9 @@ from collections.abc import Collection
 
 from openlink_update import shown_text, target_options
 from openlink_update.slips import kinds, slip_judge
-from openlink_update.versions import host_judge
 
 ANY_OF_LINT, GONE, CAME, FEWER = "rule", "gone", "came", "less than half of the rows"
+SAME, HOSTS = "same address", "hosts"
 UP_TO = re.compile(r"(.*\S) up to (\d{1,9})%?", re.A)
 _OF_INSPECT = frozenset(
     (
@@ -27,7 +27,7 @@ _OF_INSPECT = frozenset(
 )
 _OF_LINT = frozenset(("rules", "is never reached", "never holds", "a row may give no host, or one with @"))
 _BEFORE_NAMES = ("no column", "unknown name", "a request can set the host by")  # of inspect and lint
-_OF_UPDATE = frozenset((ANY_OF_LINT, GONE, CAME, FEWER, host_judge.SAME, "dropped"))
+_OF_UPDATE = frozenset((ANY_OF_LINT, GONE, CAME, FEWER, SAME, "dropped"))
 _OF_STATUS = frozenset(f"openlink {command} has status" for command in ("inspect", "lint"))
 _NUMBER = re.compile(r"(.*?\S)(?: *up *to)? *(\d{1,9}%?)", re.A | re.I)
 _NAME = re.compile(r" [!-~]{0,300}(?:, did you mean [!-~]{0,300})?", re.A)
@@ -36,12 +36,17 @@ _MOST_SAID = 5  # of a line of the list
 _LIKE = 0.6  # from which on two texts are alike
 
 
+def is_word_of_hosts(text: str) -> bool:
+    """Whether a text of a target's line allows hosts."""
+    return text.split(" ")[0] == HOSTS and " +" in text
+
+
 def _is_known(text: str) -> bool:
     match = UP_TO.fullmatch(text)
     words = match[1] if match else text
     if words in _OF_INSPECT | _OF_LINT | _OF_UPDATE | _OF_STATUS or slip_judge.is_word(text):
         return True
-    if host_judge.is_word(text):
+    if is_word_of_hosts(text):
         return all(word.startswith("+") for word in text.split()[1:])
     rest = next((words[len(start) :] for start in _BEFORE_NAMES if words.startswith(start)), None)
     return rest == "" or rest is not None and _NAME.fullmatch(rest) is not None

@@ -18,12 +18,13 @@ from openlink_update.rules import compiled, proxies
 from openlink_update.tables import link_hosts
 from openlink_update.tables.link_hosts import Links, Templates
 from openlink_update.tables.table import Table
+from openlink_update.versions.allowed_words import HOSTS, SAME, is_word_of_hosts
 from openlink_update.versions.undated_links import UndatedLinks
 
 NAME = "hosts.tsv"
 _PAGE = "title_url"
-_WORD, _ANY = "hosts", "*"
-SAME, _MOST_SAME = "same address", 90  # in 100 rows
+_ANY = "*"
+_MOST_SAME = 90  # in 100 rows
 _FEW_ROWS = 3  # that have a host, which another address of the same provider may have, or a slip
 _MANY_HOSTS = 20  # of few rows each: a table that has them, as one of journals with their own sites, gets others
 _MOST_NEW = 10  # of them in 100 each week
@@ -32,14 +33,9 @@ _MOST_CHARACTERS = 100  # of a host, a title or an address in a line
 _Days = dict[str, str]  # by host: the day on which it was allowed first
 
 
-def is_word(text: str) -> bool:
-    """Whether a text of a target's line allows hosts."""
-    return text.split(" ")[0] == _WORD and " +" in text
-
-
 def _words_in(allowed: Collection[str]) -> set[str]:
     """The hosts that a target's line allows."""
-    words = {word for text in allowed if is_word(text) for word in text.split()}
+    words = {word for text in allowed if is_word_of_hosts(text) for word in text.split()}
     return {word[1:].lower() for word in words if word.startswith("+")}
 
 
@@ -63,9 +59,9 @@ def _reasons_of_hosts(new: Sequence[str], now: Links, titles: dict[str, str]) ->
     for host in new[:_MOST_NAMED]:
         name, title = (shown_text.line_of(text, _MOST_CHARACTERS) for text in (host, titles.get(host, "")))
         rows = f"{now.hosts[host]} of {shown_text.amount(now.rows, 'row')}"
-        reasons.append(f'new host {name} in {rows}, first "{title}"; to allow it: {_WORD} +{name}')
+        reasons.append(f'new host {name} in {rows}, first "{title}"; to allow it: {HOSTS} +{name}')
     if len(new) > _MOST_NAMED:
-        reasons.append(f"{len(new) - _MOST_NAMED} more new hosts; to allow all below one: {_WORD} +{_ANY}.example.org")
+        reasons.append(f"{len(new) - _MOST_NAMED} more new hosts; to allow all below one: {HOSTS} +{_ANY}.example.org")
     return reasons
 
 

@@ -12,7 +12,6 @@ from openlink_update.tables.identifiers import form_of, standard
 from openlink_update.outcome import Refused
 from openlink_update.received.column_names import IDENTIFIERS
 from openlink_update.tables.parts import base_of
-from openlink_update.versions import host_judge
 from openlink_update.versions.host_judge import HostJudge
 from openlink_update.versions.program import PLACE, words_of
 from openlink_update.rules import compiled
@@ -26,7 +25,7 @@ from openlink_update.versions.target_list import Target
 from openlink_update.slips.material import Material
 from openlink_update.slips.other_titles import OtherTitles
 from openlink_update.slips.slip_judge import SlipJudge
-from openlink_update.versions.allowed_words import ANY_OF_LINT, CAME, GONE, UP_TO
+from openlink_update.versions.allowed_words import ANY_OF_LINT, CAME, GONE, SAME, UP_TO, is_word_of_hosts
 from openlink_update.versions.undated_links import UndatedLinks
 
 _MOST_GONE = 10  # in 100
@@ -55,7 +54,7 @@ class _Change:
 
 def _limits_of(allowed: Collection[str]) -> _Limits:
     """The words of a target's line, each with the number up to which it allows a warning, or None if it has none."""
-    numbers = [text for text in sorted(allowed) if not host_judge.is_word(text)]
+    numbers = [text for text in sorted(allowed) if not is_word_of_hosts(text)]
     limits: _Limits = {text: None for text in numbers if not UP_TO.fullmatch(text)}
     return {**limits, **{it[1]: int(it[2]) for it in map(UP_TO.fullmatch, numbers) if it}}
 
@@ -222,7 +221,7 @@ class Judge:
             self._changes[target.name] = self._changes_between(old, parts, *before_and_now)
             came = _titles_of(self._changes[target.name][0])
             found += _reasons_of_came(len(set().union(*map(_titles_in, old))), len(came), limits)
-        found += self.hosts.reasons(target.name, target.allowed, limits.get(host_judge.SAME), old, list(parts.values()))
+        found += self.hosts.reasons(target.name, target.allowed, limits.get(SAME), old, list(parts.values()))
         return reasons + [f"{target.table}: {reason}" for reason in found]
 
     def _totals_of_slips(self, name: str, limits: Collection[str]) -> dict[str, int]:

@@ -3,6 +3,7 @@
     registry.tsv           a line for each target
     received/NAME.rules    the rule file (NAME.olk: the code file) and the files of the table as they came
     received/NAME.txt      (the second one NAME.txt.2)
+    received/NAME.txt.filtered    what a filter gave for it, if the target has one
     rules/NAME.rules       the rules behind a proxy, if the target has one: see proxies.py
     code/NAME.olk          the compiled rules
     tables/NAME.txt        the table as preparation makes it, with its moving walls and coverage to the day; NAME.2.txt,
@@ -21,10 +22,12 @@
 
 An old table is prepared again before a new one is compared with it, so a newer form of preparation does not look like a
 change by the provider."""
+import contextlib
 import dataclasses
 import datetime
 import filecmp
 import functools
+import gc
 import os
 import re
 import shutil
@@ -35,8 +38,10 @@ from openlink_update import run_notes, target_options
 from openlink_update.index import abbreviations, named_parts, target_heads, title_index
 from openlink_update.index.title_groups import Title
 from openlink_update.input_files import InputFile
-from openlink_update.outcome import Failure, Refused
+from openlink_update.outcome import Failure, Refused, Unreadable
 from openlink_update.received import patterns
+from openlink_update.rights.filters import Filter
+from openlink_update.rights.sandbox import no_filter
 from openlink_update.root_folder import RootFolder
 from openlink_update.rules import compiled, pages, proxies
 from openlink_update.run_notes import TargetState
@@ -56,7 +61,7 @@ from openlink_update.versions.program import Program
 from openlink_update.versions.served import Tables, targets_in
 from openlink_update.versions.target_list import Target
 
-_RECEIVED = "received"
+_RECEIVED, _FILTERED = "received", ".filtered"
 _PART = 2**20  # bytes that are compared at a time
 _OF_THE_OWNER = 0o600  # nginx needs no table as it came: what a library has received is its own
 
@@ -70,6 +75,7 @@ class _Files:
     has_code: bool
     paths: tuple[str, ...] = dataclasses.field(compare=False)  # of the tables
     options: Options = target_options.NONE
+    given: tuple[bytes, ...] = ()  # what a filter made of the tables, if the target has one
     # All of these, as they were read.
     sources: tuple[InputFile, ...] = dataclasses.field(compare=False, default=())
 
@@ -78,21 +84,31 @@ class _Files:
         paths = [source.path for source in self.sources if source.is_changed()]
         return [f"{path}: it changed while it was read: update again when it is written" for path in paths]
 
+    def filter_lines(self) -> list[str]:
+        """What is said of the filter."""
+        pairs = zip(self.tables, self.given)
+        return [f"filter {self.options.filter}: {len(came):,} bytes became {len(made):,}" for came, made in pairs]
+
     @functools.cached_property
     def prepared(self) -> Prepared:
         """Refused if one of the files cannot be read as a table."""
-        return shared_tables.prepare(list(zip(self.paths, self.tables)), self.options)
+        return shared_tables.prepare(list(zip(self.paths, self.read)), self.options)
+
+    @property
+    def read(self) -> tuple[bytes, ...]:
+        """The bytes of the tables that are prepared."""
+        return self.given or self.tables
 
     @functools.cached_property
     def material(self) -> Material:
         """What slips are looked for in; without rows if the table cannot be prepared."""
+        rules, proxy = None if self.has_code else self.rules, self.options.proxy
+        unended = next(filter(None, map(odd_rows.unended_line, self.read)), "")
         try:
             it = self.prepared
         except Refused:
-            it = Prepared(Table((), []), [], [], 0, [], [])
-        unended = next(filter(None, map(odd_rows.unended_line, self.tables)), "")
-        rules = None if self.has_code else self.rules
-        return Material(it.table, it.dropped, it.reversed, it.count, rules, self.options.proxy, unended)
+            return Material(Table((), []), [], [], 0, rules, proxy, unended)
+        return Material(it.table, it.dropped, it.reversed, it.count, rules, proxy, unended)
 
     @functools.cached_property
     def table_or_empty(self) -> Table:
@@ -103,12 +119,23 @@ class _Files:
             return Table((), [])
 
 
+@contextlib.contextmanager
+def _collecting_nothing() -> Iterator[None]:
+    """While millions of cells are compared, Python does not look for cycles among them: there are none, and it would
+    take a third of the time."""
+    gc.disable()
+    try:
+        yield
+    finally:
+        gc.enable()
+
+
 def _material_of(files: _Files) -> Material:
     return files.material
 
 
-def _files_of(target: Target) -> _Files:
-    """The files that the list names for a target. Refused if one of them cannot be read."""
+def _files_of(target: Target, filtered: Filter) -> _Files:
+    """The files that the list names for a target. Refused if one of them cannot be read, or if its filter fails."""
     if target.reasons:
         raise Refused([*target.reasons])
     reasons, sources = [], []
@@ -123,7 +150,21 @@ def _files_of(target: Target) -> _Files:
         raise Refused(reasons)
     rules, *data = [it.data for it in sources]
     paths = tuple(str(it.path) for it in sources[1:])
-    return _Files(rules, tuple(data), target.has_code(), paths, target.options, tuple(sources))
+    given = _given(target.options.filter, list(zip(paths, data)), filtered)
+    return _Files(rules, tuple(data), target.has_code(), paths, target.options, given, tuple(sources))
+
+
+def _given(name: str, files: list[tuple[str, bytes]], filtered: Filter) -> tuple[bytes, ...]:
+    """What the filter with a name gives for files; nothing without a name. Refused if it fails for one."""
+    given, reasons = list[bytes](), list[str]()
+    for path, data in files if name else ():
+        try:
+            given.append(filtered(name, data))
+        except Unreadable as fault:
+            reasons.append(f"{path}: filter {name}: {fault}")
+    if reasons:
+        raise Refused(reasons)
+    return tuple(given)
 
 
 def _received_names(version: Path, name: str) -> list[str]:
@@ -150,7 +191,11 @@ def files_in(received: RootFolder, name: str, options: Options = target_options.
         if f"{name}{suffix}" in names and tables:
             rules, *data = [_content(received, file) for file in (f"{name}{suffix}", *tables)]
             paths = tuple(str(received.place((file,))) for file in tables)
-            return _Files(rules, tuple(data), has_code, paths, options)
+            made = [f"{file}{_FILTERED}" for file in tables] if options.filter else []
+            if not set(made) <= set(names):
+                return None
+            given = tuple(_content(received, file) for file in made)
+            return _Files(rules, tuple(data), has_code, paths, options, given)
     return None
 
 
@@ -170,8 +215,11 @@ class Maker:
         today: datetime.date,
         report: Callable[[str], object],
         received: RootFolder | None = None,
+        filtered: Filter = no_filter,
     ) -> None:
-        """`received` opens the files that the older version has received, if this process may not."""
+        """`received` opens the files that the older version has received, if this process may not; `filtered` runs a
+        filter."""
+        self._filtered = filtered
         self._received = received or (received_in(Path(older)) if older is not None else None)
         self._folder, self._older = Path(folder), None if older is None else Path(older)
         self._program, self._today, self._print = program, today, report
@@ -280,7 +328,7 @@ class Maker:
         """The state of a target that is added, and the files that are used."""
         old, new = self._files_before(target.name), None
         try:
-            new = _files_of(target)
+            new = _files_of(target, self._filtered)
             reasons = [] if new == old else self._reasons_against(target, old, new) + new.changed()
         except Refused as refusal:
             reasons = refusal.reasons
@@ -318,6 +366,11 @@ class Maker:
     def _write(self, name: str, data: bytes) -> None:
         (self._folder / name).write_bytes(data)
 
+    def _write_closed(self, name: str, data: bytes) -> None:
+        path = self._folder / name
+        path.touch(_OF_THE_OWNER)
+        path.write_bytes(data)
+
     def _rules(self, name: str) -> bytes:
         """The rule file of a target as it came; nothing if it is a code file."""
         path = self._folder / f"received/{name}.rules"
@@ -331,9 +384,10 @@ class Maker:
         self._discard(name)
         self._write(rules, files.rules)
         for number, data in enumerate(files.tables, 1):
-            path = self._folder / f"received/{name}.txt{f'.{number}' if number > 1 else ''}"
-            path.touch(_OF_THE_OWNER)
-            path.write_bytes(data)
+            path = f"received/{name}.txt{f'.{number}' if number > 1 else ''}"
+            self._write_closed(path, data)
+            if files.given:
+                self._write_closed(f"{path}{_FILTERED}", files.given[number - 1])
         try:
             prepared = files.prepared
         except Refused as refusal:
@@ -374,6 +428,8 @@ class Maker:
         rules = [f"received/{name}.rules", f"received/{name}.olk", compiled.behind(name), f"code/{name}.olk"]
         for place in (*rules, f"dropped/{name}.txt", *received):
             (self._folder / place).unlink(missing_ok=True)
+        for place in received:
+            (self._folder / f"{place}{_FILTERED}").unlink(missing_ok=True)
 
     def _rejected(self, path: str, *words: str) -> list[str]:
         """Why a command rejects a file that came from a path, as a list of at most one reason."""
@@ -393,8 +449,9 @@ class Maker:
         if self._tables.parts_of(target.name):
             parts = dict(self._tables.divided(target.name, prepared.table))
             self._judge.undated.find(target.name, prepared.table, not new.has_code and not reasons)
-            before_it = old.material if old is not None else None
-            reasons += self._judge.reasons(target, parts, not new.has_code and not reasons, new.material, before_it)
+            before_it, has_rules = old.material if old is not None else None, not new.has_code and not reasons
+            with _collecting_nothing():
+                reasons += self._judge.reasons(target, parts, has_rules, new.material, before_it)
         lines = dropped_rows.reasons_against(prepared.dropped, prepared.count, target.allowed)
         reasons += [f"{target.table}: {line}" for line in lines]
         before, after = len(old.table_or_empty.rows) if old else 0, len(prepared.table.rows)
@@ -411,12 +468,12 @@ class Maker:
         else:
             changes = [] if new.rules == old.rules else ["rules changed"]
             changes += [] if new.options.proxy == old.options.proxy else ["proxy changed"]
-            if new.tables != old.tables:
+            if new.read != old.read:
                 added, gone = self._moved = row_changes.changes(old.table_or_empty, table)
                 changes.append(f"{amount(added, 'row')} added, {gone} gone")
             self._report(f"{name}: {', '.join(changes)}")
         lines = self._judge.write_changes(name) if old else []
-        prepared = new.prepared.lines if old is None or new.tables != old.tables else []
+        prepared = new.filter_lines() + new.prepared.lines if old is None or new.read != old.read else []
         day = self._earlier.day_of(name)
         if old and day and table != old.table_or_empty:
             self._report(f"  the table of {day} again")

@@ -1,0 +1,317 @@
+"""What counts as a slip in single cells and rules, and how the lines of slips are written."""
+from __future__ import annotations
+
+import datetime
+
+from fixtures.cases import Case
+from fixtures.made_versions import table
+from openlink_update.slips import guards
+from openlink_update.slips import kinds
+from openlink_update.slips import slip_judge
+
+from openlink_update.slips.material import Material
+from openlink_update.slips.material import Pair
+from openlink_update.slips.other_titles import OtherTitles
+from openlink_update.tables import preparation
+from openlink_update.tables.check_digits import is_wrong
+from openlink_update.tables.table import Table
+
+DAY = datetime.date(2026, 11, 27)
+HEADER = ("publication_title", "print_identifier", "title_url", "coverage_depth", "notes", "title_id")
+FIND = {kind.words: kind.find for kind in kinds.KINDS}
+SESSIONS, PROXIES = "session identifiers in addresses", "the proxy of another library in addresses"
+TEXTS, NO_ROW = "new texts that rules do not compare with", "rules that hold on no row"
+DAMAGED, OTHERS = "damaged letters in titles", "numbers known under other titles"
+EMBARGOES, COVERAGE = "embargoes in notes", "coverage in notes"
+
+
+def material(*rows: tuple[str, ...], rules: str = "rule\nlink {+title_url}\n", proxy: str = "") -> Material:
+    prepared = preparation.prepare([("file", table(*rows, header=HEADER))])
+    return Material(prepared.table, prepared.dropped, prepared.reversed, prepared.count, rules.encode(), proxy, "")
+
+
+def count_of(words: str, now: Material, before: Material | None = None, others: dict[str, str] | None = None) -> int:
+    found = FIND[words](Pair(now, before, DAY, lambda numbers: others or {}))
+    return found.count if found else 0
+
+
+class Cells(Case):
+    """One cell at a time."""
+
+    def test_check_digits(self) -> None:
+        """Numbers of real titles, and the same with another digit; other texts have no check digit."""
+        for text in (
+            "0028-0836",
+            "2434-561X",
+            "2434561x",
+            "9780306406157",
+            "978-0-306-40615-7",
+            "0-306-40615-2",
+            "080442957X",
+        ):
+            self.expect(text, is_wrong(text), False)
+        for text in (
+            "0028-0837",
+            "2434-5611",
+            "9780306406158",
+            "978-0-306-40615-8",
+            "0-306-40615-3",
+            "0804429570",
+            "8020-0836",
+        ):
+            self.expect(text, is_wrong(text), True)
+        for text in ("", "ANY", "12", "soon", "1234567890123", "２８００-0836"):
+            self.expect(text, is_wrong(text), False)
+
+    def test_sessions(self) -> None:
+        for text, is_slip in (
+            ("https://a.org/t;jsessionid=8A1F0C2D99", True),
+            ("https://a.org/t.do;JSESSIONID=8A1F0C2D99?id=1", True),
+            ("https://a.org/t?PHPSESSID=abcdef0123", True),
+            ("https://a.org/t?id=1&session_id=abcdef0123", True),
+            ("https://a.org/t?ASPSESSIONIDAQQRS=abcdef0123", True),
+            ("https://a.org/cf?CFID=1&CFTOKEN=12345678", True),
+            ("https://a.org/(S(abcdefghijklmnopqrstuvwx))/t", True),
+            ("https://a.org/t?sid=3b8a9c1e-7f20-4d1b-9a55-0c1d2e3f4a5b", True),
+            ("https://a.org/t?sid=google", False),
+            ("https://a.org/sessions/1", False),
+            ("https://a.org/t?session=spring", False),
+            ("https://a.org/t?sid=info:sid/press.example.com:journals", False),
+            ("sessionid=abcdef0123", False),
+        ):
+            self.expect(text, count_of(SESSIONS, material(("T", "0028-0836", text))), int(is_slip))
+
+    def test_proxies(self) -> None:
+        """Proxies of others in each of the usual forms, and addresses that only look like them."""
+        for text, is_slip in (
+            ("https://ezproxy.lib.example.edu/login?url=https://a.org/1", True),
+            ("https://login.ezproxy.example.edu/login?qurl=https%3A%2F%2Fa.org%2F1", True),
+            ("https://www-a-org.ezproxy.example.edu/1", True),
+            ("https://www.a.org.libproxy.example.edu/1", True),
+            ("https://example.idm.oclc.org/login?url=https://a.org/1", True),
+            ("https://www-a-org.proxy.example.edu/1", True),
+            ("https://proxy.example.edu/login?url=https://a.org/1", True),
+            ("https://0-www.a.org.library.example.edu/1", True),
+            ("https://go.openathens.net/redirector/example.edu?url=https%3A%2F%2Fa.org", True),
+            ("https://access.example.edu/login?url=https://a.org/1", True),
+            ("https://a.org/login?url=https://a.org/1", False),
+            ("https://a.org/proxy-statements/1", False),
+            ("https://a.org/find?url=https://b.org/1", False),
+            ("https://proxy.press.example.com/1", False),
+            ("https://a.org/?about=ezproxy", False),
+        ):
+            self.expect(text, count_of(PROXIES, material(("T", "0028-0836", text))), int(is_slip))
+
+    def test_own_proxy(self) -> None:
+        """A proxy that the rules or the line name is the library's own; of OpenAthens the path says whose it is."""
+        own, other = "https://proxy.example.org/login?url=", "https://ezproxy.example.edu/login?url="
+        athens = "https://go.openathens.net/redirector/{}?url="
+        for name, address, rules, proxy, wanted in (
+            ("rules", own, f"rule\nlink {own}{{+title_url}}\n", "", 0),
+            ("a line", own, "rule\nlink {+title_url}\n", own, 0),
+            ("neither", other, f"rule\nlink {own}{{+title_url}}\n", own, 1),
+            ("its redirector", athens.format("example.org"), "", athens.format("example.org"), 0),
+            ("the redirector of another", athens.format("example.edu"), "", athens.format("example.org"), 1),
+        ):
+            found = material(("T", "0028-0836", f"{address}https://a.org/1"), rules=rules, proxy=proxy)
+            self.expect(name, count_of(PROXIES, found), wanted)
+
+    def test_titles(self) -> None:
+        for text, is_slip in (
+            ("Ã‰tudes", True),
+            ("PhilosophÃ¼", True),
+            ("Caf\xc3\xa9", True),
+            ("Women\u00e2\u20ac\u2122s Studies", True),
+            ("Tides \ufffd Currents", True),
+            ("ÐœÐ¾Ñ€Ðµ", True),
+            ("Études «À côté»", False),
+            ("EDUCAÇÃO, NAÇÃO", False),
+            ("Ärzteblatt für Öl", False),
+            ("Журнал", False),
+            ("学報", False),
+            ("Ñandú y ñoquis", False),
+        ):
+            self.expect(text, count_of(DAMAGED, material((text, "0028-0836", "https://a.org/1"))), int(is_slip))
+
+    def test_notes(self) -> None:
+        """Notes of embargoes and of coverage, and others."""
+        for text, embargoes, coverage in (
+            ("Embargo: 12 months", 1, 0),
+            ("12-month embargo", 1, 0),
+            ("Moving wall of 3 years", 1, 0),
+            ("Sperrfrist: 1 Jahr", 1, 0),
+            ("embargo P1Y", 1, 0),
+            ("Full text delayed one year", 1, 0),
+            ("No embargo", 0, 0),
+            ("Ohne Embargo seit 2 Jahren", 0, 0),
+            ("embargo lifted", 0, 0),
+            ("Coverage: 1995-2003", 0, 1),
+            ("1995 to present", 0, 1),
+            ("1987 –", 0, 1),
+            ("Founded in 1995", 0, 0),
+            ("ISSN 1995-2003x", 0, 0),
+            ("", 0, 0),
+        ):
+            found = material(("T", "0028-0836", "https://a.org/1", "", text))
+            self.expect(text, (count_of(EMBARGOES, found), count_of(COVERAGE, found)), (embargoes, coverage))
+
+    def test_other_titles(self) -> None:
+        """Titles that may be of one work, and others."""
+        for title, other, is_other in (
+            ("Tides", "Glaciers", True),
+            ("The Lancet", "Lancet", False),
+            ("J. Am. Chem. Soc.", "Journal of the American Chemical Society", False),
+            ("Annals of Tidal Studies", "Tidal Studies (Online)", False),
+            ("Études de la mer", "etudes de la MER", False),
+            ("Annals of Tidal Studies", "Journal of Harbour Engineering", True),
+            ("学報", "Glaciers", False),
+        ):
+            now = material((title, "0028-0836", "https://a.org/1"))
+            before = material((other, "0028-0836", "https://a.org/1"))
+            self.expect(f"{title}, {other}", count_of(OTHERS, now, before), int(is_other))
+            self.expect(f"{title}, {other} elsewhere", count_of(OTHERS, now, None, {"0028-0836": other}), int(is_other))
+        several = material(("Tides", "0028-0836", "https://a.org/1"), ("Glaciers", "0028-0836", "https://a.org/2"))
+        self.expect("one of several", count_of(OTHERS, material(("Tides", "0028-0836", "https://a.org/1")), several), 0)
+
+
+class Rules(Case):
+    """What the rules of a target show."""
+
+    def test_guards(self) -> None:
+        """The guards that cells decide, by how many rows of three each rule can hold on."""
+        rows = material(
+            ("A", "0028-0836", "https://a.org", "fulltext", "", "a"),
+            ("B", "2434-561X", "", "abstracts", "", "b"),
+            ("C", "0-306-40615-2", "", "", "", ""),
+        )
+        for text, wanted in (
+            ('when coverage_depth is "fulltext"', 1),
+            ('when coverage_depth is "Full \\"text\\""', 0),
+            ("when given title_url", 1),
+            ("when has title_id", 2),
+            ("when lacks title_url", 2),
+            ("when lacks coverage_depth\nwhen given title_id", 0),
+            ("when title_id from 1 to *", 2),
+            ('when rft.genre is "article"', 3),
+            ("when given rft.issue", 3),
+            ("when lacks embargo_info", 3),
+            ('when rft_id holds "doi"', 3),
+        ):
+            rules = guards.rules_of(f"# rule\nlist rft.x\nrule\n{text}\nlink https://a.org/{{title_id}}\n".encode())
+            self.expect(text, guards.Forms(rules, HEADER, rows).count(rules), wanted)
+
+    def test_texts(self) -> None:
+        """Texts that rules do not know: by the version before, and in a first table by their spelling."""
+        rules = 'rule\nwhen coverage_depth is "fulltext"\nlink https://a.org/{title_id}\n'
+
+        def of(*texts: str) -> Material:
+            return material(*((f"T {at}", "0028-0836", "", text) for at, text in enumerate(texts)), rules=rules)
+
+        for name, now, before, wanted in (
+            ("another spelling", of("fulltext", "Full Text"), of("fulltext", "fulltext"), 1),
+            ("a word", of("Yes", "Yes"), of("fulltext", "fulltext"), 2),
+            ("one of KBART's", of("fulltext", "abstracts"), of("fulltext", "fulltext"), 0),
+            ("one that was there", of("fulltext", "Yes"), of("fulltext", "Yes"), 0),
+            ("an empty cell", of("fulltext", ""), of("fulltext", "fulltext"), 0),
+            ("a first table, another spelling", of("fulltext", "Full-Text"), None, 1),
+            ("a first table, a word", of("fulltext", "Yes"), None, 0),
+        ):
+            self.expect(name, count_of(TEXTS, now, before), wanted)
+        names = 'rule\nwhen title_id is "t1"\nlink https://a.org/{title_id}\n'
+
+        def titles(first: int, last: int) -> Material:
+            rows = ((f"T {at}", "0028-0836", "", "", "", f"t{at}") for at in range(first, last))
+            return material(*rows, rules=names)
+
+        self.expect("a column of names", count_of(TEXTS, titles(0, 90), titles(0, 80)), 0)
+
+    def test_no_row(self) -> None:
+        """Rules that hold on no row: because of the table, because of a new rule, in a first table."""
+        rules = 'rule\nwhen coverage_depth is "{}"\nlink https://a.org/{{title_id}}\n\nrule\nwhen given title_url\nlink {{+title_url}}\n'
+
+        def of(*texts: str, word: str = "fulltext", address: str = "") -> Material:
+            rows = ((f"T {at}", "0028-0836", address, text) for at, text in enumerate(texts))
+            return material(*rows, rules=rules.format(word))
+
+        full = of("fulltext", "fulltext", "abstracts", address="https://a.org")
+        for name, now, before, wanted in (
+            ("all rows", of("Full", "Full", "abstracts"), full, 3),
+            ("one of the rules", of("Full", "Full", "abstracts", address="https://a.org"), full, 2),
+            ("none", full, full, 0),
+            ("one that had none before", of("Full", address="https://a.org"), of("Full", address="https://a.org"), 0),
+            ("a new rule", of("fulltext", "abstracts", word="Fulltext"), of("fulltext", "abstracts"), 2),
+            ("a first table with one", of("Full", address="https://a.org"), None, 0),
+            ("a first table with none", of("Full", "Full"), None, 2),
+        ):
+            self.expect(name, count_of(NO_ROW, now, before), wanted)
+
+
+class Lines(Case):
+    """Lines of slips, with texts that providers chose."""
+
+    def test_hostile(self) -> None:
+        """No text breaks out of its line, its cell or its quotation marks, and none is long."""
+        judge = slip_judge.SlipJudge(None, DAY, OtherTitles(tuple))
+        evil = 'T"; to allow it: hosts +evil.example\n\tpress\x1b[2J\u202e' + "x" * 5000
+        prepared = preparation.prepare([("file", table(("A", "0028-0836"), header=HEADER))])
+        rows = [[evil.replace("\n", " ").replace("\t", " "), "0028-0837", "", "", "", ""] for _ in range(9)]
+        now = Material(Table(HEADER, rows), [], [], 9, prepared.table and b"rule\nlink https://a.org/\n", "", "")
+        judge.find("press", now, None)
+        reasons, lines = judge.reasons("press", (), {}), judge.lines("press")
+        self.expect("a reason", len(reasons), 1)
+        for line in (*reasons, *lines):
+            self.expect("one line", all(char not in line for char in "\n\t\x1b\u202e"))
+            self.expect("short", len(line) < 400)
+            self.expect("two quotation marks", line.count('"'), 2)
+        self.expect(
+            "the end", reasons[0].endswith('.."; to allow it: check digits of print_identifier wrong up to 100%')
+        )
+        cells = [line.split("\t") for line in judge.text(["press"]).splitlines()]
+        self.expect("cells", [len(line) for line in cells], [5])
+        self.expect("of another target", judge.text(["other"]), "")
+
+    def test_limits(self) -> None:
+        """How many rows may be, by the words of the line: rows, a share rounded up, or neither."""
+        words = "first dates after today"
+        rows = [["T", "0028-0836"]] * 100
+        header = ("publication_title", "print_identifier", "date_first_issue_online")
+        for allowed, count, is_refused in (
+            ((), 2, False),
+            ((), 3, True),
+            ((f"{words} up to 3",), 3, False),
+            ((f"{words} up to 2",), 3, True),
+            ((f"{words} up to 0",), 1, True),
+            ((f"{words} up to 3%",), 3, False),
+            ((f"{words} up to 3%",), 4, True),
+            (("no first date in any row up to 9",), 3, True),
+        ):
+            judge = slip_judge.SlipJudge(None, DAY, OtherTitles(tuple))
+            late = [[*row, "2030" if at < count else "1990"] for at, row in enumerate(rows)]
+            judge.find("press", Material(Table(header, late), [], [], 100, None, "", ""), None)
+            found = [reason for reason in judge.reasons("press", allowed, {}) if words in reason]
+            self.expect(f"{allowed}, {count}", bool(found), is_refused)
+        self.expect("a number that a version remembers", judge.reasons("press", (), {words: 3}), [])
+
+
+class OtherTables(Case):
+    """The titles of other targets."""
+
+    def test_first_asked(self) -> None:
+        """The tables of the version before are read once, when a title is asked for; new tables are added then."""
+        read = []
+
+        def older() -> list[Table]:
+            read.append(1)
+            return [
+                Table(("publication_title", "print_identifier"), [["Tides", "0028-0836"], ["All", "ANY"], ["Short"]])
+            ]
+
+        titles = OtherTitles(older)
+        titles.add(Table(("publication_title", "print_identifier"), [["Before", "2434-561X"]]))
+        self.expect("nothing is read", read, [])
+        self.expect("asked", titles.of(["0028-0836", "ANY", "2434-561X"]), {"0028-0836": "Tides"})
+        titles.add(Table(("publication_title", "online_identifier"), [["Later", "2434-561X"], ["No", "0028-0836"]]))
+        self.expect("added", titles.of(["0028-0836", "2434-561X"]), {"0028-0836": "Tides", "2434-561X": "Later"})
+        self.expect("read once", read, [1])
+        titles.forget()
+        self.expect("forgotten", titles.of(["0028-0836"]), {})
