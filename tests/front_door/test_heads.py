@@ -93,7 +93,8 @@ class Heads(TitlesCase):
         self.expect("last", self.site.get(f"/go?{query}").status, 200)
         self.write(tidal_press=HEAD.format("Tidal", "Tiden", "Full text"))
         reply = self.site.get(f"/go?{query}")
-        self.expect("first", (reply.status, reply.headers["Location"].startswith("https://press.example.com/")), (302, True))
+        is_there = reply.headers["Location"].startswith("https://press.example.com/")
+        self.expect("first", (reply.status, is_there), (302, True))
 
     def test_lists(self) -> None:
         """The lists of titles have the label too."""

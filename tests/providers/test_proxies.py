@@ -24,6 +24,7 @@ DOI = "rule\nwhen given x.doi\nlink https://doi.org/{x.doi}\n"
 PAGE = "rule\nlink {+title_page}\n"
 NO_PAGE = 'rule\nwhen title_page is "none:"\nlink none:\n'
 SICI = "10.1002/(SICI)1096(1996)99:1<1::AID-A1>3.0.CO;2-1"
+ENCODED_SICI = "&x.doi_encoded=10.1002%252F(SICI)1096(1996)99%253A1%253C1%253A%253AAID-A1%253E3.0.CO%253B2-1"
 LATE = "&rft.date=2015&x.from=20150101&x.to=20151231"
 
 
@@ -139,8 +140,7 @@ class Equal(Case):
                     Path(folder, "plain.rules").write_text(rules)
                     Path(folder, "proxy.rules").write_bytes(proxies.with_proxy(rules.encode(), prefix, shown))
                     for query in queries:
-                        encoded = "&x.doi_encoded=10.1002%252F(SICI)1096(1996)99%253A1%253C1%253A%253AAID-A1%253E3.0.CO%253B2-1"
-                        sent = f"rft.issn=2901-0012&{query}{encoded if SICI in query else ''}"
+                        sent = f"rft.issn=2901-0012&{query}{ENCODED_SICI if SICI in query else ''}"
                         one, other = (self.link(program, name, sent) for name in ("plain", "proxy"))
                         behind = other.removeprefix(prefix)
                         same = unquote(behind) if proxies.is_encoding(prefix) else behind
