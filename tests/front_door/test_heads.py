@@ -125,7 +125,7 @@ class Heads(TitlesCase):
                 text = self.site.get(f"/find?{QUERY}").text
                 self.expect(f"{name}: no markup", SCRIPT in text, False)
                 self.expect(f"{name}: the page is whole", text.count("<main>") == text.count("</html>") == 1)
-        lines = ["\n", "tidal-press\n", "tidal-press\t\n", "tidal-press\tFull text\t=\n", "\t\t\t\n", "\xff\xfe\t\x00\n"]
+        lines = ["\n", "tidal-press\n", "tidal-press\t\n", "tidal-press\tFull text\t=\n", "\t\t\t\n", "\xff\t\x00\n"]
         (Path(self.site.version()) / "index/heads").write_text("\n" + "".join(lines))
         self.expect("damaged lines", self.shown(), ("Full text", "tidal-press"))
 
