@@ -279,6 +279,11 @@ class Runs(_Run):
             "no interpreter", self.run_of("#!/nowhere\n"), "fault: it cannot be started: No such file or directory"
         )
 
+    def test_full_disk(self) -> None:
+        """It is the failure of this target too."""
+        with mock.patch.object(Path, "write_bytes", side_effect=OSError(28, "No space left on device", "/x/data")):
+            self.expect("no room", self.shell("cat"), "fault: /x/data: No space left on device")
+
     def test_kernel_without_landlock(self) -> None:
         with mock.patch("openlink_update.rights.closed_files._version", lambda: 0):
             said = self.shell("echo x")
