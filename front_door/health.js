@@ -169,5 +169,5 @@ async function machine(r) {
 }
 
 export default {
-    portsOf, ageOf, updateOf, limitOf, replyOf, health: exchange.guarded(health), machine: exchange.guarded(machine)
+    portsOf, textIn, answers, timeOf, ageOf, updateOf, limitOf, replyOf, health: exchange.guarded(health), machine: exchange.guarded(machine)
 };

@@ -1,5 +1,5 @@
-"""The counts of months: what rotated logs hold is counted once and stays, whatever becomes of the files; and no other file
-than a log of the library is read."""
+"""The counts of months: what rotated logs hold is counted once and stays, whatever becomes of the files; and no other
+file than a log of the library is read."""
 from __future__ import annotations
 
 import gzip
@@ -38,8 +38,8 @@ class MonthsCase(Case):
 
 class Months(MonthsCase):
     def test_weeks_of_rotation(self) -> None:
-        """Forty days, each with its own number of lines, of which logs of 14 days are kept, as Debian does: at the end each
-        line was counted once. A day without a run, and three runs on one day, change nothing."""
+        """Forty days, each with its own number of lines, of which logs of 14 days are kept, as Debian does: at the end
+        each line was counted once. A day without a run, and three runs on one day, change nothing."""
         random.seed(8)
         wanted: Counter[str] = Counter()
         with MadeDesk() as desk:
@@ -166,6 +166,7 @@ class StateOnDisk(MonthsCase):
     def test_damaged_state(self) -> None:
         with MadeDesk() as desk:
             desk.before.mkdir()
-            text = "2026-05\trequests\t\t7\n2026-05\trequests\t\t-3\nx\n2026-05\trequests\t\t\u0667\n2026-05\trequests\t\t1\t1\n"
+            text = "2026-05\trequests\t\t7\n"
+            text += "2026-05\trequests\t\t-3\nx\n2026-05\trequests\t\t\u0667\n2026-05\trequests\t\t1\t1\n"
             Path(desk.before, "months.tsv").write_text(text)
             self.expect("lines that are whole", self.requests(desk), {"2026-05": 7})

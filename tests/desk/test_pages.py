@@ -1,5 +1,5 @@
-"""The pages of the desk: what each shows, that no text of a stranger breaks out, that they stay readable and bounded, and
-that no link of theirs leads to nothing."""
+"""The pages of the desk: what each shows, that no text of a stranger breaks out, that they stay readable and bounded,
+and that no link of theirs leads to nothing."""
 from __future__ import annotations
 
 import csv
@@ -26,13 +26,13 @@ from openlink_update.run_records import RunRecord
 ENGLISH = words_in.languages_of(["en"])[0]
 # What the pages may have of HTML and SVG: nothing that runs, loads or sets a style.
 ELEMENTS = set(
-    """a bdi body caption code details div figcaption figure footer h1 h2 head header html li line link main meta nav ol p
-    pre rect strong summary svg table tbody td text th thead title tr ul""".split()
+    """a bdi body caption code details div figcaption figure footer h1 h2 head header html li line link main meta nav ol
+    p     pre rect strong summary svg table tbody td text th thead title tr ul""".split()
 )
 ATTRIBUTES = set(
     """anchor aria-current aria-hidden aria-label aria-labelledby charset class colspan content dir direction
-    fill font-size height href hreflang id lang name open rel role scope stroke stroke-width tabindex text-anchor viewbox
-    width x x1 x2 y y1 y2""".split()
+    fill font-size height href hreflang id lang name open rel role scope stroke stroke-width tabindex text-anchor
+    viewbox     width x x1 x2 y y1 y2""".split()
 )
 MOST_BYTES = 1_500_000  # of a page
 
@@ -154,6 +154,39 @@ class Pages(Case):
             desk.make()
             self.expect("and again for others", desk.notes.read_text().count("lint"), 2)
 
+    def test_collection(self) -> None:
+        """The titles of two targets that share one, by hand; the chart of decades, and the tables."""
+        head = "publication_title\tprint_identifier\tcoverage_from\tcoverage_to\n"
+        rows = {
+            "one": "A\t2901-0012\t19950101\t20051231\nB\t2915-0272\t20010101\t20031231\n",
+            "two": "A\t2901-0012\t19950101\t19991231\nC\t2929-0538\t20110101\t99999999\nD\t2936-0667\t0\t0\n",
+        }
+        with MadeDesk() as desk:
+            for name, text in rows.items():
+                desk.add_target(name)
+                desk.write(f"tables/{name}.txt", head + text)
+            files = desk.make()
+            check(self, "the collection", files)
+            page = Page(files["collection.en.html"])
+            self.expect("all titles", "Titles: 4" in page.text, True)
+            table = list(csv.reader(io.StringIO(files["collection.tsv"]), dialect="excel-tab"))
+            self.expect("the targets", [row[:3] for row in table[1:]], [["one", "2", "1"], ["two", "3", "2"]])
+            self.expect(
+                "the decades",
+                [table[0][3:], *(row[3:] for row in table[1:])],
+                [["1990", "2000", "2010", "2020"], ["1", "2", "0", "0"], ["1", "0", "1", "1"]],
+            )
+            overlaps = list(csv.reader(io.StringIO(files["overlaps.tsv"]), dialect="excel-tab"))
+            self.expect("overlaps", overlaps[1:], [["one", "two", "1", "50"], ["two", "one", "1", "33"]])
+            self.expect("the charts", page.elements.count("figure"), 2)
+            cells = [it.strip() for it in page.texts if it.strip()]
+            at = cells.index("2020–2029")
+            self.expect(
+                "decades on the page",
+                cells[at : at + 8],
+                ["2020–2029", "1", "2010–2019", "1", "2000–2009", "2", "1990–1999", "1"],
+            )
+
     def test_hostile_texts(self) -> None:
         """Names of targets are as a list of targets allows them; all other texts may be anything."""
         with MadeDesk() as desk:
@@ -208,6 +241,21 @@ class Pages(Case):
             self.expect(
                 "a long rule file", "The first 1,000 lines" in Page(files[f"target-{states[0].name}.en.html"]).text
             )
+
+    def test_bounds(self) -> None:
+        """Lines of rules, and probes of a target."""
+        for lines, probes in ((1000, 50), (1001, 51)):
+            with MadeDesk() as desk:
+                desk.add_target("press", rules="rule\n" * lines)
+                own = tuple(ProbeResult(it, f"issn={it}", "press", True) for it in range(probes))
+                desk.records = [record(probes=own)]
+                page = Page(desk.make()["target-press.en.html"])
+                self.expect(
+                    f"{lines} lines",
+                    (page.text.count("rule\n"), "The file has more" in page.text),
+                    (1000, lines > 1000),
+                )
+                self.expect(f"{probes} probes", page.text.count("issn="), 50)
 
     def test_damaged_version(self) -> None:
         """No file of the state or of the version that is missing or damaged ends the desk."""

@@ -1,5 +1,5 @@
-"""The words of the desk: each language of the reader's page has all of them, with the places for values, and none is left
-in English; and the templates use each."""
+"""The words of the desk: each language of the reader's page has all of them, with the places for values, and none is
+left in English; and the templates use each."""
 from __future__ import annotations
 
 import re
@@ -42,8 +42,7 @@ class Words(Case):
         texts.append(Path(week.__file__).read_text("utf-8"))
         used = set(re.findall(r"[\"'](\w+)[\"']", "".join(texts)))
         used |= {"changes", "dropped"}  # the lists of a target, by the names of their folders
-        waiting = {"collection", "titles", "unique", "overlap", "other", "decades", "decade"}
-        self.expect("words that no page has", set(ENGLISH) - used - waiting, set())
+        self.expect("words that no page has", set(ENGLISH) - used, set())
 
     def test_numbers(self) -> None:
         numbers = {t.tag: t.number(1234567) for t in words_in.languages_of(["en", "de", "fr", "zh-Hans"])}

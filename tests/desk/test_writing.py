@@ -97,14 +97,19 @@ class Writing(Case):
             owners = {path.stat().st_uid for path in Path(desk.library, "desk/current/").rglob("*")}
             self.expect("owners", owners, {0})
             program = Path(desk.top, "program")
-            program.write_text('#!/bin/sh\nid -u >"${0%/*}/desk/who" 2>/dev/null; id -u >&2; exit 3\n')
+            program.write_text(
+                '#!/bin/sh\nid -u >"${0%/*}/desk/who"\n/usr/bin/python3 -c "import socket; socket.socket()" 2>/dev/null &&'
+                ' echo network >>"${0%/*}/desk/who"\nexit 3\n'
+            )
             program.chmod(0o755)
             Path(desk.library, "desk/who").touch(0o666)
             Path(desk.library, "desk/who").chmod(0o666)
             for path in Path(desk.library, "desk/current/state").iterdir():
                 path.write_text("") if path.name == "lint.tsv" else None
             desk.desk("--program", str(program))
-            user = int(Path(desk.library, "desk/who").read_text() or 0)
+            who = Path(desk.library, "desk/who").read_text()
+            user = int(who.split()[0] if who else 0)
+            self.expect("no network", "network" in who, False)
             self.expect("who runs lint", 61184 <= user < 65520, True)
             Path(desk.library, "desk/who").unlink()
 

@@ -1,5 +1,5 @@
-"""The librarian's desk through nginx: on the machine's own port always, on the readers' site behind the password of /why
-alone, and of its folders nothing but pages, tables and the two lists of a version."""
+"""The librarian's desk through nginx: on the machine's own port always, on the readers' site behind the password of
+/why alone, and of its folders nothing but pages, tables and the two lists of a version."""
 from __future__ import annotations
 
 import base64

@@ -14,7 +14,8 @@ from program import test_readme
 
 PAGE = "docs/man/openlink.1"
 # The scripts of update/ that have a help, with the sections of their pages, and the commands that have their own help.
-SCRIPTS = {"update": (8, ()), "fetch": (8, ()), "holdings": (1, ()), "library": (8, ("add", "remove", "list", "mail"))}
+SCRIPTS = {"update": (8, ()), "desk": (8, ()), "fetch": (8, ()), "holdings": (1, ()),
+           "library": (8, ("add", "remove", "list", "mail"))}
 # There are at least this many examples, commands, exit statuses and limits in the help.
 LEAST = {"examples": 3, "commands": 12, "exit statuses": 5, "limits": 5}
 

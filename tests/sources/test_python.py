@@ -19,7 +19,17 @@ from fixtures.cases import Case
 
 TOP = Path(fixtures.TOP)
 PACKAGE = "openlink_update"
-COMMANDS = ("update", "fetch", "library", "holdings", "probe", "targets", "update.d/targets_file.py")
+COMMANDS = (
+    "update",
+    "desk",
+    "fetch",
+    "library",
+    "holdings",
+    "counts",
+    "probe",
+    "targets",
+    "update.d/targets_file.py",
+)
 AMONG = ("weekly_run.py", "shown_text.py", "input_files.py", "fetch/sources.py", "versions/library.py")
 LEAST, LEAST_SUBPACKAGES = 55, 9
 MOST_MODULES, MOST_WITH_A_REPLY = 16, 22  # that openlink-fetch loads, its subpackages aside
@@ -56,7 +66,7 @@ SPOILT = (
     ("received/__init__.py", '\n__all__ = ["archives", "headers", "limits", "patterns", "texts"]\n', "exports"),
     ("received/__init__.py", "\n__all__ = []\n", "exports"),
     ("children.py", "\nfrom openlink_update.versions import library\n\nprint(library)\n", "modules"),
-    ("received/headers.py", "\nfrom openlink_update.tables import preparation\n\nprint(preparation)\n", "modules"),
+    ("received/headers.py", "\nfrom openlink_update.site import targets_file\n\nprint(targets_file)\n", "modules"),
 )
 
 

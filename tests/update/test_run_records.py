@@ -1,5 +1,5 @@
-"""The record of each run, in the folder `runs` of the library: what became of each target, and of the run; that strangers'
-texts stay texts; and that a record that cannot be written, or is damaged, stops nothing."""
+"""The record of each run, in the folder `runs` of the library: what became of each target, and of the run; that
+strangers' texts stay texts; and that a record that cannot be written, or is damaged, stops nothing."""
 from __future__ import annotations
 
 import json

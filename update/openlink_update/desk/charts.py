@@ -10,7 +10,7 @@ _MOST_CHARACTERS = 40  # of a label
 
 
 @dataclasses.dataclass(frozen=True)
-class Bar:
+class _Bar:
     x: float
     y: float
     width: float
@@ -19,7 +19,7 @@ class Bar:
 
 
 @dataclasses.dataclass(frozen=True)
-class Label:
+class _Label:
     x: float
     y: float
     text: str
@@ -30,8 +30,8 @@ class Label:
 class Chart:
     width: int
     height: int
-    bars: tuple[Bar, ...]
-    labels: tuple[Label, ...]
+    bars: tuple[_Bar, ...]
+    labels: tuple[_Label, ...]
     lines: tuple[float, ...] = ()  # heights of lines across
 
 
@@ -73,12 +73,12 @@ def columns(pairs: Sequence[Pair]) -> Chart:
     for number, it in enumerate(pairs):
         x, width = _LEFT + (number + 0.15) * place, 0.7 * place
         heights = round(it.first * scale, 1), round(it.second * scale, 1)
-        bars.append(Bar(round(x, 1), round(base - heights[0], 1), round(width, 1), heights[0], "a"))
-        bars.append(Bar(round(x, 1), round(base - sum(heights), 1), round(width, 1), heights[1], "b"))
+        bars.append(_Bar(round(x, 1), round(base - heights[0], 1), round(width, 1), heights[0], "a"))
+        bars.append(_Bar(round(x, 1), round(base - sum(heights), 1), round(width, 1), heights[1], "b"))
         middle = round(x + width / 2, 1)
-        labels += [Label(middle, base + 13, it.label), Label(middle, base + 27, it.below)]
+        labels += [_Label(middle, base + 13, it.label), _Label(middle, base + 27, it.below)]
     lines = tuple(round(base - number * step * scale, 1) for number in range(steps + 1))
-    labels += [Label(_LEFT - 5, line + 4, short(n * step), "end") for n, line in enumerate(lines)]
+    labels += [_Label(_LEFT - 5, line + 4, short(n * step), "end") for n, line in enumerate(lines)]
     return Chart(_WIDTH, base + _BOTTOM, tuple(it for it in bars if it.height), _with_text(labels), lines)
 
 
@@ -89,12 +89,12 @@ def rows(pairs: Sequence[Pair]) -> Chart:
     for number, it in enumerate(pairs):
         y = number * _ROW
         name = it.label if len(it.label) <= _MOST_CHARACTERS else f"{it.label[:_MOST_CHARACTERS]}.."
-        labels += [Label(0, y + 13, name, "start"), Label(_WIDTH, y + 13, it.below, "end")]
+        labels += [_Label(0, y + 13, name, "start"), _Label(_WIDTH, y + 13, it.below, "end")]
         height = _BAR if not it.second else _BAR / 2
-        bars.append(Bar(0, y + 18, round(it.first * _WIDTH / greatest, 1), height, "a"))
-        bars.append(Bar(0, y + 18 + height, round(it.second * _WIDTH / greatest, 1), height, "b"))
+        bars.append(_Bar(0, y + 18, round(it.first * _WIDTH / greatest, 1), height, "a"))
+        bars.append(_Bar(0, y + 18 + height, round(it.second * _WIDTH / greatest, 1), height, "b"))
     return Chart(_WIDTH, len(pairs) * _ROW + 4, tuple(it for it in bars if it.width), _with_text(labels))
 
 
-def _with_text(labels: Sequence[Label]) -> tuple[Label, ...]:
+def _with_text(labels: Sequence[_Label]) -> tuple[_Label, ...]:
     return tuple(it for it in labels if it.text)

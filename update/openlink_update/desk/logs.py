@@ -63,8 +63,8 @@ class _Plain(io.RawIOBase):
 
 
 def files_of(folder: RootFolder, log: str) -> Iterator[tuple[str, str, BinaryIO]]:
-    """Yields the files of a log, each open once with its name and the time that it is known by. What cannot be opened is
-    left out."""
+    """Yields the files of a log, each open once, with its name and the time that it is known by. What cannot be opened
+    is left out."""
     try:
         names = sorted(name for name in folder.names() if _is_of(name, log))
     except OSError:

@@ -12,7 +12,7 @@ from openlink_update.counts.log_counts import OTHERS, Row
 from openlink_update.desk import logs
 from openlink_update.root_folder import RootFolder
 
-MONTHS = "months.tsv"  # a month, a kind, a name and a number
+_MONTHS = "months.tsv"  # a month, a kind, a name and a number
 _COUNTED = "counted.tsv"  # a log, and the time of a rotated file that has been counted
 _MOST_MONTHS, _MOST_NAMES = 120, 300  # that are stored, and of each kind in a month that is over
 _MOST_NAMES_NOW = 5000  # in the last two months
@@ -30,7 +30,7 @@ class Months:
     counted: list[tuple[str, str]]
 
     def write(self, folder: Path) -> None:
-        with open(folder / MONTHS, "w", encoding="utf-8") as file:
+        with open(folder / _MONTHS, "w", encoding="utf-8") as file:
             file.writelines(f"{month}\t{kind}\t{name}\t{number}\n" for month, kind, name, number in self.stored)
         with open(folder / _COUNTED, "w", encoding="utf-8") as file:
             file.writelines(f"{log}\t{mark}\n" for log, mark in self.counted)
@@ -100,7 +100,7 @@ def _lines_of(path: Path, width: int) -> Iterator[list[str]]:
 
 def _stored_in(state: Path) -> Counter[_Key]:
     stored: Counter[_Key] = Counter()
-    for month, kind, name, number in _lines_of(state / MONTHS, 4):
+    for month, kind, name, number in _lines_of(state / _MONTHS, 4):
         if number.isascii() and number.isdigit() and len(number) < 16:
             stored[month, kind, name] += int(number)
     return stored

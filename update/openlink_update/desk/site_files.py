@@ -8,7 +8,7 @@ from pathlib import Path
 
 from openlink_update import shown_text
 from openlink_update.counts.log_counts import Row
-from openlink_update.desk import lint_lines, months, targets, week, words_in, year
+from openlink_update.desk import collection, lint_lines, metrics, months, targets, titles_page, week, words_in, year
 from openlink_update.desk.lint_lines import LintLines
 from openlink_update.desk.months import Months
 from openlink_update.desk.templates_in import FOLDER, Templates
@@ -57,6 +57,10 @@ class _Files:
         counts.write(state)
         self._write_week()
         self._write_year(counts)
+        titles = self._write_collection()
+        month = self._source.now.strftime("%Y-%m")
+        shown = metrics.text_of(self._source.records, self._targets, titles, counts.rows, month)
+        (state / metrics.NAME).write_text(shown, encoding="utf-8", errors="replace")
         self._write_rules(state)
         first = self._folder / f"week.{self._languages[0].tag}.html"
         shutil.copyfile(first, self._folder / "index.html")
@@ -72,7 +76,7 @@ class _Files:
                 t=t,
                 page=page,
                 file=file,
-                pages=("week", "year", "rules"),
+                pages=("week", "year", "collection", "rules"),
                 languages=self._languages,
                 library=_name_of(self._site, t),
                 made=self._source.now.strftime("%Y-%m-%d %H:%M UTC"),
@@ -98,6 +102,17 @@ class _Files:
     def _write_year(self, counts: Months) -> None:
         self._page("year.html", "year", "year", year=year.year_of(counts.rows))
         self._put_table("year.tsv", _cells_of_counts(counts.rows))
+
+    def _write_collection(self) -> int | None:
+        """Returns how many titles the version has, if there is one."""
+        version = self._source.version
+        found = collection.collection_of(version, self._source.now.date()) if version else None
+        shown = titles_page.titles_of(found) if found else None
+        self._page("collection.html", "collection", "collection", titles=shown)
+        if found:
+            self._put_table("collection.tsv", iter(titles_page.cells_of(found)))
+            self._put_table("overlaps.tsv", iter(found.rows()))
+        return found.titles if found else None
 
     def _write_rules(self, state: Path) -> None:
         self._page("rules.html", "rules", "rules", names=[target.name for target in self._targets])

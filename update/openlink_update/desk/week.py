@@ -26,7 +26,7 @@ _NOT_FETCHED = ("kept the old file", "not fetched")
 
 
 @dataclasses.dataclass(frozen=True)
-class First:
+class _First:
     """What needs her, lines that say why, and the target that it is about."""
 
     text: str
@@ -35,7 +35,7 @@ class First:
 
 
 @dataclasses.dataclass(frozen=True)
-class Row:
+class _Row:
     """A target, what the last update made of it, and what the version has; None if it is in no version."""
 
     name: str
@@ -66,9 +66,9 @@ class Row:
 
 @dataclasses.dataclass(frozen=True)
 class Week:
-    first: tuple[First, ...]
+    first: tuple[_First, ...]
     others: int  # beyond those
-    rows: tuple[Row, ...]
+    rows: tuple[_Row, ...]
     fetches: tuple[tuple[str, str], ...]
     runs: tuple[RunRecord, ...]
     probes: tuple[ProbeResult, ...]
@@ -81,7 +81,7 @@ def week_of(records: Sequence[RunRecord], targets: Sequence[Target], now: dateti
     states = {state.name: state for state in last.targets} if last else {}
     known = {target.name: target for target in targets}
     rows = tuple(
-        Row(name, t[_STATES[states[name].state] if name in states else "unknown"], states.get(name), known.get(name))
+        _Row(name, t[_STATES[states[name].state] if name in states else "unknown"], states.get(name), known.get(name))
         for name in dict.fromkeys((*known, *states))
     )
     first = _first_of(last, records, rows, now, t)
@@ -96,24 +96,24 @@ def week_of(records: Sequence[RunRecord], targets: Sequence[Target], now: dateti
 
 
 def _first_of(
-    last: RunRecord | None, records: Sequence[RunRecord], rows: Sequence[Row], now: datetime.datetime, t: Language
-) -> tuple[First, ...]:
+    last: RunRecord | None, records: Sequence[RunRecord], rows: Sequence[_Row], now: datetime.datetime, t: Language
+) -> tuple[_First, ...]:
     if last is None:
-        return (First(t["noRun"]),)
-    found = [First(t.filled("ended", str(last.status)), last.lines[-_MOST_LINES:])] if last.status > 1 else []
+        return (_First(t["noRun"]),)
+    found = [_First(t.filled("ended", str(last.status)), last.lines[-_MOST_LINES:])] if last.status > 1 else []
     days = _days_since_good(records, now)
-    found += [First(t.filled("old", t.number(days)))] if days is not None and days > _MOST_DAYS else []
+    found += [_First(t.filled("old", t.number(days)))] if days is not None and days > _MOST_DAYS else []
     for row in rows:
         if row.needs_her and row.said:
             name = "keptOld" if row.said.state == run_notes.KEPT else "leftOut"
-            found.append(First(t.filled(name, row.name), row.lines[1:], row.name))
-    found += [First(t.filled("notHolding", probe.query), (probe.targets,)) for probe in last.probes if not probe.holds]
+            found.append(_First(t.filled(name, row.name), tuple(map(str.strip, row.lines[1:])), row.name))
+    found += [_First(t.filled("notHolding", probe.query), (probe.targets,)) for probe in last.probes if not probe.holds]
     bad = [pair for pair in last.fetches if pair[1].startswith(_NOT_FETCHED)]
-    found += [First(t.filled("notFetched", file), (line,)) for file, line in bad]
+    found += [_First(t.filled("notFetched", file), (line,)) for file, line in bad]
     for row in rows:
         if row.target and row.target.slips:
             lines = tuple(f"{it.words}: {it.count} / {it.rows}: {it.example}" for it in row.target.slips[:_MOST_LINES])
-            found.append(First(t.filled("hasSlips", row.name), lines, row.name))
+            found.append(_First(t.filled("hasSlips", row.name), lines, row.name))
     return tuple(found)
 
 

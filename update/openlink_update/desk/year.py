@@ -13,7 +13,7 @@ _JANUARY = "01"
 
 
 @dataclasses.dataclass(frozen=True)
-class Month:
+class _Month:
     name: str  # YYYY-MM
     requests: int
     without: int  # full text
@@ -26,16 +26,16 @@ class Month:
 
 
 @dataclasses.dataclass(frozen=True)
-class Period:
+class _Period:
     """Some months, the newest last, with their chart."""
 
     name: str
-    months: tuple[Month, ...]
+    months: tuple[_Month, ...]
     chart: Chart
 
 
 @dataclasses.dataclass(frozen=True)
-class Names:
+class _Names:
     """The names with the greatest numbers, each with two numbers, and how many more there are."""
 
     rows: tuple[tuple[str, int, int], ...]
@@ -44,15 +44,15 @@ class Names:
 
 
 @dataclasses.dataclass(frozen=True)
-class Year:
-    last: Period
-    years: tuple[Period, ...]  # earlier ones, the newest first
-    sources: Names
-    targets: Names
-    vain: Names
+class _Year:
+    last: _Period
+    years: tuple[_Period, ...]  # earlier ones, the newest first
+    sources: _Names
+    targets: _Names
+    vain: _Names
 
 
-def year_of(rows: Iterable[Row]) -> Year | None:
+def year_of(rows: Iterable[Row]) -> _Year | None:
     """None if nothing was counted."""
     totals: dict[str, Counter[str]] = {}
     by_name: dict[tuple[str, str], Counter[str]] = {}
@@ -64,7 +64,7 @@ def year_of(rows: Iterable[Row]) -> Year | None:
     months = [_month_of(name, totals[name]) for name in sorted(totals)]
     last = [month.name for month in months[-_MONTHS:]]
     years = sorted({month.name[:4] for month in months[:-_MONTHS]}, reverse=True)[:_MOST_YEARS]
-    return Year(
+    return _Year(
         _period(last[-1], months[-_MONTHS:]),
         tuple(_period(year, [month for month in months if month.name.startswith(year)]) for year in years),
         _names_of(by_name, last, log_counts.SOURCE, log_counts.SOURCE_WITHOUT),
@@ -73,22 +73,22 @@ def year_of(rows: Iterable[Row]) -> Year | None:
     )
 
 
-def _month_of(name: str, totals: Counter[str]) -> Month:
+def _month_of(name: str, totals: Counter[str]) -> _Month:
     kinds = (log_counts.REQUESTS, log_counts.WITHOUT_FULL_TEXT, log_counts.WITHOUT_LINK, log_counts.ERRORS)
-    return Month(name, *(totals[kind] for kind in kinds))
+    return _Month(name, *(totals[kind] for kind in kinds))
 
 
-def _period(name: str, months: Sequence[Month]) -> Period:
+def _period(name: str, months: Sequence[_Month]) -> _Period:
     has_name = {place for place, it in enumerate(months) if it.name[5:] == _JANUARY}
     has_name |= set() if has_name & {1, 2} else {0}  # or both would have one place
     pairs = [
         Pair(it.name[5:], it.with_full_text, it.without, it.name[:4] if place in has_name else "")
         for place, it in enumerate(months)
     ]
-    return Period(name, tuple(months), charts.columns(pairs))
+    return _Period(name, tuple(months), charts.columns(pairs))
 
 
-def _names_of(by_name: dict[tuple[str, str], Counter[str]], months: Sequence[str], first: str, second: str) -> Names:
+def _names_of(by_name: dict[tuple[str, str], Counter[str]], months: Sequence[str], first: str, second: str) -> _Names:
     """The names of a kind in these months, with the numbers of it and of another kind."""
     numbers, others = Counter[str](), Counter[str]()
     for month in months:
@@ -97,7 +97,7 @@ def _names_of(by_name: dict[tuple[str, str], Counter[str]], months: Sequence[str
     every = sorted({*numbers, *others}, key=lambda name: (-numbers[name], -others[name], name))
     found = tuple((name, numbers[name], others[name]) for name in every[:_MOST_NAMES])
     pairs = [Pair(name, number, other, _both(number, other)) for name, number, other in found[:_MOST_SOURCES]]
-    return Names(found, len(every) - len(found), charts.rows(pairs))
+    return _Names(found, len(every) - len(found), charts.rows(pairs))
 
 
 def _both(number: int, other: int) -> str:
