@@ -2,7 +2,9 @@
 of columns that are missing."""
 from __future__ import annotations
 
+from fixtures import needs
 from fixtures.cases import Case
+from fixtures.updates import Library
 from holdings.shapes import PLAIN
 from holdings.shapes import tabs
 from openlink_update import target_options
@@ -141,6 +143,28 @@ class Missing(Case):
         self.expect("a column that has the name", read(cell, both), [says])
         got = table(f"{cell}, print_identifier=-", both)
         self.expect("as the line says", got, "print_identifier\tpublication_title\n2908-0142\tTides\n")
+
+
+@needs.program()
+class Update(Case):
+    def test_names_that_a_table_lacks(self) -> None:
+        """They are said where the table is left out, and after the line is corrected it is served."""
+        with Library() as library:
+            library.write("german.csv", GERMAN)
+            library.write("other.txt", PLAIN.replace("|", "\t"))
+            library.targets = {"german": ("german.csv", ""), "other": ("other.txt", "")}
+            library.write_targets()
+            says = 'no column has a title or an ISSN or ISBN or a date; the file has: "Titel", "ISSN, print", "Verlag", "Beginn"'
+            self.expect_lines("left out", library.update()[1], f"  {library.path('german.csv')}: {says}")
+            cell = f"{ALL}; no column online_identifier"
+            library.targets["german"] = ("german.csv", cell)
+            library.write_targets()
+            self.expect("served", (library.update()[0], library.table("german")), (0, SERVED))
+            library.targets["german"] = ("german.csv", cell.replace("Verlag=-", "Verlag=publisher_name"))
+            library.write_targets()
+            printed = library.update()[1]
+            lines = ["german: options changed, 1 row added, 1 gone", "  named by `columns`: 4 columns"]
+            self.expect_lines("another name", printed, *lines)
 
 
 class NoHeader(Case):
