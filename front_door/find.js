@@ -77,8 +77,8 @@ function follow(r, q, link) {
     logTargets(r, [link.target]);
     r.return(302, link.url);
 }
-// The link of `target`, if the page has one. Without `target` the first link, if there is one alone in the first group or
-// `first=1` asks for it. Otherwise the page, and so if the request may mean several titles.
+// The link of `target`, if the page has one. Without `target` the first link, if there is one alone in the first group
+// or `first=1` asks for it. Otherwise the page, and so if the request may mean several titles.
 async function go(r) {
     const target = exchange.taken(r, 'target');
     const q = await completion.queryOf(r);

@@ -1,6 +1,6 @@
-// What the log has of a request: the source up to its host, and, if the site says so, what was asked for in vain and which
-// link was followed. These have files of their own, with a month and no time, so no line has a number together with a time
-// or a source.
+// What the log has of a request: the source up to its host, and, if the site says so, what was asked for in vain and
+// which link was followed. These have files of their own, with a month and no time, so no line has a number together
+// with a time or a source.
 // text.js says in which njs it runs.
 import texts from './text.js';
 

@@ -105,7 +105,7 @@ function addressOf(link, q, site) {
     if (link.target === undefined) return link.url;
     return pages.addressOf('/go', `target=${encodeURIComponent(link.target)}&${q.args}`, site);
 }
-// The link of a target that the page has: in one of its groups, or to the page of the title; undefined if there is none.
+// The link of a target that the page has, in a group or to the page of the title; undefined if there is none.
 function linkTo(q, groups, target, site) {
     const isOf = (link) => encodeURIComponent(link.target) === target;
     const shown = shownGroups(groups).map((group) => group.links.find(isOf)).find((link) => link !== undefined);

@@ -1,6 +1,7 @@
 // The pages that providers have for the journal or book of a request, whose addresses the index has (title_url). They
 // are offered for targets that have the title and no link, if the request may mean all of it. They are neither links of
-// the program nor full text, so no request counts as one that found something by them. text.js says in which njs it runs.
+// the program nor full text, so no request counts as one that found something by them. text.js says in which njs it
+// runs.
 import coverage from './coverage.js';
 import index from './index.js';
 import texts from './text.js';

@@ -374,6 +374,12 @@ function testMenu() {
     expect('menu', '4 names', headingOf('atitle=a', found(4)), 't1, t2, t3 ..');
     expect('menu', '200 characters', headingOf('atitle=' + repeated('a', 199) + 'b', []), repeated('a', 199) + 'b');
     expect('menu', '201 characters', headingOf('atitle=' + repeated('a', 201), []), repeated('a', 199) + '\u2026');
+    site.isFollowed = true;
+    [[2048, true], [2049, false]].forEach((it) => {
+        const q = openurl.queryOf('atitle=' + repeated('a', it[0] - 7));
+        const text = menus.pageOf(q, menus.groupsOf(found(32), site), site);
+        expect('menu', '32 links of ' + it[0] + ' bytes', text.includes('"/go?target=t31&amp;atitle='), it[1]);
+    });
 }
 function testBrowser() {
     const r = { headersIn: { Host: 'e.org' }, variables: { scheme: 'https' } };

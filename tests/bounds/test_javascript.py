@@ -70,7 +70,7 @@ class Scripts(Case):
         self.check("lists", 4)
 
     def test_menu(self) -> None:
-        self.check("menu", 4)
+        self.check("menu", 6)
 
     def test_log(self) -> None:
         self.check("log")

@@ -13,7 +13,7 @@ from fixtures.cases import Case
 
 LIST = "tests/bounds/bounds.tsv"
 NOT_TRIED, NO_BOUND = "not tried", "no bound: "
-UNTRIED = 9  # lines that may say so; a test that is added makes it smaller
+UNTRIED = 0  # lines that may say so; a test that is added makes it smaller
 
 
 def listed(text: str) -> list[tuple[Number, str]]:

@@ -56,6 +56,9 @@ REFUSED = [
     (b"a b\ttable.txt\tnone.txt\n", 3, "target a b: load: BadMagic at 0"),
     (b"a b\tnone.olk\tempty.txt\n", 4, "target a b: device: none.olk"),
     (b"a b\tcode.olk\tempty.txt\n", 3, "target a b: table: NoHeader"),
+    # Control characters of a name are printed as those of a path.
+    (b"\x1b[2J\x07\tcode.olk\ttable.txt\n", 3, "target \\x1b[2J\\x07: BadTargetName"),
+    (b"a\x7f\x00\x0bb\tnone.olk\ttable.txt\n", 4, "target a\\x7f\\x00\\x0bb: device: none.olk"),
     # It has a byte more than it may have.
     (b"\n" * 65_537, 3, "registry: line 0"),
 ]

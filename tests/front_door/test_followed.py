@@ -1,5 +1,5 @@
-"""Links that readers follow: through /go, which leads to the links of the page and nowhere else, and counts them in a log
-of its own, if the site says so."""
+"""Links that readers follow: through /go, which leads to the links of the page and nowhere else, and counts them in a
+log of its own, if the site says so."""
 from __future__ import annotations
 
 import datetime
@@ -171,7 +171,7 @@ class Followed(SiteCase):
         self.expect("counted", kinds, {"followed", "followed title"})
 
     def test_nowhere_else(self) -> None:
-        """A name that the page does not have gives the page, which is a request as any other, and no link passes it on."""
+        """A name that the page does not have gives the page, which is a request as any other. No link passes it on."""
         self.on()
         clicks = lines_of(self.site, LOG)
         for target in NO_TARGETS:

@@ -27,9 +27,9 @@ from openlink_update.versions.program import Program
 WRITTEN = "it changed while it was read: update again when it is written"
 
 
-def differences(conf: str, names: list[str]) -> list[str]:
+def differences(conf: str, names: list[str], groups: dict[str, str] | None = None) -> list[str]:
     path = Path(Site(conf).targets_path())
-    return Site.differences(names, path, path.read_bytes() if path.is_file() else b"")
+    return Site.differences(names, path, path.read_bytes() if path.is_file() else b"", groups or {})
 
 
 class Writing(Program):
@@ -189,6 +189,12 @@ class Changes(Case):
                 with open(path, "w", encoding="utf-8") as file:
                     json.dump({"targets": targets}, file)
                 self.expect(f"targets.json with {sorted(targets)}", differences(conf, ["a", "b"]), expected)
+            with open(path, "w", encoding="utf-8") as file:
+                json.dump({"targets": {}, "groups": [{"name": "Full text"}]}, file)
+            for groups, unnamed in (({}, "a, b"), ({"a": "Full text", "b": ""}, "b"), ({"b": "Volltext"}, "a, b")):
+                expected = [f"{path}: not named, so they are shown last and not as full text: {unnamed}"]
+                self.expect(f"groups of rules {groups}", differences(conf, ["a", "b"], groups), expected)
+            self.expect("all say one", differences(conf, ["a"], {"a": "Full text"}), [])
             for text in ("", "[]", '{"targets": []}', "{}"):
                 with open(path, "w", encoding="utf-8") as file:
                     file.write(text)

@@ -170,10 +170,15 @@ class Counts(Case):
             ("a book", row(number, book="2003-05-01"), [2000]),
             ("a book with coverage", row(number, first="20150101", last="20151231", book="2003"), [2010]),
             ("before all", row(number, first="14550101", last="14551231"), [1600]),
+            ("the first decade, and the one before", row(number, first="15990101", last="16101231"), [1600, 1610]),
             ("no days", row(number, first="x", last="y"), []),
         ):
             found = counted({"a": [cells]}).targets[0].decades
             self.expect(name, [it.year for it in found], wanted)
+        with tempfile.TemporaryDirectory() as folder:  # a clock that is wrong: the last decade has all that is later
+            version = made(folder, {"a": [row(number, first="22310101")]})
+            late = collection.collection_of(version, datetime.date(2301, 1, 1)).targets[0].decades
+            self.expect("after all", late, (Decade(2230, 1),))
         twice = counted({"a": [row(number, first="19950101"), row(number, first="20010101")]})
         self.expect("two rows of a title", twice.targets[0].decades[0], Decade(1990, 1))
         self.expect(

@@ -295,11 +295,9 @@ class Planted(Case):
                 lines = [line.split("\t") for line in weeks.read("slips.tsv").decode().splitlines()]
                 found = [cells[4] for cells in lines if cells[:2] == ["press", case.words]]
                 self.expect(f"{case.words}: kept with the version", found, [case.example.replace('"', "'")])
-                self.expect(
-                    f"{case.words}: the words taken back",
-                    weeks.week("press", planted, "rule; dropped up to 9", rules=RULES),
-                    [],
-                )
+                more = data_of([*case.plant(base, case.many), *good(300, 301)])
+                taken_back = weeks.week("press", more, "rule; dropped up to 9", rules=RULES)
+                self.expect(f"{case.words}: the words taken back", taken_back, [])
 
     def test_few(self) -> None:
         """In two of a hundred rows: the table is used, and a line says it once."""

@@ -53,15 +53,17 @@ class Files(Case):
 class Week(Case):
     def test_update(self) -> None:
         with Library() as library:
+            lines = list[str]()
             for name, it in FILES.items():
                 library.write(it.file, it.data)
-                library.targets[name] = (it.file.replace(";", "*"), it.options)
-            library.write_targets()
+                rules = "provider:book" if "monograph" in it.served else "provider:title-page"
+                lines.append(f"{name}\t{rules}\t{it.file.replace(';', '*')}\t{it.options}\n")
+            library.write("targets.tsv", "".join(lines))
             status, printed = library.update()
             self.expect(f"the status: {printed}", status, 0)
             for name, it in FILES.items():
                 served = without_columns(it.served)
                 self.expect(f"the rows of {name}", without_walls(library.table(name)), served)
-                lines = printed.split(f"\n{name}: new, ")[-1].splitlines()[1:]
-                self.expect(f"what is said of {name}", lines[: len(it.said)], [f"  {line}" for line in it.said])
-            self.expect("targets", len(library.targets), 40)
+                told = f"\n{printed}".split(f"\n{name}: new, ")[-1].splitlines()[1:]
+                self.expect(f"what is said of {name}", told[: len(it.said)], [f"  {line}" for line in it.said])
+            self.expect("targets", len((library.served("registry.tsv") or "").splitlines()), 40)

@@ -84,12 +84,12 @@ class Faults(Case):
             # The page has its own address, for the browser's bookmark.
             text = other[1].replace("127.0.0.1", "links.library.example.org")
             self.expect("for any other name, too", (other[0], text), before)
-            self.expect("its week", "/titles/pp" in machine.get("a", "/find?issn=3030-0009&date=1994&volume=5")[1])
+            self.expect("its week", "/titles/pp" in machine.get("a", "/find?issn=3030-0002&date=1994&volume=5")[1])
             alone.deliver("A")
             east.input.deliver("B")
             self.expect("the first one alone", (machine.update()[0], east.week()), (0, "A"))
-            self.expect("its links", "/journals/pp" in machine.get("a", "/find?issn=3030-0009&date=1994&volume=5")[1])
-            report = machine.get("127.0.0.1", "/report.txt?issn=3030-0009", machine.local)
+            self.expect("its links", "/journals/pp" in machine.get("a", "/find?issn=3030-0002&date=1994&volume=5")[1])
+            report = machine.get("127.0.0.1", "/report.txt?issn=3030-0002", machine.local)
             self.expect("its local server", (report[0], "book-house" in report[1]), (200, True))
             self.expect("no report of it", os.path.exists(machine.path("etc/openlink/report")), False)
             self.expect(

@@ -63,7 +63,7 @@ def start(case, machine):
             lambda: [links(it) for it in (east, wing)]
             == [
                 {"coastal-law of east": OLD},
-                {"tidal-press of east-wing": "https://press.example.com/3030-0017/5", "coastal-law of east-wing": NEW},
+                {"tidal-press of east-wing": "https://press.example.com/3030-0010/5", "coastal-law of east-wing": NEW},
             ]
         ),
     )
@@ -132,7 +132,7 @@ class Sites(Case):
         self.expect(
             "the program's menu",
             menus,
-            [f"coastal-law\t{OLD}\n", "tidal-press\thttps://press.example.com/3030-0017/5\n" f"coastal-law\t{NEW}\n"],
+            [f"coastal-law\t{OLD}\n", "tidal-press\thttps://press.example.com/3030-0010/5\n" f"coastal-law\t{NEW}\n"],
         )
 
     def test_local(self) -> None:

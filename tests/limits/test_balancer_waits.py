@@ -5,7 +5,9 @@ import concurrent.futures
 import contextlib
 import csv
 import io
+import queue
 import re
+import select
 import socket
 import tempfile
 import threading
@@ -25,7 +27,15 @@ from openlink_update import children
 FILE = "packaging/haproxy/haproxy.cfg"
 HEAD = b"GET /find HTTP/1.1\r\nHost: a\r\n"
 REPLY = b"HTTP/1.1 200 OK\r\nContent-Length: 2\r\n\r\nok"
-ENDS = {"http-request": b"408", "http-keep-alive": b"", "connect": b"503", "server": b"504", "queue": b"503"}
+ENDS = {
+    "http-request": b"408",
+    "client": b"",
+    "http-keep-alive": b"",
+    "connect": b"503",
+    "server": b"504",
+    "queue": b"503",
+}
+MOST, TRIED = 8000, 5  # connections of all clients; so many in place of them
 
 
 def settings() -> dict[str, float]:
@@ -47,6 +57,25 @@ def serve(listener: socket.socket, may_reply: bool) -> None:
                 peer.close()
 
 
+class Endless:
+    """A machine whose replies do not end. It knows when the last one was broken off."""
+
+    def __init__(self) -> None:
+        self.listener, self.ended_at = socket.create_server(("127.0.0.1", 0)), queue.Queue[float]()
+        threading.Thread(target=self.serve, daemon=True).start()
+
+    def serve(self) -> None:
+        with contextlib.suppress(OSError):
+            while True:
+                peer = self.listener.accept()[0]
+                peer.recv(4096)
+                with contextlib.suppress(OSError):
+                    peer.sendall(b"HTTP/1.1 200 OK\r\nContent-Length: 1000000000\r\n\r\n")
+                    while True:
+                        peer.sendall(bytes(65536))
+                self.ended_at.put(time.monotonic())
+
+
 @contextlib.contextmanager
 def machine(may_reply: bool) -> Iterator[int]:
     """The port of a stand-in for a machine."""
@@ -58,7 +87,7 @@ def machine(may_reply: bool) -> Iterator[int]:
 class Balancer:
     """haproxy with the times of the file, and a port for each case with its machine."""
 
-    def __init__(self, folder: str, machines: dict[str, str]) -> None:
+    def __init__(self, folder: str, machines: dict[str, str], most: int = MOST) -> None:
         self.socket = f"{folder}/admin.sock"
         self.ports = dict(zip(machines, free_ports(len(machines))))
         text = Path(FILE).read_text(encoding="utf-8").partition("\nfrontend ")[0]
@@ -67,21 +96,27 @@ class Balancer:
         for changed in ("retries 2", "option redispatch 1", "retry-on conn-failure empty-response 502 503"):
             assert text.count(changed) == 1, f"{FILE} has no {changed}"
             text = text.replace(changed, "retries 0" if changed == "retries 2" else "")
+        assert text.count(f"    maxconn {MOST}\n") == 1, f"{FILE} has another number of connections"
+        text = text.replace(f"    maxconn {MOST}\n", f"    maxconn {most}\n")
         for name, server in machines.items():
             text += f"\nlisten {name}\n    bind 127.0.0.1:{self.ports[name]}\n    server one {server}\n"
         Path(folder, "haproxy.cfg").write_text(text, encoding="utf-8")
         self.child = children.start(["haproxy", "-db", "-f", f"{folder}/haproxy.cfg"], folder)
 
-    def checked(self) -> tuple[str, str]:
-        """How the last check of the machine of `check` ended, and its milliseconds."""
+    def told(self, command: bytes) -> str:
+        """What haproxy answers at its socket."""
         data = b""
         with contextlib.suppress(OSError), socket.socket(socket.AF_UNIX) as peer:
             peer.settimeout(10)
             peer.connect(self.socket)
-            peer.sendall(b"show stat\n")
+            peer.sendall(command + b"\n")
             while part := peer.recv(65536):
                 data += part
-        rows = csv.DictReader(io.StringIO(data.decode().lstrip("# ")))
+        return data.decode()
+
+    def checked(self) -> tuple[str, str]:
+        """How the last check of the machine of `check` ended, and its milliseconds."""
+        rows = csv.DictReader(io.StringIO(self.told(b"show stat").lstrip("# ")))
         found = [it for it in rows if (it["pxname"], it["svname"]) == ("check", "one")]
         return (found[0]["check_status"], found[0]["check_duration"]) if found else ("", "")
 
@@ -107,12 +142,15 @@ class Waits(Case):
         with contextlib.ExitStack() as stack:
             folder = stack.enter_context(tempfile.TemporaryDirectory())
             good, silent = stack.enter_context(machine(True)), stack.enter_context(machine(False))
+            self.endless = Endless()
+            stack.callback(self.endless.listener.close)
             closed = free_ports(1)[0]
             stack.enter_context(without_room(closed))
             self.balancer = Balancer(
                 folder,
                 {
                     "http-request": f"127.0.0.1:{good}",
+                    "client": f"127.0.0.1:{self.endless.listener.getsockname()[1]}",
                     "http-keep-alive": f"127.0.0.1:{good}",
                     "connect": f"127.0.0.1:{closed}",
                     "server": f"127.0.0.1:{silent}",
@@ -137,9 +175,16 @@ class Waits(Case):
                 holder = stack.enter_context(socket.create_connection(("127.0.0.1", port), patience(10)))
                 holder.sendall(HEAD + b"\r\n")
                 time.sleep(0.2)
-            data, seconds = ended_after(port, *parts)
+            data, seconds = self.left_unread(port) if name == "client" else ended_after(port, *parts)
         is_right = limit * 0.95 < seconds < limit * 1.05 + patience(0.3) and data[9:12] == ENDS[name]
         return None if is_right else f"{data[:20]!r} after {seconds:.2f} s, and not after {limit} s"
+
+    def left_unread(self, port: int) -> tuple[bytes, float]:
+        """After how many seconds haproxy breaks off a reply that its client does not read."""
+        with socket.create_connection(("127.0.0.1", port), patience(10)) as peer:
+            start = time.monotonic()
+            peer.sendall(HEAD + b"\r\n")
+            return b"", self.endless.ended_at.get(timeout=patience(30)) - start
 
     def test_times(self) -> None:
         with concurrent.futures.ThreadPoolExecutor(len(ENDS)) as pool:
@@ -152,3 +197,39 @@ class Waits(Case):
         self.expect("it fails", wait_until(lambda: self.balancer.checked()[0] == "L7TOUT", 10))
         took, limit = int(self.balancer.checked()[1] or 0) / 1000, settings()["check"]
         self.expect(f"after {took} s", limit * 0.95 <= took <= limit * 1.05 + patience(0.1))
+
+
+@needs.command("haproxy")
+class Connections(Case):
+    def balancer(self, most: int) -> Balancer:
+        with contextlib.ExitStack() as stack:
+            folder = stack.enter_context(tempfile.TemporaryDirectory())
+            found = Balancer(folder, {"good": f"127.0.0.1:{stack.enter_context(machine(True))}"}, most)
+            stack.callback(children.stop, found.child)
+            self.addCleanup(stack.pop_all().close)
+        self.expect("haproxy listens", wait_until(lambda: found.told(b"show info") != "", 10))
+        return found
+
+    def test_of_all_clients(self) -> None:
+        """One beyond them is not refused, but waits until another one ends. Here they are few, for the file's number."""
+        port = self.balancer(TRIED).ports["good"]
+        with contextlib.ExitStack() as stack:
+            peers = [
+                stack.enter_context(socket.create_connection(("127.0.0.1", port), patience(10))) for _ in range(TRIED)
+            ]
+            for peer in peers[1:]:
+                peer.sendall(HEAD)
+            peers[0].sendall(HEAD + b"\r\n")
+            self.expect("the last one of them", peers[0].recv(12), b"HTTP/1.1 200")
+            after = stack.enter_context(socket.create_connection(("127.0.0.1", port), patience(10)))
+            after.sendall(HEAD + b"Connection: close\r\n\r\n")
+            self.expect("the first beyond them waits", bool(select.select([after], [], [], 0.5)[0]), False)
+            peers[0].close()
+            self.expect("until one ends", after.recv(12), b"HTTP/1.1 200")
+
+    def test_of_the_file(self) -> None:
+        """haproxy takes its number, and gets a descriptor for each side of each."""
+        told = self.balancer(MOST).told(b"show info")
+        found = {name: int(re.findall(rf"^{name}: (\d+)$", told, re.M)[0]) for name in ("Maxconn", "Ulimit-n")}
+        self.expect("connections", found["Maxconn"], MOST)
+        self.expect(f"descriptors: {found['Ulimit-n']}", found["Ulimit-n"] > 2 * MOST)

@@ -29,6 +29,7 @@ FILES = """
     usr/share/openlink/nginx/balancer.conf usr/share/openlink/haproxy/haproxy.cfg
     usr/share/openlink/nftables/connections.nft lib/systemd/system/openlink-connections.service
     usr/share/openlink/kubernetes/base/deployment.yaml usr/share/openlink/openlink_update/weekly_run.py
+    usr/share/openlink/providers/doi.rules usr/share/openlink/providers/wiley.rules
     """.split()
 WORDS = sorted(it.name for it in Path("front_door/words").iterdir())  # a file for each language of the reader's page
 FILES += [f"usr/share/openlink/nginx/words/{it}" for it in WORDS]

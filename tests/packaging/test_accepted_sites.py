@@ -12,7 +12,7 @@ from fixtures import needs
 from fixtures.cases import Case
 from openlink_update import children
 
-PORTS = ("80", "443", "8077", "8078", "8079")
+PORTS = ("80", "443", "8077", "8078", "8079", "8080")
 MODULE = "/usr/lib/nginx/modules/ngx_http_js_module.so"
 _COMMENTED = re.compile(r"^( *)#(?=[^\s#]|    )", re.M)
 

@@ -80,6 +80,7 @@ class AcceptedUnits(Case):
         self.expect("an unknown directive", "ProtectHomes" in self.said("verify", "openlink-bad.service")[1])
 
     def test_exposure_is_bounded(self) -> None:
+        self.expect("all services", sorted(MOST_EXPOSURE), sorted(it for it in NAMES if it.endswith(".service")))
         for name, most in MOST_EXPOSURE.items():
             options = ["--offline=yes", "--no-pager", f"--threshold={most}"]
             self.expect(name, self.said("security", name.replace("@.", "@8081."), *options)[0], 0)

@@ -9,6 +9,7 @@ from fixtures.cases import Case
 from fixtures.made_titles import issn
 from fixtures.made_versions import Weeks
 from fixtures.made_versions import table
+from openlink_update import input_files
 from openlink_update import places
 from openlink_update.rules import shipped
 
@@ -108,6 +109,16 @@ class Lines(Case):
                 if hint is not None:
                     self.expect(f"{name[:20]}: the hint", said[1].removeprefix(place), hint)
 
+    def test_names(self) -> None:
+        """How long a name may be, and how many are offered in place of a wrong one."""
+        with Weeks() as weeks, ShippedCopy(weeks.path("shipped")):
+            for name in ("a" * 64, "a" * 65, "press-a", "press-b", "press-c", "press-d"):
+                (Path(weeks.folder) / f"shipped/{name}.rules").write_text(OWN)
+            folder = input_files.InputFolder(weeks.path("input"))
+            self.expect("64 characters", shipped.fault_of("a" * 64, folder), "")
+            self.expect("65 characters", bool(shipped.fault_of("a" * 65, folder)))
+            self.expect("three", shipped.fault_of("press", folder).count("provider:press-"), 3)
+
     def test_all(self) -> None:
         """Each of the rules that ship can be named."""
         names = sorted(path.stem for path in places.PROVIDERS.iterdir())
@@ -132,16 +143,31 @@ class Lines(Case):
 
     def test_addresses(self) -> None:
         """The column has only web addresses, and is never empty; the judge of hosts knows where it leads."""
-        cells = ("https://a.example/1", " HTTP://b.example/2 ", "", "www.c.example", "javascript:alert(1)", "none:")
+        pairs = {
+            "https://a.example/1": "https://a.example/1",
+            " HTTP://b.example/2 ": "HTTP://b.example/2",
+            "": "none:",
+            "https://c.example": "https://c.example/",
+            "https://d.example:8443?a=b#c": "https://d.example:8443/?a=b#c",
+            "https://d.example:65535/": "https://d.example:65535/",
+            "https://d.example:655350/": "none:",
+            "javascript:alert(1)": "none:",
+            "none:": "none:",
+            "https://": "none:",
+            "https:///e": "none:",
+            "https://e.example@f.example/": "none:",
+            "https://e.example\\@f.example/": "none:",
+            "https://é.example/": "none:",
+            "https://e.example/a b": "none:",
+        }
+        cells = list(pairs)
         rows = [(f"T{at}", issn(at + 1), "", "1990", "", text, f"t{at}") for at, text in enumerate(cells)]
         rules = "rule\nlink {+title_page}\n"
         with Weeks() as weeks:
             weeks.week("press", table(*rows), "title_url not a web link", rules=rules)
             header, served = weeks.rows("press")
             found = [row[header.index("title_page")] for row in served]
-            self.expect(
-                "the cells", found, ["https://a.example/1", "HTTP://b.example/2", "none:", "none:", "none:", "none:"]
-            )
+            self.expect("the cells", found, list(pairs.values()))
             evil = [(*row[:5], row[5].replace("a.example", "evil.example"), row[6]) for row in rows]
             reason = weeks.week("press", table(*evil), "title_url not a web link", rules=rules)
-            self.expect("a new host", reason[0].startswith("new host evil.example in 1 of 6 rows"))
+            self.expect("a new host", reason[0].startswith("new host evil.example in 1 of 15 rows"))

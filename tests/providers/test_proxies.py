@@ -97,6 +97,12 @@ class Written(Case):
         """What would not be right is refused, with the rule."""
         for template in ("rft.volume", "rft.atitle", "+title_url", "?x.isbn", "x.isbn,x.issn", "x.issn*", "/x.issn"):
             self.expect(template, written(f"rule\nlink https://a.example/{{{template}}}\n", ENCODING), twice(template))
+        for digits, is_right in ((4, True), (5, False)):
+            found = written(f"rule\nlink https://a.example/{{x.issn:{'1' * digits}}}\n", ENCODING)
+            self.expect(f"{digits} digits", isinstance(found, str), is_right)
+        for length, shown in ((60, "b" * 60), (61, "b" * 60 + "..")):
+            found = written(f"rule\nlink https://a.example/{{{'b' * length}}}\n", ENCODING)
+            self.expect(f"{length} characters", found, twice(shown))
         wanted = ['proxy: rule 2: {code}, such as "b/c", has to be encoded twice, and the proxy decodes it once']
         self.expect("a column", written(DOI + "rule\nlink https://a.example/{code}\n", ENCODING), wanted)
         for prefix in (PLAIN, ENCODING):

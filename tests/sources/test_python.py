@@ -19,7 +19,17 @@ from fixtures.cases import Case
 
 TOP = Path(fixtures.TOP)
 PACKAGE = "openlink_update"
-COMMANDS = ("update", "desk", "fetch", "library", "holdings", "probe", "targets", "update.d/targets_file.py")
+COMMANDS = (
+    "update",
+    "desk",
+    "fetch",
+    "library",
+    "holdings",
+    "counts",
+    "probe",
+    "targets",
+    "update.d/targets_file.py",
+)
 AMONG = ("weekly_run.py", "shown_text.py", "input_files.py", "fetch/sources.py", "versions/library.py")
 LEAST, LEAST_SUBPACKAGES = 55, 9
 MOST_MODULES, MOST_WITH_A_REPLY = 16, 22  # that openlink-fetch loads, its subpackages aside

@@ -9,6 +9,7 @@ from fixtures.library import Library
 from fixtures.library import PROGRAM
 from fixtures.library import ended
 from fixtures.library import whole
+from fixtures.made_titles import isbn
 from fixtures.patience import patience
 from fixtures.weeks import HTML
 
@@ -38,7 +39,7 @@ class BadWeeks(Case):
         """Each error is in the files of book-house alone: the others are new, in turn of week B and A."""
         with Library() as library:
             for number in "123":
-                library.input.add_row("book-house", f"Tides {number}\t\t978123456241{number}\t".encode())
+                library.input.add_row("book-house", f"Tides {number}\t\t{isbn(123456500 + int(number))}\t".encode())
             self.expect("three more books", library.run()[0], 0)
             table, rules = library.input.read("book-house.txt"), library.input.read("book-house.rules")
             rules_path = library.input.path("book-house.rules")
@@ -186,7 +187,7 @@ class BadWeeks(Case):
             self.expect(
                 "nothing is left", (library.left_behind(), library.run()[0], library.weeks_served()), ([], 0, {"B"})
             )
-            library.input.write("probes.tsv", b"rft.issn=3030-0009&date=1994\tcatalogue\n")
+            library.input.write("probes.tsv", b"rft.issn=3030-0002&date=1994\tcatalogue\n")
             library.input.deliver("A")
             status, printed = library.run()
             self.expect(

@@ -12,6 +12,7 @@ from fixtures import needs
 from fixtures.cases import Case
 from fixtures.library import Library
 from fixtures.library import Reader
+from fixtures.made_titles import issn
 from fixtures.weeks import MENUS
 from fixtures.weeks import TITLE
 from fixtures.weeks import tables
@@ -212,19 +213,19 @@ class GoodWeeks(Case):
     def test_warnings(self) -> None:
         """A warning that the list allows, by its words; and walls that move with the month."""
         with Library() as library:
-            library.input.add_row("book-house", b"A book\t\t9781234562427\t\t\t\t\t\t\twww.books.example.net/x")
+            library.input.add_row("book-house", b"A book\t\t9781234562427\t\t\t\t\t\t\tbooks.example.net/x")
             status, printed = library.run()
             self.expect("a warning", status, 1)
             self.expect_lines(
                 "a warning",
                 printed,
                 f"  {library.input.path('book-house.txt')}: title_url not a web link 1, first 3 "
-                '"www.books.example.net/x"',
+                '"books.example.net/x"',
             )
-            library.input.allowed["book-house"] = "rows 0; title_url not a web link"
+            library.input.allowed["book-house"] = "rows; title_url not a web link"
             library.input.write_list()
             self.expect("it is allowed", library.run()[0], 0)
-            row = b"Walls\t3040-0005\t\t2000\t\t\t\t\t\thttps://x.example.org\t\tw\tP1Y\tfulltext"
+            row = b"Walls\t3040-0007\t\t2000\t\t\t\t\t\thttps://x.example.org\t\tw\tP1Y\tfulltext"
             library.input.add_row("tidal-press", row)
             self.expect("a wall", library.run()[0], 0)
             with open(library.path("current", "tables", "tidal-press.txt")) as file:
@@ -239,7 +240,7 @@ class GoodWeeks(Case):
         with Library() as library:
             first = library.current()
             self.expect("no walls", library.run("--walls"), (0, f"no walls of months or days: {first} stays in use\n"))
-            row = "Walls\t3040-0005\t\t2000\t\t\t\t\t\thttps://x.example.org\t\tw\t{}\tfulltext"
+            row = "Walls\t3040-0007\t\t2000\t\t\t\t\t\thttps://x.example.org\t\tw\t{}\tfulltext"
             library.input.add_row("coastal-law", row.format("P1Y").encode())
             self.expect("a wall of years", library.run()[0], 0)
             stays = library.current()
@@ -261,10 +262,10 @@ class GoodWeeks(Case):
                 ("", ["coastal-law"]),
                 (1999, []),
             ):
-                self.expect(f"readers of {date}", shown(library, "3040-0005", date), links)
+                self.expect(f"readers of {date}", shown(library, "3040-0007", date), links)
             days = f"rft.date={new}&x.from={new:%Y%m%d}&x.to={new:%Y%m%d}&coverage_from=0&coverage_to=99999999"
             self.expect(
-                "a request to the program", library.menu(library.site.ports[0], f"rft.issn=3040-0005&{days}"), {}
+                "a request to the program", library.menu(library.site.ports[0], f"rft.issn=3040-0007&{days}"), {}
             )
             self.expect("walls of today", library.run("--walls"), (0, f"nothing new: {second} stays in use\n"))
             with open(library.path("current", "tables", "coastal-law.txt"), "r+", encoding="utf-8") as file:
@@ -302,7 +303,7 @@ class GoodWeeks(Case):
             library.input.allowed["coastal-law"] = "gone up to 100%; less than half of the rows; came up to 15000%"
             library.input.write_list()
             cells = TITLE.split("\t")
-            numbers = [f"{4000000 + number}X" for number in range(300)]
+            numbers = [issn(4000000 + number) for number in range(300)]
             library.input.add_row(
                 "coastal-law",
                 b"\n".join(

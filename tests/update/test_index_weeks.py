@@ -9,6 +9,7 @@ import shutil
 from fixtures import needs
 from fixtures.cases import Case
 from fixtures.library import Library
+from fixtures.made_titles import issn
 from fixtures.weeks import TITLE
 
 LIST = "js_var $openlink_list {};"
@@ -61,7 +62,7 @@ class IndexWeeks(Case):
             first = library.current()
             with open(library.path("current", "index", "format")) as file:
                 text = file.read()
-            self.expect("the format", text, "5 list\n")
+            self.expect("the format", text, "6 list\n")
             with open(library.path("current", "index", "named")) as file:
                 named = dict(line.rstrip("\n").split("\t") for line in file)
             self.expect("what the rules name", named.get("coastal-law"), "date volume")
@@ -91,9 +92,9 @@ class IndexWeeks(Case):
             with open(path) as file:
                 site = file.read()
             assert site.count(LIST.format("on")) == 1, "openlink.conf has no switch of the list"
-            folders = ["format", "keys", "list", "named", "words"]
+            folders = ["format", "heads", "keys", "list", "named", "words"]
             self.expect("with the list", (names_of(library), names_of(library, "list")), (folders, ["b", "j"]))
-            for state, expected in (("off", ["format", "keys", "named"]), ("on", folders)):
+            for state, expected in (("off", ["format", "heads", "keys", "named"]), ("on", folders)):
                 with open(path, "w") as file:
                     file.write(site.replace(LIST.format("on"), LIST.format(state)))
                 before = library.current()
@@ -107,7 +108,7 @@ class IndexWeeks(Case):
     def test_title_pages(self) -> None:
         """Rules without a link for a title alone are said, and readers get the addresses of their rows, which go back
         with the version."""
-        query = "/find.json?rft.genre=journal&rft.issn=3030-0009"
+        query = "/find.json?rft.genre=journal&rft.issn=3030-0002"
 
         def pages(library: Library) -> list[str]:
             return [page["url"] for page in json.loads(library.site.get(query).text).get("pages", [])]
@@ -157,8 +158,8 @@ class IndexWeeks(Case):
         with Library() as library:
             rows = [
                 TITLE.replace("Papers on Piers", f"Papers {number}")
-                .replace("3030-0009", f"{4000000 + number}X")
-                .replace("3030-0017", "")
+                .replace("3030-0002", issn(4000000 + number))
+                .replace("3030-0010", "")
                 .encode()
                 for number in range(3000)
             ]

@@ -104,7 +104,7 @@ class PowerCuts(Case):
         on the disk before the next step. A sync that is left out is seen."""
         with Library(probes=2) as library:
             library.input.deliver("B")
-            library.input.add_row("coastal-law", b"Walls\t3040-0005\t\t2000\t\t\t\t\t\thttps://x.example.org\t\tw\tP9M")
+            library.input.add_row("coastal-law", b"Walls\t3040-0007\t\t2000\t\t\t\t\t\thttps://x.example.org\t\tw\tP9M")
             for name, options, syncs in (
                 ("a week", (), 7),
                 ("back", ("--back",), 3),

@@ -61,7 +61,7 @@ class Renames(Case):
         """SIGKILL around the last renames of a run that moves walls, when the new version takes the place of
         another."""
         with Library(probes=5) as library:
-            row = "Walls\t3040-0005\t\t2000\t\t\t\t\t\thttps://x.example.org\t\tw\tP9M"
+            row = "Walls\t3040-0007\t\t2000\t\t\t\t\t\thttps://x.example.org\t\tw\tP9M"
             library.input.add_row("coastal-law", row.encode())
             self.expect("a wall of months", library.run()[0], 0)
             number, moments = 14, None

@@ -1,5 +1,5 @@
-"""Where the front door and the rules that ship are. The front door is in the folder `nginx` beside the commands as they
-are installed, and in `front_door` of the repository; the rules are in `providers`, and in `examples/providers`."""
+"""Where the front door and the rules that ship are: in the folders `nginx` and `providers` beside the commands as they
+are installed, and in `front_door` and `examples/providers` of the repository."""
 from openlink_update import COMMANDS
 
 _INSTALLED = COMMANDS / "nginx"

@@ -91,8 +91,9 @@ class Run:
         def make(maker: Maker, folder: InputFolder) -> str:
             targets = target_list.read(folder)
             names = [target.name for target in targets]
+            groups = target_list.groups_of(targets)
             pairs, faults = abbreviations.read(folder)
-            for line in (*self.names_file.differences(names, folder), *_unused(folder, targets), *faults):
+            for line in (*self.names_file.differences(names, folder, groups), *_unused(folder, targets), *faults):
                 report(line)
             maker.make(targets, self._site.has_list, pairs)
             return _NEW

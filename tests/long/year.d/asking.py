@@ -4,6 +4,8 @@ import html, http.client, json, random, re, threading, time
 from links import FULL, Request
 
 SECONDS = 30  # for a reply
+PAGES = "The page of this title"
+COVERAGE = re.compile(r" <span>[^<]*</span>$")  # which the name of a link has
 HEADING = re.compile(r'<h2>(.*?)</h2>|<ul class="actions">|<li><a href="(http[^"]*)">(.*?)</a>')
 DATES = (
     "1976",
@@ -80,7 +82,7 @@ def page_links(text):
     found, group = [], None
     for heading, address, label in HEADING.findall(text):
         if address and group:
-            found.append((group, html.unescape(label), html.unescape(address)))
+            found.append((group, html.unescape(COVERAGE.sub("", label)), html.unescape(address)))
         else:
             group = html.unescape(heading) or None
     return found
@@ -111,8 +113,9 @@ def state_text(request, span, start, end):
     )
 
 
-def is_right(kind, reply, expected, is_settled):
-    """Whether a reply is the one for these links. Beside a link may be the coverage of another version meanwhile."""
+def is_right(kind, reply, expected, pages, is_settled):
+    """Whether a reply is the one for these links, and has no other pages of the title. Beside a link may be the coverage
+    of another version meanwhile."""
     status, text, location = reply
     if kind == "/go":
         full = [link for link in expected if link[0] == FULL]
@@ -125,7 +128,11 @@ def is_right(kind, reply, expected, is_settled):
         return [link[:4] for link in links] == [link[:4] for link in expected] and (
             not is_settled or [it[4] for it in links] == [coverage_of(it[4]) for it in expected]
         )
-    return page_links(text) == [(group, label, address) for group, _, label, address, _ in expected]
+    links = page_links(text)
+    if any(group == PAGES and address not in pages for group, _, address in links):
+        return False
+    full = [link for link in links if link[0] != PAGES]
+    return full == [(group, label, address) for group, _, label, address, _ in expected]
 
 
 class Reader(threading.Thread):
@@ -163,8 +170,9 @@ class Reader(threading.Thread):
     def compare(self, kind, request, reply, start, end):
         spans = self.allowed.between(start, end)
         try:
-            if any(is_right(kind, reply, state.links(request), len(spans) == 1) for state, _, _ in spans):
-                return
+            for state, _, _ in spans:
+                if is_right(kind, reply, state.links(request), state.pages(request), len(spans) == 1):
+                    return
         except (ValueError, LookupError) as fault:
             reply = (*reply, repr(fault))
         texts = [state_text(request, span, start, end) for span in spans]

@@ -5,12 +5,14 @@ from urllib.parse import urlencode
 # The rules of a provider, as the input has them; EDITION changes with its addresses.
 RULES = {
     "days": """rule
+when coverage_depth is "fulltext"
 when given title_id
 when x.to from coverage_from to *
 when x.from from * to coverage_to
 link https://NAME.example.com/EDITION/{title_id}
 """,
     "undated": """rule
+when coverage_depth is "fulltext"
 when x.to from coverage_from to *
 when x.from from * to coverage_to
 link https://NAME.example.com/EDITION/{title_id}?year={rft.date:4}
@@ -24,6 +26,7 @@ when coverage_to from coverage_from to *
 link https://NAME.example.com/EDITION/{title_id}
 """,
     "volume": """rule
+when coverage_depth is "fulltext"
 when rft.volume from num_first_vol_online to num_last_vol_online
 link https://NAME.example.com/EDITION/{online_identifier}/{rft.volume}
 """,
@@ -151,6 +154,11 @@ class State:
     def rows_of(self, request):
         """The rows of the request's number, by provider."""
         return self.rows.get(self.number_of(request), {})
+
+    def pages(self, request):
+        """The addresses in the rows of the request's number."""
+        of_number = self.rows_of(request)
+        return {f"https://{name}.example.com/journals/{row.id}" for name, rows in of_number.items() for row in rows}
 
     def links(self, request):
         """The group, target, label, address and row of each link, in the order of the page."""

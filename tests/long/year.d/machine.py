@@ -256,7 +256,7 @@ class Machine(Library):
 
     def left_over(self, vendors):
         """Files, processes and ports that a run has left. A process gets a few seconds to end with its run."""
-        known = ("current", "versions", "lock", "lock.users", "updated")
+        known = ("current", "versions", "lock", "lock.users", "updated", "runs", "desk")
         names = [name for name in os.listdir(self.folder) if name not in known]
         names += [name for name in self.versions() if name.endswith(".new")]
         names += [f"temporary/{name}" for name in os.listdir(self.aside("temporary"))]

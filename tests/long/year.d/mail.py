@@ -9,6 +9,7 @@ KEPT = "kept its old rules and table"
 AGAIN = "  the table of "
 CHANGED = re.compile(r"new, \d+ rows?|(rules changed)?(, )?(\d+ rows? added, \d+ gone)?|moving walls changed")
 TITLES = re.compile(r"  titles: \d+ came, \d+ gone: changes/press-\d\d\.txt")
+NO_DATE = re.compile(r"no link without a date for (journals|books), such as .*")
 FETCHED = re.compile(r"(new|changed), [\d,]+ bytes")
 STAMP = r"\d{8}T\d{6}Z"
 # Lines that come every week, and after a run that was ended or killed.
@@ -101,6 +102,11 @@ class Week:
         if text == KEPT:
             is_kept = slip and slip.outcome == slips.KEPT or name in self.kept_once
             return [] if is_kept else [f"kept without a reason: {name}: {lines}"]
+        if NO_DATE.fullmatch(text):
+            return []
+        if slip and any(text.startswith(part) for part in slip.says):
+            said[name].append(text)
+            return []
         known = (*self.forms[name], *(slip.says if slip else ()), *([AGAIN] if name in self.mended else []))
         others = [
             line

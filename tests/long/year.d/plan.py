@@ -39,7 +39,7 @@ OFTEN = {
     "the update fetches": 3,
 }
 QUIET = 10  # of 52 weeks have no slip and no event
-SLIPS = 80  # in 52 weeks
+SLIPS = 100  # in 52 weeks
 RETRIED = (
     "status 500",
     "status 503 with Retry-After",

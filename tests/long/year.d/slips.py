@@ -2,6 +2,7 @@
 says. Those of the library's own staff are in operator_slips.py."""
 import collections, dataclasses
 import tables
+from fixtures.made_titles import issn
 
 KEPT, USED, NOT_FETCHED = "the old table stays", "the table is used", "the file is not fetched"
 SENT = "ended after 3,145,728 of 8,000,000 bytes"
@@ -134,10 +135,75 @@ def dates_of_two_readings(provider, source):
 
 def too_large(provider, source):
     """The provider's rows and 200,000 more, without titles: two parts."""
-    more = [["", f"{number:07}0", *[""] * 14, "serial"] for number in range(3_000_000, 3_200_000)]
+    more = [["", issn(number), *[""] * 14, "serial"] for number in range(3_000_000, 3_200_000)]
     return Slip(
         USED, (f"  2 parts: {provider.name}, {provider.name}.2",), data=text(cells(provider) + more), rows=provider.rows
     )
+
+
+def wrong(number):
+    """The number with another last digit."""
+    return number[:-1] + ("1" if number[-1] == "0" else "0") if number else number
+
+
+def visited(address):
+    return f"{address};jsessionid=0123456789ABCDEF"
+
+
+def proxied(address):
+    return f"https://login.ezproxy.other.example.edu/login?url={address}"
+
+
+def damaged(text):
+    """As UTF-8 reads in the encoding of Western Europe."""
+    return text.encode().decode("iso-8859-1")
+
+
+def sorted_apart(lines):
+    """The titles go seven rows further, and the numbers stay."""
+    rows = lines[1:]
+    return [lines[0], *([rows[at - 7][0], *row[1:]] for at, row in enumerate(rows))]
+
+
+def in_notes(lines):
+    """The coverage is in the notes and nowhere else."""
+    places = [tables.COLUMNS.index(name) for name in ("date_first_issue_online", "num_first_vol_online",
+                                                      "date_last_issue_online")]
+    for line in lines[1:]:
+        line[tables.COLUMNS.index("notes")] = "1995-2003"
+        for place in places:
+            line[place] = ""
+    return lines
+
+
+def embargoes_in_notes(lines):
+    lines = changed(lines, "embargo_info", lambda _: "")
+    return changed(lines, "notes", lambda _: "Embargo: 12 months")
+
+
+def one_wrong_digit(provider, source):
+    """A number that no title has, in one row."""
+    stable = {row.printed for row in provider.rows if row.first == "1990"}  # the probes' titles
+    at = next(at for at, row in reversed([*enumerate(provider.rows)]) if row.printed not in stable)
+    row = dataclasses.replace(provider.rows[at], printed=wrong(provider.rows[at].printed))
+    rows = (*provider.rows[:at], row, *provider.rows[at + 1:])
+    return Slip(USED, ("check digits of print_identifier wrong: 1 of ",), data=tables.file_of(provider, rows), rows=rows)
+
+
+def total_among_rows(provider, source):
+    lines = cells(provider)
+    lines.insert(2, ["Total: 120 titles", *[""] * (len(tables.COLUMNS) - 1)])
+    says = ("rows of a total or a footnote: 1 of ", "  dropped: 1 row")
+    return Slip(USED, says, data=text(lines), rows=provider.rows)
+
+
+def without_line_end(provider, source):
+    return Slip(USED, ("no line end after the last row: 1 of ",), data=text(cells(provider))[:-1], rows=provider.rows)
+
+
+def bad_cells(column, change, says, share=1.0):
+    """A slip in the cells of a column, in a share of the rows."""
+    return bad_table(lambda lines: text(changed(lines, column, change, share)), f"  {{file}}: {says}: ")
 
 
 KINDS = {
@@ -208,4 +274,29 @@ KINDS = {
     "an embargo in words": embargo_in_words,
     "dates of two readings": dates_of_two_readings,
     "a table too large": too_large,
+    "check digits of print numbers": bad_cells(
+        "print_identifier", wrong, "check digits of print_identifier wrong", 0.5),
+    "check digits of online numbers": bad_cells(
+        "online_identifier", wrong, "check digits of online_identifier wrong", 0.5),
+    "no first dates": bad_cells("date_first_issue_online", lambda _: "", "no first date in any row"),
+    "first dates to come": bad_cells("date_first_issue_online", lambda _: "2041-05", "first dates after today"),
+    "sessions in addresses": bad_cells("title_url", visited, "session identifiers in addresses"),
+    "the proxy of another library": bad_cells("title_url", proxied, "the proxy of another library in addresses"),
+    "a text in another spelling": bad_cells(
+        "coverage_depth", lambda _: "Full Text", "new texts that rules do not compare with", 0.5),
+    "rules without rows": bad_cells("coverage_depth", lambda _: "selected articles", "rules that hold on no row"),
+    "volumes in words": bad_cells(
+        "num_first_vol_online", lambda cell: cell and f"Vol. {cell}", "volumes or issues that are no number"),
+    "damaged letters": bad_cells("publication_title", damaged, "damaged letters in titles"),
+    "titles in capitals": bad_cells("publication_title", str.upper, "titles in capitals"),
+    "titles sorted apart": bad_table(lambda lines: text(sorted_apart(lines)),
+                                     "  {file}: numbers known under other titles: "),
+    "abstracts alone": bad_cells("coverage_depth", lambda _: "abstracts", "abstracts alone"),
+    "embargoes in notes": bad_table(lambda lines: text(embargoes_in_notes(lines)), "  {file}: embargoes in notes: "),
+    "coverage in notes": bad_table(lambda lines: text(in_notes(lines)), "  {file}: coverage in notes: "),
+    "no online numbers": bad_cells("online_identifier", lambda _: "", "no numbers left in a column"),
+    "one number for all": bad_cells("print_identifier", lambda _: "1000-0007", "the same number in most rows"),
+    "a number with a wrong digit": one_wrong_digit,
+    "a total among the rows": total_among_rows,
+    "no line end": without_line_end,
 }

@@ -11,7 +11,7 @@ from fixtures.patience import patience
 
 MONDAY = datetime.date(2027, 1, 4)
 SECRET = PLAIN + 1  # the provider whose address has a token
-ALLOWED = {PLAIN + 2: "gone up to 100%; less than half of the rows"}
+ALLOWED = {PLAIN + 2: "gone up to 100%; came up to 200000%; less than half of the rows"}
 KEY = "s3cr3t/+&token"
 READERS, PAUSE, PROCESSES = 3, 0.04, 3
 ASKED_AFTER = 50  # requests after a run, when only one page is right

@@ -23,7 +23,6 @@ _USAGE_TEXT = """\
 usage: openlink-counts [--format tsv|json|xlsx] [--cost FILE] [--counter FILE].. [FILE..]
        openlink-counts --wanted [--index FOLDER] [FILE..]
 """
-_START = 200  # bytes in which a report begins
 _Read = TypeVar("_Read")
 
 
@@ -109,7 +108,7 @@ def _counts(arguments: _Arguments) -> int:
         return _WRONG
     logs, reports = arguments.logs, list(arguments.reports)
     if reports:
-        reports += filter(_begins_as_report, logs)
+        reports = list(dict.fromkeys([*reports, *filter(_begins_as_report, logs)]))
         logs = [name for name in logs if name not in reports]
     faults: list[str] = []
     cost = _read(arguments.cost, costs.costs_in, costs.MOST_BYTES, faults) if arguments.cost else None
@@ -146,7 +145,7 @@ def _add_fault(line: str, faults: list[str]) -> None:
 
 def _begins_as_report(name: str) -> bool:
     with open(name, "rb") as file:
-        return counter_reports.is_report(file.read(_START))
+        return counter_reports.is_report(file.read(counter_reports.START))
 
 
 def _reports(names: Iterable[str], faults: list[str]) -> list[list[counter_reports.Title]]:

@@ -43,7 +43,7 @@ def _write(kind: str, folder: str, version: Path, site: Site) -> int:
     if not os.path.isdir(version):
         report(f"openlink-holdings: {version}: no version is in use", "stderr")
         return _NO_VERSION
-    names = SiteNames(site.targets_path())
+    names = SiteNames(site.targets_path(), export_files.rules_in(version))
     if names.fault:
         report(f"openlink-holdings: {names.fault}", "stderr")
         return DEVICE

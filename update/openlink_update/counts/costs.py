@@ -1,5 +1,6 @@
 """What a followed link of a target costs. The file of costs has a line for each target and year, with tabs between its
-cells: target, year, sum. Empty lines and those that begin with # are skipped, and so is a first line `target year sum`."""
+cells: target, year, sum. Empty lines and those that begin with # are skipped, and so is a first line with the words
+target, year and sum."""
 import re
 from collections import defaultdict
 from collections.abc import Iterable
@@ -19,10 +20,10 @@ _SUM = re.compile(r"\d{1,12}(\.\d{1,2})?", re.A)
 _CENT = Decimal("0.01")
 _MOST_CHARACTERS = 60  # of a cell in a line
 
-Costs = dict[tuple[str, str], Decimal]  # by target and year
+_Costs = dict[tuple[str, str], Decimal]  # by target and year
 
 
-def costs_in(data: bytes) -> Costs:
+def costs_in(data: bytes) -> _Costs:
     """Unreadable says which line is none of the form."""
     if len(data) > MOST_BYTES:
         raise Unreadable(f"more than {MOST_BYTES:,} bytes")
@@ -30,7 +31,7 @@ def costs_in(data: bytes) -> Costs:
         lines = list(lines_in(data))
     except UnicodeDecodeError as fault:
         raise Unreadable("not UTF-8") from fault
-    costs: Costs = {}
+    costs: _Costs = {}
     for line in lines:
         cells = [cell.strip() for cell in line.cells]
         if line is lines[0] and [cell.lower() for cell in cells] == _HEADER:
@@ -51,9 +52,9 @@ def _parse(line: Line, cells: list[str]) -> tuple[str, str, Decimal]:
     return cells[0], cells[1], Decimal(cells[2])
 
 
-def cost_table(costs: Costs, rows: Iterable[log_counts.Row]) -> CountTable:
-    """The cost of a followed link by year and target. `months` is how many months of the year the logs have: where these
-    are few, the cost is too high."""
+def cost_table(costs: _Costs, rows: Iterable[log_counts.Row]) -> CountTable:
+    """The cost of a followed link by year and target. `months` is how many months of the year the logs have: where
+    these are few, the cost is too high."""
     followed: defaultdict[tuple[str, str], int] = defaultdict(int)
     months: defaultdict[str, set[str]] = defaultdict(set)
     for month, kind, name, number in rows:

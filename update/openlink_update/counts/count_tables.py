@@ -1,5 +1,5 @@
-"""The counts as tables with one kind of thing in each, for data and for a spreadsheet: by month, source, target, title that
-was followed, error, and title that was asked for in vain."""
+"""The counts as tables with one kind of thing in each, for data and for a spreadsheet: by month, source, target, title
+that was followed, error, and title that was asked for in vain."""
 import dataclasses
 from collections import defaultdict
 from collections.abc import Iterable, Mapping, Sequence

@@ -14,6 +14,7 @@ from openlink_update.outcome import Unreadable
 from openlink_update.tables import identifiers
 
 MOST_BYTES = 2**26  # of a report
+START = 200  # bytes in which it begins
 _MOST_ROWS = 500_000
 _MOST_TITLES = 100_000
 _MOST_CELLS = 1_000_000  # of titles and months that have requests
@@ -21,7 +22,7 @@ _MOST_COLUMNS = 200
 _MOST_HEAD = 50  # lines before the table
 _MOST_TITLE = 500  # characters
 _MOST_SHOWN = 60  # characters of a cell in a line
-_START = re.compile(rb"\s*\"?Report_Name\"?\s*[,;\t]")
+_BEGINNING = re.compile(rb"\s*\"?Report_Name\"?\s*[,;\t]")
 _BOMS = {b"\xef\xbb\xbf": "utf-8", b"\xff\xfe": "utf-16-le", b"\xfe\xff": "utf-16-be"}
 _NAME = re.compile(r"TR(_[BJ][1-4])?", re.A)
 _RELEASE = re.compile(r"5(\.\d)?", re.A)
@@ -50,7 +51,7 @@ class _Columns:
 
 def is_report(data: bytes) -> bool:
     """Whether a file begins as a report does."""
-    return _START.match(_text_of(data[:200], errors="replace").encode()) is not None
+    return _BEGINNING.match(_text_of(data[:START], errors="replace").encode()) is not None
 
 
 def titles_in(data: bytes) -> list[Title]:
@@ -102,11 +103,11 @@ def _columns_of(rows: Iterator[tuple[int, list[str]]]) -> _Columns:
     """Reads the head, and the line with the names of the columns."""
     head: dict[str, str] = {}
     for line, row in rows:
+        if line > _MOST_HEAD:
+            break
         if _METRIC in row and _TITLE in row:
             _check_head(head)
             return _columns_in(line, row)
-        if line > _MOST_HEAD:
-            break
         if len(row) > 1:
             head[row[0]] = row[1]
     _check_head(head)

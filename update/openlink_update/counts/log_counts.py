@@ -1,12 +1,12 @@
 """Counts what the front door's logs hold, by month. A line has no reader's address and no query. There are three forms:
 
-    TIME STATUS METHOD PATH SECONDS found=FULL/ALL targets=NAME,NAME from=SOURCE    a request; older lines lack `targets`
+    TIME STATUS METHOD PATH SECONDS found=FULL/ALL targets=NAME,NAME from=SOURCE    a request
     MONTH target=NAME NUMBER    a link that a reader followed, and the ISSN or ISBN of the request, or -
     MONTH NUMBER YEAR           a title that was asked for in vain, and the year, or -
 
-The path of an error that nginx found is /fault. A path with a space is none of the front door's. Whoever sends requests
-chooses sources and numbers, so each kind of name has a greatest number; what comes after it is counted together, under
-OTHERS, and a log of any size takes the same memory."""
+Older lines of requests lack `targets`. The path of an error that nginx found is /fault. A path with a space is none of
+the front door's. Whoever sends requests chooses sources and numbers, so each kind of name has a greatest number; what
+comes after it is counted together, under OTHERS, and a log of any size takes the same memory."""
 import re
 from collections import Counter, defaultdict
 from collections.abc import Iterable, Iterator, Sequence

@@ -1,5 +1,6 @@
-"""What was asked for in vain most often, by title. A line of the log is MONTH NUMBER YEAR. Whoever sends requests chooses
-the numbers: of very many, those that are rare are forgotten, so that a log of any size takes the same memory."""
+"""What was asked for in vain most often, by title. A line of the log is MONTH NUMBER YEAR. Whoever sends requests
+chooses the numbers: of very many, those that are rare are forgotten, so that a log of any size takes the same
+memory."""
 import hashlib
 import re
 from collections import Counter, defaultdict
@@ -20,7 +21,7 @@ _MOST_BUCKET = 2**24  # bytes of a file of the index
 _MOST_TITLE = 500  # characters
 
 
-class Wanted:
+class _Wanted:
     """How often each number and year was asked for; how many lines were read, and how many have another form."""
 
     def __init__(self) -> None:
@@ -42,15 +43,15 @@ class Wanted:
             self.pairs = Counter(dict(self.pairs.most_common(_MOST_PAIRS // 2)))
 
 
-def wanted_in(files: Iterable[log_counts.Readable]) -> Wanted:
-    wanted = Wanted()
+def wanted_in(files: Iterable[log_counts.Readable]) -> _Wanted:
+    wanted = _Wanted()
     for file in files:
         for block in log_counts.blocks_of(file):
             wanted.add(block)
     return wanted
 
 
-def rows_of(wanted: Wanted, index: Path) -> list[tuple[int, str, str, str]]:
+def rows_of(wanted: _Wanted, index: Path) -> list[tuple[int, str, str, str]]:
     """Of the titles with the most requests: how many, the number, the title if the index has it, and the years. Numbers
     of one title are counted together."""
     years: defaultdict[tuple[str, str], Counter[str]] = defaultdict(Counter)
@@ -62,7 +63,7 @@ def rows_of(wanted: Wanted, index: Path) -> list[tuple[int, str, str, str]]:
     return sorted(rows, key=lambda row: (-row[0], row[1]))[:_MOST_TITLES]
 
 
-def _most_numbers(wanted: Wanted) -> list[str]:
+def _most_numbers(wanted: _Wanted) -> list[str]:
     numbers: Counter[str] = Counter()
     for (number, _), times in wanted.pairs.items():
         numbers[number] += times

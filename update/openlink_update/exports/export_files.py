@@ -20,6 +20,7 @@ from openlink_update.index.title_groups import Title, Titles
 from openlink_update.site.front_door import Site
 from openlink_update.tables.parts import base_of
 from openlink_update.tables.table import Table
+from openlink_update.versions.served import targets_in
 
 _Tables = Iterable[tuple[str, Table]]
 _STAMP = re.compile(r"(\d{4})(\d\d)(\d\d)T\d{6}Z")
@@ -98,11 +99,16 @@ WRITERS: dict[str, Callable[[Path, _Tables, Site, SiteNames, Path], None]] = {
 }
 
 
+def rules_in(version: Path) -> list[Path]:
+    """The rule files of the targets of a version, as they came."""
+    return [path for name in targets_in(version) if (path := version / f"received/{name}.rules").exists()]
+
+
 def make(version: Path, tables: _Tables, titles: Iterable[Title], site: Site, targets: Path | None) -> str:
     """Writes all of them into the version, with the labels of a targets.json; `titles` are those of the tables. Returns
     what is wrong with it, if something is. Each table is written to the KBART file when its items for Google Scholar
     are made, so that only one is in memory."""
-    names, folder, day = SiteNames(targets), version / "export", day_of(version)
+    names, folder, day = SiteNames(targets, rules_in(version)), version / "export", day_of(version)
     with _replacing(folder, "kbart.txt") as file:
         file.write(f"{kbart_file.heading()}\n")
 

@@ -1,6 +1,11 @@
-"""What targets.json says of the library and its targets, in the default language."""
+"""What targets.json says of the library and its targets, in the default language; of a target that it does not name,
+what the head of its rules says."""
 import json
 import os
+from collections.abc import Iterable
+from pathlib import Path
+
+from openlink_update.rules import heads
 
 
 def _member(value: object, name: str) -> object:
@@ -8,9 +13,10 @@ def _member(value: object, name: str) -> object:
 
 
 class SiteNames:
-    def __init__(self, path: str | os.PathLike[str] | None) -> None:
-        """Reads a targets.json, if the site names one. `fault` says why it cannot be read; then targets have only their
-        names."""
+    def __init__(self, path: str | os.PathLike[str] | None, rules: Iterable[Path] = ()) -> None:
+        """Reads a targets.json, if the site names one, and rule files with the names of targets. `fault` says why the
+        first cannot be read; then targets have only their names."""
+        self._heads = {file.stem: heads.parse(file.read_bytes()) for file in rules}
         self.fault = ""
         self._site: object = {}
         try:
@@ -38,15 +44,21 @@ class SiteNames:
         return _member(_member(self._site, "targets"), name)
 
     def label(self, name: str) -> str:
-        return self._text(_member(self._target(name), "label")) or name
+        target = self._target(name)
+        labels = dict(self._heads.get(name, heads.Head()).labels) if target is None else {}
+        languages = (self._language, self._language.split("-")[0], "")
+        own = next((labels[language] for language in languages if language in labels), name)
+        return self._text(_member(target, "label")) or own
 
     def is_full_text(self, name: str) -> bool:
         """Whether the links of a target are in the first group, as the front door puts them."""
         if not self._groups:
             return True
         target = self._target(name)
+        if target is None:
+            return self._heads.get(name, heads.Head()).group == self._groups[0]
         group = self._text(_member(target, "group"))
-        return target is not None and (group == self._groups[0] or group not in self._groups)
+        return group == self._groups[0] or group not in self._groups
 
     def library(self) -> str:
         return self._text(_member(_member(self._site, "words"), "library"))

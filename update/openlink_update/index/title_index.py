@@ -34,7 +34,7 @@ from openlink_update.tables.parts import base_of
 from openlink_update.tables.registry import entries_of
 from openlink_update.tables.table import Table
 
-_FORMAT = 5  # another number makes a new version, although its tables are the same
+_FORMAT = 6  # another number makes a new version, although its tables are the same
 _DIGITS, _KEY_DIGITS = 3, 16  # of an MD5 sum: in the names of keys/, and before the end of the key of a title
 _MOST_LINES = 50  # of a key
 _MOST_BYTES = 1 << 14  # of its lines after the first

@@ -15,7 +15,7 @@ _GZIP, _ZIP = b"\x1f\x8b", (b"PK\x03\x04", b"PK\x05\x06")
 _OLD = b"\xd0\xcf\x11\xe0\xa1\xb1\x1a\xe1"
 _METHODS = (zipfile.ZIP_STORED, zipfile.ZIP_DEFLATED)  # Python unpacks the others without a limit of memory
 _CHUNK = 2**20
-_BEGINNING = 2**16  # bytes of a member by which it is known
+_BEGINNING = 40_000  # bytes of a member by which it is known
 _MOST_TRIED = 20  # members
 _SPREADSHEET, _DOCUMENT = "[Content_Types].xml", {"content.xml", "mimetype"}  # members of .xlsx, and of .ods
 

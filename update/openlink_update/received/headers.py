@@ -131,12 +131,17 @@ def _filled(cells: Sequence[str]) -> int:
 def _separator_of(lines: Sequence[str], naming: Naming) -> str:
     """What separates the most of these lines into as many cells as a header has that a file lacks."""
     width = len(naming.header)
-    widths = {it: [len(_split(line, it)) for line in lines if line] for it in _SEPARATORS}
+    widths = {it: [_width(_split(line, it), width) for line in lines if line] for it in _SEPARATORS}
     best = max(widths, key=lambda it: widths[it].count(width))
     if width not in widths[best]:
         found = ", ".join(f"{max(counts, default=0)} with {_SEPARATORS[it]}" for it, counts in widths.items())
         raise Unreadable(f"no header: {amount(width, 'name')} for lines of at most so many cells: {found}")
     return best
+
+
+def _width(cells: Sequence[str], most: int) -> int:
+    """The number of cells, without those beyond a number that are empty."""
+    return len(cells) if any(map(str.strip, cells[most:])) else min(len(cells), most)
 
 
 def _with_header_of(naming: Naming, rows: list[list[str]], counts: list[Count]) -> Parsed:

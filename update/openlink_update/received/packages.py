@@ -1,7 +1,6 @@
 """The members of a spreadsheet, which is a .zip: they are unpacked as they are read, and their bytes are counted
 together."""
 import zipfile
-import zlib
 from collections.abc import Iterator
 
 from openlink_update.outcome import Unreadable
@@ -29,5 +28,7 @@ class Package:
                     self._size += len(chunk)
                     limits.check_size(self._size)
                     yield chunk
-        except (zipfile.BadZipFile, zlib.error, EOFError, OSError, NotImplementedError) as fault:
+        except Unreadable:
+            raise
+        except Exception as fault:  # zipfile raises errors of many kinds for damaged bytes
             raise Unreadable("a spreadsheet that is cut short or damaged") from fault

@@ -17,6 +17,7 @@ _YEARS = range(1400, 2101)  # a number without the form of a date that is a year
 _LAST = datetime.date(2199, 12, 31)
 _WHOLE = re.compile(r"\d{1,15}", re.A)
 _UNSAFE = str.maketrans({code: " " for code in (*range(32), 0x85, 0x2028, 0x2029)})
+_MOST_DIGITS = 30  # of a day number, with its time
 _MOST_CELLS = 30_000_000  # of a sheet
 
 
@@ -79,7 +80,7 @@ def number_of(text: str) -> str:
 
 def day_of(text: str, base: datetime.date, length: int) -> str:
     """The date of a day number, or the first characters of it, which people see; the number itself if it is none."""
-    date = _date(text, base)
+    date = _date(text, base) if len(text) <= _MOST_DIGITS else ""
     return Day(date[:length]) if date else number_of(text)
 
 

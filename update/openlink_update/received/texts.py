@@ -77,7 +77,7 @@ def is_web_page(text: str) -> bool:
 
 def beginning_of(data: bytes) -> str:
     """The beginning of a text in any encoding, by which it is known what it is."""
-    start = data[: 4 * _MOST_CHARACTERS]
+    start = data[: 4 * _MOST_CHARACTERS]  # a character has at most four bytes
     return start.decode("utf-16" if start.startswith(_UTF_16) else "utf-8-sig", "ignore")
 
 

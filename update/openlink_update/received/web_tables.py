@@ -68,13 +68,13 @@ class _Table:
         """Takes the first address in a cell."""
         found = _LINK.search(tag)
         if found and not self._link:
-            address = html.unescape(next(filter(None, found.groups()), "")).strip()
+            address = _unescaped(next(filter(None, found.groups()), "")).strip()
             self._link = address if address.lower().startswith(_WEB) else ""
 
     def end_cell(self) -> None:
         if self._pieces is None:
             return
-        text, self._pieces = " ".join(clean(html.unescape("".join(self._pieces))).split()), None
+        text, self._pieces = " ".join(clean(_unescaped("".join(self._pieces))).split()), None
         if self._link:
             text, link = _Linked(text), self._link
             text.link = clean(link)
@@ -129,8 +129,8 @@ def _marks(page: str) -> Iterator[tuple[str, str]]:
         else:
             whole = _WHOLE.match(page, start, start + _MOST_TAG)
             open_quotes += whole is None
-            place = whole.end() if whole else _after(page[: start + _MOST_TAG], ">", start)
-            if open_quotes > _MOST_OPEN or page[place - 1] != ">":
+            place = whole.end() if whole else _after(page, ">", start, start + _MOST_TAG)
+            if open_quotes > _MOST_OPEN or place - start > _MOST_TAG or page[place - 1] != ">":
                 raise Unreadable("a web page whose tags do not end")
             tag = page[start:place]
             kind = name[1].lower()
@@ -142,10 +142,17 @@ def _marks(page: str) -> Iterator[tuple[str, str]]:
         yield "", page[place:]
 
 
-def _after(page: str, end: str, start: int) -> int:
-    """The place after the end of what begins at a place."""
-    found = page.find(end, start)
+def _after(page: str, end: str, start: int, most: int | None = None) -> int:
+    """The place after the end of what begins at a place; the end of the page if it does not end before a place."""
+    found = page.find(end, start, most)
     return found + len(end) if found >= 0 else len(page)
+
+
+def _unescaped(text: str) -> str:
+    try:
+        return html.unescape(text)
+    except ValueError:  # a character with thousands of digits
+        return text
 
 
 def _tables_of(page: str) -> list[Sheet]:

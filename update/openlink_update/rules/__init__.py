@@ -1,3 +1,3 @@
 """Rule files: those that ship, what their heads say, and how a proxy is put before their links."""
 
-__all__ = ["heads", "pages", "proxies", "shipped"]
+__all__ = ["compiled", "heads", "pages", "proxies", "shipped"]

@@ -14,7 +14,7 @@ from openlink_update import shown_text
 
 _MOST_BYTES = 16_384  # of a file, in which its head is looked for
 _MOST_CHARACTERS = 100  # of a label or the name of a group
-_MOST_LANGUAGES = 100
+_MOST_LANGUAGES = 24
 _ENTRY = re.compile(r"# ?(label|group|proxy)(?: ([A-Za-z]{2,8}(?:-[A-Za-z0-9]{1,8}){0,4}))? ?:(.*)", re.A)
 _NEVER = "never"
 

@@ -1,6 +1,6 @@
 """The column `title_page`, which the update adds to the table of a target whose rules name it: the address of the
-title's page (title_url) if it is a web address, and else `none:`, which is no web link. The cell is never empty, so no
-request can choose where a link that begins with it leads."""
+title's page (title_url) if it is a web address with a host, after which it has a slash, and else `none:`, which is no
+web link. The cell is never empty, so no request can choose where a link that begins with it leads."""
 import re
 
 from openlink_update.outcome import Refused
@@ -8,7 +8,7 @@ from openlink_update.tables.table import Table, cell
 
 COLUMN, NO_PAGE = "title_page", "none:"
 _ADDRESS = "title_url"
-_WEB = re.compile(r"https?://[!-~]+", re.I)
+_WEB = re.compile(r"(https?://[a-z0-9][a-z0-9.-]*(?::[0-9]{1,5})?)(?:/([!-~]*)|([?#][!-~]*))?", re.I | re.A)
 _NAMED = re.compile(rb"(?<![A-Za-z0-9_.%])title_page(?![A-Za-z0-9_.%])")
 
 
@@ -29,5 +29,5 @@ def added(table: Table) -> Table:
 
 
 def _page_of(text: str) -> str:
-    text = text.strip()
-    return text if _WEB.fullmatch(text) else NO_PAGE
+    match = _WEB.fullmatch(text.strip())
+    return f"{match[1]}/{match[2] or match[3] or ''}" if match else NO_PAGE

@@ -7,7 +7,8 @@ import re
 import shutil
 import subprocess
 import time
-from collections.abc import Iterable
+import types
+from collections.abc import Iterable, Mapping
 from pathlib import Path
 
 from openlink_update import children
@@ -101,14 +102,19 @@ class Site:
         return str(self.targets[0]).strip("\"'") if self.targets else ""
 
     @staticmethod
-    def differences(names: list[str], path: Path, data: bytes) -> list[str]:
+    def differences(
+        names: list[str], path: Path, data: bytes, groups: Mapping[str, str] = types.MappingProxyType({})
+    ) -> list[str]:
         """Lines about the targets of a version that the targets.json with these bytes does not name, and the other way
-        round."""
+        round. `groups` are those that the heads of their rules say, by target."""
         try:
-            known = json.loads(data.decode("utf-8"))["targets"].keys()
+            site = json.loads(data.decode("utf-8"))
+            known = site["targets"].keys()
+            has_group = {group["name"] for group in site["groups"]} if "groups" in site else set()
         except (ValueError, LookupError, TypeError, AttributeError, RecursionError):
             return []  # nginx says what is wrong with it
-        unnamed, unused = [name for name in names if name not in known], [name for name in known if name not in names]
+        unnamed = [name for name in names if name not in known and groups.get(name) not in has_group]
+        unused = [name for name in known if name not in names]
         lines = {"not named, so they are shown last and not as full text": unnamed, "named, and no target": unused}
         return [f"{path}: {text}: {', '.join(members)}" for text, members in lines.items() if members]
 

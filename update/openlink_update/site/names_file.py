@@ -5,6 +5,7 @@ import dataclasses
 import filecmp
 import os
 import shutil
+from collections.abc import Mapping
 from pathlib import Path
 
 from openlink_update.input_files import InputFolder
@@ -64,16 +65,16 @@ class NamesFile:
             return not any(path.is_file() for path in paths)
         return filecmp.cmp(paths[0], paths[1], shallow=False)
 
-    def differences(self, names: list[str], folder: InputFolder) -> list[str]:
+    def differences(self, names: list[str], folder: InputFolder, groups: Mapping[str, str]) -> list[str]:
         """Lines about the targets of the next version of an input that its targets.json does not name, and the other
-        way round."""
+        way round; `groups` are those that their rules say."""
         is_own = self.is_served() and folder.exists(NAME)
         path = folder.place(NAME) if is_own else Path(self._site.targets_path())
         try:
             data = folder.read(NAME, targets_file.MOST_BYTES) if is_own else path.read_bytes()
         except OSError:
             return []  # who puts it in the version says why
-        return self._site.differences(names, path, data)
+        return self._site.differences(names, path, data, groups)
 
     def path_in(self, version: Path) -> str:
         """The one by which a version is shown."""

@@ -63,9 +63,7 @@ def _found(material: Material, signs: Iterable[str], is_slip: Callable[[str], bo
     for column in dict.fromkeys((_PAGE, *material.table.columns)):
         if column != _PAGE and column not in (names or ()):
             continue
-        cells = material.cells(column)
-        text = "\n".join(cells)
-        small = text.lower() if "://" in text else ""
+        small, cells = material.small_text(column), material.cells(column)
         if not any(sign in small for sign in signs):
             continue
         for place, cell in enumerate(cells):

@@ -22,8 +22,8 @@ class Kind:
 
 
 KINDS = (
-    Kind("check digits of print_identifier wrong", odd_cells.wrong_digits("print_identifier")),
-    Kind("check digits of online_identifier wrong", odd_cells.wrong_digits("online_identifier")),
+    Kind(odd_cells.words_of_digits("print_identifier"), odd_cells.wrong_digits("print_identifier")),
+    Kind(odd_cells.words_of_digits("online_identifier"), odd_cells.wrong_digits("online_identifier")),
     Kind("no first date in any row", odd_cells.no_first_date, is_usual=True),
     Kind("first dates after today", odd_cells.after_today),
     Kind(date_order.WORDS, odd_cells.reversed_dates, is_said=False),  # preparation says it

@@ -57,6 +57,17 @@ class Material:
                 self._columns[column] = [row[place] if place < len(row) else "" for row in self.table.rows]
         return self._columns[column]
 
+    @functools.cached_property
+    def _small_texts(self) -> dict[str, str]:
+        return {}
+
+    def small_text(self, column: str) -> str:
+        """The cells of a column that has addresses, in small letters, as one text; '' of another column."""
+        if column not in self._small_texts:
+            text = "\n".join(self.cells(column))
+            self._small_texts[column] = text.lower() if "://" in text else ""
+        return self._small_texts[column]
+
     def is_journal(self, place: int) -> bool:
         """Whether a row has an ISSN, and is not said to be of a book."""
         if self.cells("publication_type")[place].lower() == "monograph":
@@ -80,3 +91,5 @@ class Pair:
     today: datetime.date
     # The titles that the tables of other targets have for numbers.
     others: Callable[[Iterable[str]], Mapping[str, str]]
+    # The words of slips that the version before is known not to have.
+    clean: frozenset[str] = frozenset()

@@ -23,12 +23,19 @@ _TO = r"[^0-9]{0,20}(?:-|–|—|\bto\b|\bbis\b)[^0-9]{0,20}"
 _RANGE = re.compile(rf"\b{_YEAR}\b{_TO}(?:\b{_YEAR}\b|present|current|heute|$)", re.I)
 
 
+def words_of_digits(column: str) -> str:
+    return f"check digits of {column} wrong"
+
+
 def wrong_digits(column: str) -> Callable[[Pair], Found | None]:
-    """Numbers of a column whose check digit does not fit."""
+    """Numbers of a column whose check digit does not fit. Where the version before has none, only others are tried."""
 
     def find(pair: Pair) -> Found | None:
         cells = pair.now.cells(column)
-        return pair.now.found([place for place, text in enumerate(cells) if text and is_wrong(text)], cells)
+        if pair.before is None or words_of_digits(column) not in pair.clean:
+            return pair.now.found([place for place, text in enumerate(cells) if text and is_wrong(text)], cells)
+        wrong = set(filter(is_wrong, set(cells).difference(pair.before.cells(column))))
+        return pair.now.found([place for place, text in enumerate(cells) if text in wrong], cells) if wrong else None
 
     return find
 
@@ -67,7 +74,7 @@ def no_volumes(pair: Pair) -> Found | None:
     texts = [""] * len(pair.now.table.rows)
     for column in _VOLUMES:
         cells = pair.now.cells(column)
-        if any(map(_NUMBER.match, cells)):
+        if not any(cells) or any(map(_NUMBER.match, cells)):
             continue
         filled = [place for place, text in enumerate(cells) if text]
         if len(filled) > FEW:

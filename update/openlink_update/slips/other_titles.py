@@ -23,6 +23,8 @@ class OtherTitles:
             self._titles = {}
             for table in self._older():
                 self.add(table)
+        if not self._titles:
+            return {}
         return {number: self._titles[number] for number in numbers if number in self._titles}
 
     def add(self, table: Table) -> None:

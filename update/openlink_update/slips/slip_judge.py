@@ -69,15 +69,17 @@ class SlipJudge:
 
     def find(self, name: str, now: Material, before: Material | None) -> None:
         """Looks for slips in the files of a target that is new, or new in a version."""
-        self._found[name] = self._founds(now, before)
+        known = self._limits_before.get(name, {})
+        clean = frozenset(known) - frozenset(self._found_before.get(name, {}))
+        self._found[name] = self._founds(now, before, clean)
         self._limits[name], self._lines[name] = {}, []
         found = {} if before is None else self._first_of(name, before)
         for kind in KINDS:
             self._limits[name][kind.words] = self._limit_of(kind, name, found, is_new=before is None)
         self._lines[name] += self._lines_of_new(name, found)
 
-    def _founds(self, now: Material, before: Material | None) -> _Founds:
-        return _founds(Pair(now, before, self._today, self._others.of))
+    def _founds(self, now: Material, before: Material | None, clean: frozenset[str] = frozenset()) -> _Founds:
+        return _founds(Pair(now, before, self._today, self._others.of, clean))
 
     def _first_of(self, name: str, before: Material) -> _Founds:
         """The slips of a table in use that is looked at for the first time, which are allowed from now on."""

@@ -1,7 +1,7 @@
 """Slips of titles: damaged letters, capitals, and titles that may have been sorted apart from their numbers."""
 import re
 import unicodedata
-from collections.abc import Iterator
+from collections.abc import Collection, Iterable, Iterator, Mapping
 from functools import lru_cache
 
 from openlink_update.slips.material import FEW, TITLE, Found, Material, Pair
@@ -10,7 +10,7 @@ from openlink_update.received.column_names import IDENTIFIERS
 # How the second byte of a letter in UTF-8 reads in windows-1252 and ISO 8859-1.
 _SECOND = "\x80-\xbf€‚ƒ„…†‡ˆ‰Š‹ŒŽ‘’“”•–—˜™š›œžŸ"
 _DAMAGED = re.compile(f"[ÂÃ][{_SECOND}]|(?:[Ä-ß][{_SECOND}]){{2}}|[à-ï][{_SECOND}]{{2}}|\ufffd|ï¿½", re.U)
-_SIGNS = re.compile("[À-ï\ufffd]")  # one of which each damaged title has
+_SIGNS = re.compile(f"[{_SECOND}\ufffd]")  # one of which each damaged title has
 _WORD = re.compile(r"\w{4,}")
 _STEM = 4  # letters of a word that are compared, so that an abbreviation is the same
 # The stems of words that titles share by chance.
@@ -18,16 +18,15 @@ _USUAL = set(
     "jour inte rese stud revi scie anna proc hand intr hist theo appl euro amer with from zeit revu reva bull tran soci "
     "univ worl adva".split()
 )
+_MOST_TRIED, _MOST_OTHER = 2000, 10  # rows that are compared first, and in 100, those with another title
 _LETTERS = 10  # of a title in capitals; shorter ones are names, such as PLOS ONE
 
 
 def damaged(pair: Pair) -> Found | None:
     """Titles with letters that were read in another encoding than they were written in."""
     cells = pair.now.cells(TITLE)
-    text = "\n".join(cells)
-    if text.isascii() or not _DAMAGED.search(text):
-        return None
-    return pair.now.found([place for place, text in enumerate(cells) if _DAMAGED.search(text)], cells)
+    odd = [place for place, text in enumerate(cells) if not text.isascii() and _SIGNS.search(text)]
+    return pair.now.found([place for place in odd if _DAMAGED.search(cells[place])], cells)
 
 
 def _in_capitals(text: str) -> bool:
@@ -62,30 +61,48 @@ def _pairs(material: Material) -> Iterator[tuple[str, str]]:
 def other_titles(pair: Pair) -> Found | None:
     """Numbers that the version before knows under another title; where it knows few of them, the tables of the other
     targets. Of as many as are known."""
-    if not pair.now.has(TITLE):
+    now, before = pair.now, pair.before
+    if not now.has(TITLE) or before is not None and _are_most_same(now, before):
         return None
-    now = dict(_pairs(pair.now))
-    now.pop("", None)
-    known = {} if pair.before is None else dict(_pairs(pair.before))
-    common = now.keys() & known.keys()
-    if len(common) * 2 >= len(now) and pair.before is not None:
-        other = [
-            number for number in common if now[number] != known[number] and not _is_same(now[number], known[number])
-        ]
-        titles = dict.fromkeys(other)
-        for number, title in _pairs(pair.before) if other else ():
-            if number in titles and _is_same(now[number], title):
-                del titles[number]
-        other = list(titles)
-    else:
-        known = dict(pair.others(now))
-        common = now.keys() & known.keys()
-        other = [number for number in common if not _is_same(now[number], known[number])]
+    if before is not None:
+        titles, known = dict(_pairs(now)), dict(_pairs(before))
+        common = titles.keys() & known.keys() - {""}
+        if len(common) * 2 >= len(titles):
+            return _found_among(titles, known, common, list(_pairs(before)))
+    known = dict(pair.others(number for number, _ in _pairs(now)))
+    titles = {number: title for number, title in _pairs(now) if number in known}
+    return _found_among(titles, known, titles.keys(), list(known.items()))
+
+
+def _are_most_same(now: Material, before: Material) -> bool:
+    """Whether so few of some rows, evenly spread, have another title than their numbers had that not enough of all rows
+    can have one."""
+    step = -(-len(now.table.rows) // _MOST_TRIED) or 1
+    titles = now.cells(TITLE)[::step]
+    other = tried = 0
+    for column in IDENTIFIERS:
+        numbers = now.cells(column)[::step]
+        wanted = {*numbers} - {""}
+        pairs = zip(before.cells(column), before.cells(TITLE))
+        known = {number: title for number, title in pairs if number in wanted}
+        had = [(title, known[number]) for number, title in zip(numbers, titles) if number in known]
+        tried += len(had)
+        other += sum(title != old for title, old in had)
+    return tried * 2 >= len(titles) and other * 100 <= tried * _MOST_OTHER
+
+
+def _found_among(
+    titles: Mapping[str, str], known: Mapping[str, str], common: Collection[str], pairs: Iterable[tuple[str, str]]
+) -> Found | None:
+    """The numbers of a table with titles that are no titles of theirs in these pairs."""
+    other = {number for number in common if titles[number] != known[number]}
+    for number, title in pairs if other else ():
+        if number in other and _is_same(titles[number], title):
+            other.discard(number)
     if not other:
         return None
-    places = set(other)
-    first = next(number for number in now if number in places)
-    return Found(len(other), len(common), f"{first}, {now[first]}, and {known[first]} elsewhere")
+    first = next(number for number in titles if number in other)
+    return Found(len(other), len(common), f"{first}, {titles[first]}, and {known[first]} elsewhere")
 
 
 @lru_cache(maxsize=1 << 12)

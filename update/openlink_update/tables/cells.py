@@ -15,6 +15,7 @@ _Rows = list[list[str]]
 _Step = Callable[[list[str], _Rows], tuple[_Rows, list[str]]]
 
 _LAST, _EMBARGO, _ADDRESS = "date_last_issue_online", "embargo_info", "title_url"
+_W = ("w", "W")
 _QUOTED = re.compile(r'=?"((?:[^"]|"")*)"')
 _DASHES = re.compile("[\xad\u2010-\u2015\u2043\u2212\ufe58\ufe63\uff0d]")
 _NUMBER_AND_WORDS = re.compile(r"([0-9][0-9Xx -]{6,16}?)(?:\s*[(\[][^()\[\]]*[)\]]|\s+[A-Za-z]+\.?)", re.A)
@@ -106,19 +107,19 @@ def _long_isbn(cell: str) -> str:
 
 def _with_dates(header: list[str], rows: _Rows) -> tuple[_Rows, list[str]]:
     """With dates in the standard's form, and no last date where it means today."""
-    known: dict[str, str] = {}
-    are_years = 0
-
-    def date(cell: str) -> str:
-        nonlocal are_years
-        new = known.get(cell)
-        if new is None:
-            new = known[cell] = standard_date(cell)
-        if new != cell:
-            are_years += len(new) == 4
-        return new
-
-    changed = _change_cells(header, rows, DATES, date)
+    known = {"": ""}
+    changed = are_years = 0
+    for place in [header.index(name) for name in DATES if name in header]:
+        for row in rows:
+            if len(row) > place:
+                cell = row[place]
+                new = known.get(cell)
+                if new is None:
+                    new = known[cell] = standard_date(cell)
+                if new != cell:
+                    changed += 1
+                    are_years += len(new) == 4
+                row[place] = new  # equal or not: one text takes the place of many cells
     opened = _change_cells(header, rows, (_LAST,), lambda cell: "" if _OPEN_END.fullmatch(cell) else cell)
     return rows, lines_of_counts(
         Count("dates in the standard's form", changed - are_years, "cell"),
@@ -129,18 +130,23 @@ def _with_dates(header: list[str], rows: _Rows) -> tuple[_Rows, list[str]]:
 
 def _with_embargoes(header: list[str], rows: _Rows) -> tuple[_Rows, list[str]]:
     """With embargoes in words as the standard writes them, where they have one reading."""
-    count = _change_cells(
-        header, rows, (_EMBARGO,), lambda cell: cell if Embargo.parse(cell) else embargo_words.standard(cell)
-    )
-    return rows, lines_of_counts(Count("embargoes in words written as KBART does", count, "cell"))
+    place = header.index(_EMBARGO) if _EMBARGO in header else len(header)
+    cells = {row[place] for row in rows if len(row) > place}  # the same ones come again
+    words = {cell: embargo_words.standard(cell) for cell in cells if cell and Embargo.parse(cell) is None}
+    changes = {cell: new for cell, new in words.items() if new != cell}
+    changed = [row for row in rows if len(row) > place and row[place] in changes] if changes else []
+    for row in changed:
+        row[place] = changes[row[place]]
+    return rows, lines_of_counts(Count("embargoes in words written as KBART does", len(changed), "cell"))
 
 
 def _with_addresses(header: list[str], rows: _Rows) -> tuple[_Rows, list[str]]:
     """With whole addresses in place of those that begin with www."""
-    count = _change_cells(
-        header, rows, (_ADDRESS,), lambda cell: f"https://{cell}" if cell[:4].lower() == "www." else cell
-    )
-    return rows, lines_of_counts(Count("addresses made https", count, "cell"))
+    place = header.index(_ADDRESS) if _ADDRESS in header else len(header)
+    short = [row for row in rows if len(row) > place and row[place][:1] in _W and row[place][:4].lower() == "www."]
+    for row in short:
+        row[place] = f"https://{row[place]}"
+    return rows, lines_of_counts(Count("addresses made https", len(short), "cell"))
 
 
 def _without_repetitions(header: list[str], rows: _Rows) -> tuple[_Rows, list[str]]:

@@ -4,13 +4,17 @@ from openlink_update.tables.identifiers import form_of
 
 _WEIGHTS = (8, 7, 6, 5, 4, 3, 2)
 _ONES = {**{str(digit): digit for digit in range(10)}, "X": 10, "x": 10}
-# The weighted sums of the first four digits of an ISSN, and of the three after them.
-_FOUR = {f"{number:04}": sum(int(d) * w for d, w in zip(f"{number:04}", _WEIGHTS[:4])) for number in range(10000)}
-_THREE = {f"{number:03}": sum(int(d) * w for d, w in zip(f"{number:03}", _WEIGHTS[4:])) for number in range(1000)}
+# The weighted sums of the first four digits of an ISSN, and of its hyphen with the four after it.
+_HEADS = {f"{number:04}": sum(int(d) * w for d, w in zip(f"{number:04}", _WEIGHTS)) for number in range(10000)}
+_TAILS = {
+    f"-{number:03}{last}": sum(int(d) * w for d, w in zip(f"{number:03}", _WEIGHTS[4:])) + one
+    for number in range(1000)
+    for last, one in _ONES.items()
+}
 
 
 def _fits_issn(form: str) -> bool:
-    return (_FOUR[form[:4]] + _THREE[form[5:8]] + _ONES[form[8]]) % 11 == 0
+    return (_HEADS[form[:4]] + _TAILS[form[4:]]) % 11 == 0
 
 
 def _fits_long(form: str) -> bool:
@@ -24,7 +28,11 @@ def _fits_short(form: str) -> bool:
 
 def is_wrong(cell: str) -> bool:
     """Whether a cell has a number whose check digit does not fit."""
-    if len(cell) == 13 and cell.isascii() and cell.isdecimal():
+    if len(cell) == 9:
+        head, tail = _HEADS.get(cell[:4]), _TAILS.get(cell[4:])
+        if head is not None and tail is not None:
+            return (head + tail) % 11 != 0
+    elif len(cell) == 13 and cell.isascii() and cell.isdecimal():
         return cell[:3] in ("978", "979") and not _fits_long(cell)
     form = form_of(cell)
     if not form:

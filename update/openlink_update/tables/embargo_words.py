@@ -37,12 +37,14 @@ _MOST_DIGITS, _MOST_CHARACTERS = 5, 60
 _DAYS_OF_WEEK = 7
 
 
-@functools.lru_cache(maxsize=4096)  # the same cells come again
 def standard(cell: str) -> str:
     """The embargo of a cell as KBART writes it; '' if the cell says that there is none; the cell itself if it has no
     embargo in words, or one with two readings."""
-    if len(cell) > _MOST_CHARACTERS:
-        return cell
+    return _standard(cell) if len(cell) <= _MOST_CHARACTERS else cell
+
+
+@functools.lru_cache(maxsize=4096)  # the same cells come again
+def _standard(cell: str) -> str:
     letters = unicodedata.normalize("NFKD", cell.lower())
     text = " ".join("".join(it for it in letters if not unicodedata.combining(it)).split())
     if text in _NONE:

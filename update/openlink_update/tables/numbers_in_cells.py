@@ -17,7 +17,7 @@ _BEFORE = re.compile(r"(?:print|online|electronic) *:? *", re.A | re.I)
 _BETWEEN = re.compile(r" *(?:[;,/|&+]| und | and | et | y | or ) *| +(?=(?:[pel]-?)?IS[SB]N)|(?<=[)\]]) +", re.A | re.I)
 _OF_PRINT = re.compile(r"\bp(?:-?ISSN|rint)\b|paper|hard|cloth|\b[ph]bk\b|druck|imprim|impres", re.A | re.I)
 _OF_ONLINE = re.compile(r"\be-?ISSN\b|online|electr|elektr|e-?book|\bweb\b|digital|en l", re.A | re.I)
-_LEAST_OF_TWO = 16  # characters
+_LEAST_OF_TWO = 17  # characters
 _MOST_OF_TWO = 200
 _LEAST_DIGITS, _ISSN, _ISBN = 5, 8, 10
 
@@ -58,16 +58,14 @@ def apart(header: list[str], rows: _Rows) -> list[str]:
     the second goes to the other column, if that is empty. Returns what is said of it."""
     found = moved = left = 0
     for column, name in enumerate(IDENTIFIERS):
-        place = header.index(name) if name in header else None
-        for row in rows if place is not None else ():
-            cell = row[place] if place is not None and len(row) > place else ""
-            if _LEAST_OF_TWO <= len(cell) <= _MOST_OF_TWO and not form_of(cell):
-                numbers = _numbers_in(cell)
-                if numbers:
-                    other = _other(header, rows, 1 - column)
-                    found += 1
-                    was_moved, count = _place(row, (place or 0, other), numbers, column)
-                    moved, left = moved + was_moved, left + count
+        place = header.index(name) if name in header else len(header)
+        for row in [row for row in rows if len(row) > place and len(row[place]) >= _LEAST_OF_TWO]:
+            is_long = len(row[place]) > _MOST_OF_TWO or form_of(row[place]) != ""
+            numbers = [] if is_long else _numbers_in(row[place])
+            if numbers:
+                found += 1
+                was_moved, count = _place(row, (place, _other(header, rows, 1 - column)), numbers, column)
+                moved, left = moved + was_moved, left + count
     return lines_of_counts(
         Count("several numbers in a cell of identifiers", found, "cell"),
         Count("second numbers put in the other column", moved, "cell"),
@@ -113,7 +111,7 @@ def with_zeros(header: list[str], rows: _Rows) -> list[str]:
     in which most of them do not fit, since it has other numbers. Returns what is said of it."""
     count = 0
     for place in [header.index(name) for name in IDENTIFIERS if name in header]:
-        short = [row for row in rows if len(row) > place and _is_short(row[place])]
+        short = [row for row in rows if len(row) > place and row[place].isdecimal() and _is_short(row[place])]
         fitting = [(row, whole) for row, whole in ((row, _whole(row[place])) for row in short) if whole]
         if len(fitting) * 2 >= len(short):
             for row, whole in fitting:
@@ -123,7 +121,7 @@ def with_zeros(header: list[str], rows: _Rows) -> list[str]:
 
 
 def _is_short(cell: str) -> bool:
-    return _LEAST_DIGITS <= len(cell) < _ISBN and len(cell) != _ISSN and cell.isdecimal() and cell.isascii()
+    return _LEAST_DIGITS <= len(cell) < _ISBN and len(cell) != _ISSN and cell.isascii()
 
 
 def _whole(digits: str) -> str:

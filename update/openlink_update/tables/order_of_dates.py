@@ -32,7 +32,7 @@ def settle(columns: Sequence[str], rows: list[list[str]]) -> list[str]:
     count = 0
     for place in [place for place, name in enumerate(columns) if name in DATES]:
         known: dict[str, str] = {}
-        cells = {row[place] for row in rows if len(row) > place and row[place].count("/") + row[place].count("-") >= 2}
+        cells = set(filter(_FORM.fullmatch, {row[place] for row in rows if len(row) > place}))
         order = _is_day_first(cells)
         if order is None:
             continue

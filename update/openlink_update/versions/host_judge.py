@@ -14,11 +14,10 @@ from pathlib import Path
 from openlink_update import shown_text
 from openlink_update.index.title_addresses import NO_OFFER, Offer, Proxy
 from openlink_update.input_files import cells_in
-from openlink_update.rules import proxies
+from openlink_update.rules import compiled, proxies
 from openlink_update.tables import link_hosts
 from openlink_update.tables.link_hosts import Links, Templates
 from openlink_update.tables.table import Table
-from openlink_update.versions import served
 from openlink_update.versions.allowed_words import HOSTS, SAME, is_word_of_hosts
 from openlink_update.versions.undated_links import UndatedLinks
 
@@ -164,7 +163,7 @@ class HostJudge:
         texts = sorted(link_hosts.texts_before_addresses(self._rules(name)))
         is_known = not texts or len(texts) == 1 and texts[0][0].lower().startswith("https:")
         proxy = Proxy(*texts[0]) if texts else Proxy()
-        if (self._folder / served.rules_behind(name)).exists():
+        if (self._folder / compiled.behind(name)).exists():
             is_known, proxy = not texts, Proxy(prefix, proxies.is_encoding(prefix))
         return Offer(kinds, frozenset(self._now.get(name, {})) - {""}, proxy if is_known else None)
 

@@ -12,14 +12,14 @@ from openlink_update.tables.identifiers import form_of, standard
 from openlink_update.outcome import Refused
 from openlink_update.received.column_names import IDENTIFIERS
 from openlink_update.tables.parts import base_of
-from openlink_update.versions import host_judge
 from openlink_update.versions.host_judge import HostJudge
 from openlink_update.versions.program import PLACE, words_of
+from openlink_update.rules import compiled
 from openlink_update.tables.embargo import Embargo
 from openlink_update.tables.row_dates import NONE, date_in
 from openlink_update.tables.table import Table, cell
 from openlink_update.versions.program import Program
-from openlink_update.versions.served import names_in, path_of, rules_of, tables_in
+from openlink_update.versions.served import names_in, path_of, tables_in
 from openlink_update.versions.target_list import Target
 
 from openlink_update.slips.material import Material
@@ -263,7 +263,7 @@ class Judge:
         if has_rules and not reasons:
             known = [line for _, line in found]
             for part in parts:
-                rules = rules_of(self._folder, target.name)
+                rules = compiled.path_in(self._folder, target.name)
                 lines = self._lines(target.rules, reasons, "lint", rules, path_of(part))
                 found += [it for it in lines if it not in found and it[1] not in known]
         return found, reasons

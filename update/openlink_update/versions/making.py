@@ -22,10 +22,12 @@
 
 An old table is prepared again before a new one is compared with it, so a newer form of preparation does not look like a
 change by the provider."""
+import contextlib
 import dataclasses
 import datetime
 import filecmp
 import functools
+import gc
 import os
 import re
 import shutil
@@ -41,8 +43,8 @@ from openlink_update.received import patterns
 from openlink_update.rights.filters import Filter
 from openlink_update.rights.sandbox import no_filter
 from openlink_update.root_folder import RootFolder
+from openlink_update.rules import compiled, pages, proxies
 from openlink_update.run_notes import TargetState
-from openlink_update.rules import pages, proxies, shipped
 from openlink_update.shown_text import amount
 from openlink_update.slips import odd_rows, slip_judge
 from openlink_update.slips.material import Material
@@ -50,7 +52,7 @@ from openlink_update.tables import dropped_rows, row_changes
 from openlink_update.tables.preparation import Prepared
 from openlink_update.tables.table import Table
 from openlink_update.target_options import Options
-from openlink_update.versions import earlier_files, host_judge, served, shared_tables, undated_links
+from openlink_update.versions import earlier_files, host_judge, shared_tables, undated_links
 from openlink_update.versions.allowed_words import FEWER
 from openlink_update.versions.earlier_files import EarlierFiles
 from openlink_update.versions.judging import Judge
@@ -117,6 +119,17 @@ class _Files:
             return Table((), [])
 
 
+@contextlib.contextmanager
+def _collecting_nothing() -> Iterator[None]:
+    """While millions of cells are compared, Python does not look for cycles among them: there are none, and it would
+    take a third of the time."""
+    gc.disable()
+    try:
+        yield
+    finally:
+        gc.enable()
+
+
 def _material_of(files: _Files) -> Material:
     return files.material
 
@@ -129,8 +142,7 @@ def _files_of(target: Target, filtered: Filter) -> _Files:
     for number, path in enumerate((target.rules, *target.tables)):
         try:
             found = patterns.path_of(path, target.input.matches) if number else path
-            is_shipped = number == 0 and target.is_shipped
-            sources.append(shipped.file(path) if is_shipped else target.input.file(found))
+            sources.append(target.input.file(found) if number else target.rules_file())
         except OSError as fault:
             is_pattern = "*" in path and isinstance(fault, FileNotFoundError)
             reasons.append(f"{fault.filename or path}: {'no file has such a name' if is_pattern else fault.strerror}")
@@ -405,15 +417,15 @@ class Maker:
             return [f"{target.rules}: {reason}" for reason in refusal.reasons]
         if rules == files.rules:
             return []
-        (self._folder / served.RULES).mkdir(exist_ok=True)
-        self._write(served.rules_behind(target.name), rules)
-        return self._rejected(target.rules, "compile", served.rules_behind(target.name), code)
+        (self._folder / compiled.FOLDER).mkdir(exist_ok=True)
+        self._write(compiled.behind(target.name), rules)
+        return self._rejected(target.rules, "compile", compiled.behind(target.name), code)
 
     def _discard(self, name: str) -> None:
         """Removes what a target has in this version."""
         self._tables.discard(name)
         received = [f"received/{file}" for file in _received_names(self._folder, name)]
-        rules = [f"received/{name}.rules", f"received/{name}.olk", served.rules_behind(name), f"code/{name}.olk"]
+        rules = [f"received/{name}.rules", f"received/{name}.olk", compiled.behind(name), f"code/{name}.olk"]
         for place in (*rules, f"dropped/{name}.txt", *received):
             (self._folder / place).unlink(missing_ok=True)
         for place in received:
@@ -437,8 +449,9 @@ class Maker:
         if self._tables.parts_of(target.name):
             parts = dict(self._tables.divided(target.name, prepared.table))
             self._judge.undated.find(target.name, prepared.table, not new.has_code and not reasons)
-            before_it = old.material if old is not None else None
-            reasons += self._judge.reasons(target, parts, not new.has_code and not reasons, new.material, before_it)
+            before_it, has_rules = old.material if old is not None else None, not new.has_code and not reasons
+            with _collecting_nothing():
+                reasons += self._judge.reasons(target, parts, has_rules, new.material, before_it)
         lines = dropped_rows.reasons_against(prepared.dropped, prepared.count, target.allowed)
         reasons += [f"{target.table}: {line}" for line in lines]
         before, after = len(old.table_or_empty.rows) if old else 0, len(prepared.table.rows)

@@ -13,8 +13,6 @@ from openlink_update.tables.registry import entries_of
 from openlink_update.tables.table import Table
 from openlink_update.versions.target_list import Target
 
-RULES = "rules"  # the folder of rules behind a proxy
-
 
 def names_in(version: str | Path) -> list[str]:
     """The names in the registry of a version, in the order of its menu."""
@@ -29,17 +27,6 @@ def targets_in(version: str | Path) -> list[str]:
 def path_of(part: str) -> str:
     """The path of a table below a version."""
     return f"tables/{part}.txt"
-
-
-def rules_behind(name: str) -> str:
-    """The path of a target's rules behind a proxy below a version, which has them if the target has one."""
-    return f"{RULES}/{name}.rules"
-
-
-def rules_of(version: Path, name: str) -> str:
-    """The path of the rules of a target below a version, as they are compiled."""
-    behind = rules_behind(name)
-    return behind if (version / behind).exists() else f"received/{name}.rules"
 
 
 def tables_in(version: Path, names: Iterable[str]) -> Iterator[Table]:

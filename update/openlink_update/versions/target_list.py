@@ -2,14 +2,16 @@
 files of its table, and its options with the words that allow warnings, the last two separated by semicolons; the last
 cell may be missing. In place of a rule file, `provider:NAME` names rules that ship: see shipped.py. Paths are relative
 to the folder of the list; those of tables may have *. Empty lines and lines that begin with # are skipped."""
+import contextlib
 import dataclasses
 import os
 import re
+from collections.abc import Iterable
 
-from openlink_update.input_files import InputFolder, Line
+from openlink_update.input_files import InputFile, InputFolder, Line
 from openlink_update import target_options
 from openlink_update.outcome import Failure, Refused
-from openlink_update.rules import shipped
+from openlink_update.rules import heads, shipped
 from openlink_update.tables import parts
 from openlink_update.target_options import Options
 from openlink_update.versions import allowed_words
@@ -35,8 +37,22 @@ class Target:
         """What messages call the table."""
         return "; ".join(self.tables)
 
+    def rules_file(self) -> InputFile:
+        """OSError if it cannot be read."""
+        return shipped.file(self.rules) if self.is_shipped else self.input.file(self.rules)
+
     def has_code(self) -> bool:
         return self.rules.endswith(".olk")
+
+
+def groups_of(targets: Iterable[Target]) -> dict[str, str]:
+    """By target, the group that the head of its rules says. What is wrong with the rules is said elsewhere."""
+    groups: dict[str, str] = {}
+    for target in targets:
+        with contextlib.suppress(OSError):
+            if not target.reasons and not target.has_code():
+                groups[target.name] = heads.parse(target.rules_file().data).group
+    return groups
 
 
 def read(folder: InputFolder) -> list[Target]:

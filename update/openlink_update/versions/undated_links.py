@@ -14,11 +14,10 @@ from openlink_update import shown_text
 from openlink_update.index.title_rows import Row, rows_of
 from openlink_update.input_files import cells_in
 from openlink_update.outcome import Refused
-from openlink_update.rules import pages
+from openlink_update.rules import compiled, pages
 from openlink_update.tables import coverage
 from openlink_update.tables.identifiers import is_issn, standard
 from openlink_update.tables.table import Table, cell
-from openlink_update.versions import served
 from openlink_update.versions.program import Program
 
 NAME = "undated.tsv"
@@ -60,7 +59,7 @@ class UndatedLinks:
     def _has_link(self, name: str, table: Table, rows: list[tuple[int, Row]]) -> bool:
         """Whether the rules have a link for one of these rows."""
         own = table.of_rows([number for number, _ in rows])
-        has_pages = pages.are_named((self._folder / served.rules_of(self._folder, name)).read_bytes())
+        has_pages = pages.are_named((self._folder / compiled.path_in(self._folder, name)).read_bytes())
         sample, _ = coverage.served(pages.added(own) if has_pages else own, self._today)
         path = self._folder / _SAMPLE
         path.write_bytes(sample.to_bytes())
@@ -72,7 +71,7 @@ class UndatedLinks:
             path.unlink()
 
     def _explained(self, name: str, row: Row) -> str:
-        rules = served.rules_of(self._folder, name)
+        rules = compiled.path_in(self._folder, name)
         return self._program.run("explain", rules, _SAMPLE, _query_of(row), most=1)[1]
 
     def keep_all(self) -> None:

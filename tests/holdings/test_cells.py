@@ -1,0 +1,180 @@
+"""Cells of vendors that have one reading, and those that have two, which stay."""
+from __future__ import annotations
+
+from fixtures.cases import Case
+from fixtures.spreadsheet_files import archive_of
+from openlink_update.outcome import Refused
+from openlink_update.tables import embargo_words
+from openlink_update.tables import preparation
+
+HEAD = "publication_title\tprint_identifier\tonline_identifier\tdate_first_issue_online\ttitle_url"
+EMBARGOES = {
+    "1 year": "P1Y",
+    "12 Months": "P12M",
+    "6 months delay": "P6M",
+    "18 mois": "P18M",
+    "2 Jahre": "P2Y",
+    "1 an": "P1Y",
+    "un an": "P1Y",
+    "2 années": "P2Y",
+    "1 año": "P1Y",
+    "6 meses": "P6M",
+    "2 anni": "P2Y",
+    "12 maanden": "P12M",
+    "12-month embargo": "P12M",
+    "Embargo: 12 months": "P12M",
+    "moving wall of 3 years": "P3Y",
+    "delayed by six months": "P6M",
+    "Sperrfrist: 12 Monate": "P12M",
+    "12 months after publication": "P12M",
+    "365 days": "P365D",
+    "6 weeks": "P42D",
+    "6 mo.": "P6M",
+    "2 yrs": "P2Y",
+    "(1 year)": "P1Y",
+    "None": "",
+    "no embargo": "",
+    # Two readings, or none.
+    "last 5 years only": "last 5 years only",
+    "5 years available": "5 years available",
+    "1-2 years": "1-2 years",
+    "6 to 12 months": "6 to 12 months",
+    "1.5 years": "1.5 years",
+    "1,5 Jahre": "1,5 Jahre",
+    "1 year 6 months": "1 year 6 months",
+    "-1 year": "-1 year",
+    "some months": "some months",
+    "years": "years",
+    "0 months": "0 months",
+    "6 M": "6 M",
+    "12": "12",
+    "1 year; 2 years": "1 year; 2 years",
+    "1 year or less": "1 year or less",
+    "١ year": "١ year",
+}
+# The cells of two identifiers, and what becomes of them.
+NUMBERS = {
+    ("2901-0012, 2908-0142", ""): ("2901-0012", "2908-0142"),
+    ("", "2901-0012; 2908-0142"): ("2908-0142", "2901-0012"),
+    ("2901-0012 2908-0142", ""): ("2901-0012", "2908-0142"),
+    ("2901-0012 / 2908-0142", "2908-0142"): ("2901-0012", "2908-0142"),
+    ("2901-0012 (online), 2908-0142 (print)", ""): ("2908-0142", "2901-0012"),
+    ("eISSN 2901-0012; pISSN 2908-0142", ""): ("2908-0142", "2901-0012"),
+    ("2901-0012 und 2908-0142", ""): ("2901-0012", "2908-0142"),
+    ("2901-001x|2908-0142".replace("|", "; "), ""): ("2901-001x", "2908-0142"),
+    ("2901-0012, 2908-0142", "2915-0272"): ("2901-0012", "2915-0272"),
+    ("2901-0012, 2908-0142, 2915-0272", ""): ("2901-0012", "2908-0142"),
+    ("978-0-306-40615-7, 9780804429573", ""): ("978-0-306-40615-7", "9780804429573"),
+    ("978-0-306-40615-7", ""): ("978-0-306-40615-7", ""),
+    ("978 0 306 40615 7", ""): ("978 0 306 40615 7", ""),
+    ("2901-0012, soon", "2908-0142"): ("2901-0012, soon", "2908-0142"),
+    ("ISSN: 2901-0012", "ISSN 2908-0142"): ("2901-0012", "2908-0142"),
+    ("ISSN-L 2901-0012", "e-ISSN:2908-0142"): ("2901-0012", "2908-0142"),
+    ("ISBN-13: 9780306406157", "urn:isbn:9780804429573"): ("9780306406157", "9780804429573"),
+    ("ISSN", "2908-0142"): ("ISSN", "2908-0142"),
+    ("ISSNs of 2901", "2908-0142"): ("ISSNs of 2901", "2908-0142"),
+}
+
+
+def table(*rows: str, head: str = HEAD) -> bytes:
+    return "".join(f"{row}\n" for row in (head, *rows)).encode()
+
+
+def rows_of(*files: bytes) -> list[list[str]]:
+    return preparation.prepare([(f"file {number}", data) for number, data in enumerate(files)]).table.rows
+
+
+def said(*files: bytes) -> list[str]:
+    return preparation.prepare([("file", data) for data in files]).lines
+
+
+class Cells(Case):
+    def test_embargoes(self) -> None:
+        for cell, wanted in EMBARGOES.items():
+            self.expect(cell, embargo_words.standard(cell), wanted)
+        head = f"{HEAD}\tembargo_info"
+        rows = [
+            f"Tides {number}\t2901-0012\t\t1995\t\t{cell}" for number, cell in enumerate(("1 year", "P6M", "p1y", ""))
+        ]
+        data = table(*rows, head=head)
+        self.expect("cells of a table", [row[5] for row in rows_of(data)], ["P1Y", "P6M", "p1y", ""])
+        self.expect("what is said", said(data), ["embargoes in words written as KBART does: 1 cell"])
+
+    def test_numbers(self) -> None:
+        for (one, other), wanted in NUMBERS.items():
+            rows = rows_of(table(f"Tides\t{one}\t{other}\t1995\t"))
+            self.expect(f"{one} and {other}", tuple(rows[0][1:3]), wanted)
+        cells = ("2901-0012, 2908-0142\t2915-0272", "2901-0012, 2908-0142\t", "ISSN: 2922-0408\t")
+        lines = [
+            "several numbers in a cell of identifiers: 2 cells",
+            "second numbers put in the other column: 1 cell",
+            "numbers for which there was no cell, left out: 1 number",
+            "words before an identifier removed: 1 cell",
+        ]
+        self.expect("what is said", said(table(*(f"T\t{it}\t1995\t" for it in cells))), lines)
+
+    def test_one_column(self) -> None:
+        """A table with one column of identifiers gets the other, before cells that have no column."""
+        head = "publication_title\tonline_identifier\tdate_first_issue_online"
+        data = table("Tides\t2901-0012, 2908-0142\t1995\tmore", "Piers\t2915-0272", head=head)
+        prepared = preparation.prepare([("file", data)])
+        self.expect("its columns", prepared.table.columns[3:], ("print_identifier",))
+        self.expect("its rows", prepared.table.rows[0][1:], ["2901-0012", "1995", "2908-0142", "more"])
+
+    def test_addresses(self) -> None:
+        for cell, wanted in (
+            ("www.press.example.com/1", "https://www.press.example.com/1"),
+            ("WWW.press.example.com", "https://WWW.press.example.com"),
+            ("http://www.press.example.com", "http://www.press.example.com"),
+            ("wwwpress.example.com", "wwwpress.example.com"),
+            ("press.example.com/www.", "press.example.com/www."),
+        ):
+            self.expect(cell, rows_of(table(f"Tides\t2901-0012\t\t1995\t{cell}"))[0][4], wanted)
+
+    def test_order_of_dates_is_of_a_file(self) -> None:
+        """One file may have the day first, and another the month."""
+        days = table("A\t2901-0012\t\t3/4/1995\t", "B\t2908-0142\t\t13/4/1995\t")
+        months = table("C\t2915-0272\t\t3/4/1995\t", "D\t2922-0408\t\t4/13/1995\t")
+        alone = table("E\t2929-0538\t\t3/4/1995\t")
+        found = [row[3] for row in rows_of(days, months, alone)]
+        self.expect("dates", found, ["1995-04-03", "1995-04-13", "1995-03-04", "1995-04-13", "1995"])
+        both = table("A\t2901-0012\t\t3/4/1995\t", "B\t2908-0142\t\t13/4/1995\t", "C\t2915-0272\t\t4/13/1995\t")
+        self.expect("a column with both", rows_of(both)[0][3], "1995")
+        other = f"{HEAD}\tdate_last_issue_online"
+        data = table("A\t2901-0012\t\t3/4/1995\t\t13/4/1999", head=other)
+        self.expect("another column says nothing", rows_of(data)[0][3], "1995")
+        times = table("A\t2901-0012\t\t3/4/1995 12:00 AM\t", "B\t2908-0142\t\t4/13/1995 12:00:00 AM\t")
+        self.expect("with times", [row[3] for row in rows_of(times)], ["1995-03-04", "1995-04-13"])
+
+    def test_footers(self) -> None:
+        """Of each file, at its end alone, and never a row with a number."""
+        one = table("A\t2901-0012\t\t1995\t", "Total\t1", "", "(c) Press")
+        two = table("B\t2908-0142\t\t1995\t", "C\tsoon\t\t1995\t")
+        prepared = preparation.prepare([("one", one), ("two", two)])
+        self.expect("rows", [row[0] for row in prepared.table.rows], ["A", "B"])
+        self.expect("dropped", [row[1] for row in prepared.dropped], ["C"])
+        middle = table("A\t2901-0012\t\t1995\t", "Total\t1", "B\t2908-0142\t\t1995\t")
+        self.expect("in the middle", [row[1] for row in preparation.prepare([("file", middle)]).dropped], ["Total"])
+        last = table("A\t2901-0012\t\t1995\t", "\t2908-0142")
+        self.expect("a number alone", [row[1] for row in rows_of(last)], ["2901-0012", "2908-0142"])
+
+
+class Zips(Case):
+    """Of several members, the one that begins like a table."""
+
+    def test_members(self) -> None:
+        good = table("A\t2901-0012\t\t1995\t")
+        refused = "file: a zip file with {} members: name one by `member PATTERN` in sources.tsv"
+        for name, members, wanted in (
+            ("a readme", {"readme.txt": b"read me", "t.txt": good}, ""),
+            ("a page", {"readme.html": b"<html>", "t.txt": good}, ""),
+            ("a picture", {"logo.png": b"\x89PNG\r\n\x1a\n" + bytes(99), "t.txt": good}, ""),
+            ("two tables", {"a.txt": good, "b.txt": good}, refused.format(2)),
+            ("a table and an archive", {"a.txt": good, "b.zip": archive_of({"c": good})}, refused.format(2)),
+            ("none", {"a.txt": b"x", "b.txt": b"y"}, refused.format(2)),
+        ):
+            try:
+                got = "" if rows_of(archive_of(members)) else "no rows"
+            except Refused as refusal:
+                got = refusal.reasons[0].replace("file 0", "file")
+            self.expect(name, got, wanted)

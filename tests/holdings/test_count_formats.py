@@ -1,0 +1,324 @@
+"""The formats of openlink-counts, the cost of a followed link, and COUNTER reports beside the links that were followed.
+Texts of strangers stay in their cells."""
+from __future__ import annotations
+
+import csv
+import gzip
+import io
+import json
+import subprocess
+import tempfile
+import zipfile
+from pathlib import Path
+from xml.etree import ElementTree
+
+from fixtures.cases import Case
+
+LOG = """\
+2026-10-31T09:42:47+00:00 200 GET /find 0.017 found=1/3 targets=tidal-press,catalogue from=info:sid/google
+2026-10-31T09:42:48+00:00 200 POST /find.json 0.009 found=0/2 targets=catalogue from=
+2026-10-31T09:42:49+00:00 302 GET /go 0.009 found=2/2 targets=tidal-press from=info:sid/google
+2026-10-31T09:42:51+00:00 503 GET /find 0.404 found= targets= from=info:sid/google
+2026-11-01T09:42:54+00:00 200 GET /find.json 0.012 found=1/1 targets=tidal-press from=info:sid/openlink:probe
+"""
+FOLLOWED = """\
+2026-10 target=tidal-press 2901-0012
+2026-10 target=tidal-press 2908-0142
+2026-11 target=tidal-press 2908-0142
+2026-11 target=catalogue 9780306406157
+2026-11 target=catalogue -
+"""
+WANTED = "2026-10 3006-1962 1951\n2026-10 3006-1962 -\n"
+MONTHS = [
+    ["2026-10", 3, 2, 1, 0, 0, 3, 2, 1],
+    ["2026-11", 0, 0, 0, 0, 1, 3, 0, 0],
+]
+DATA = {
+    "months": (
+        "month|requests|with full text|without full text|without a link|probes|followed|asked in vain|errors",
+        MONTHS,
+    ),
+    "sources": (
+        "month|source|requests|with full text|without full text",
+        [["2026-10", "info:sid/google", 2, 2, 0], ["2026-10", "(none)", 1, 0, 1]],
+    ),
+    "targets": (
+        "month|target|shown|followed",
+        [
+            ["2026-10", "catalogue", 2, 0],
+            ["2026-10", "tidal-press", 1, 3],
+            ["2026-11", "catalogue", 0, 2],
+            ["2026-11", "tidal-press", 0, 1],
+        ],
+    ),
+    "followed": (
+        "month|target|number|followed",
+        [
+            ["2026-10", "tidal-press", "2901-0012", 1],
+            ["2026-10", "tidal-press", "2908-0142", 1],
+            ["2026-11", "catalogue", "-", 1],
+            ["2026-11", "catalogue", "9780306406157", 1],
+            ["2026-11", "tidal-press", "2908-0142", 1],
+        ],
+    ),
+    "errors": ("month|status|errors", [["2026-10", 503, 1]]),
+    "asked in vain": ("month|number|requests", [["2026-10", "3006-1962", 2]]),
+}
+COSTS = "target\tyear\tsum\n# a comment\n\ntidal-press\t2026\t100.00\ncatalogue\t2026\t7\nother\t2025\t3.5\n"
+COST_TABLE = """\
+year|target|sum|months|followed|cost of a followed link
+2025|other|3.5|0|0|
+2026|catalogue|7|2|2|3.50
+2026|tidal-press|100.00|2|4|25.00
+""".replace(
+    "|", "\t"
+)
+HEAD = """\
+Report_Name,Title Master Report
+Report_ID,TR
+Release,5
+Institution_Name,"Library, of a Coast"
+Metric_Types,
+Reporting_Period,Begin_Date=2026-10-01; End_Date=2026-11-30
+Created,2026-12-01T00:00:00Z
+
+"""
+COLUMNS = (
+    "Title,Publisher,Platform,DOI,ISBN,Print_ISSN,Online_ISSN,Data_Type,YOP,Access_Type,Metric_Type,"
+    "Reporting_Period_Total,Oct-2026,Nov-2026\n"
+)
+ANNALS = '"=HYPERLINK(""https://evil.example"")",Tidal,Tidal,,,2901-0012,2908-0142,Journal,{},Controlled,{},{},{},{}\n'
+REPORT = (
+    HEAD
+    + COLUMNS
+    + ANNALS.format(2025, "Unique_Item_Requests", 9, 5, 4)
+    + ANNALS.format(2026, "Unique_Item_Requests", 2, 2, "")
+    + ANNALS.format(2026, "Total_Item_Requests", 12, 8, 4)
+    + ANNALS.format(2026, "Total_Item_Investigations", 99, 90, 9)
+    + "Harbours,Tidal,Tidal,,978-0-306-40615-7,,,Book,2001,Controlled,Unique_Item_Requests,1,1,0\n"
+)
+BESIDE = """\
+month|number|title|followed|Unique_Item_Requests|Total_Item_Requests
+2026-10|2908-0142|"'=HYPERLINK(""https://evil.example"")"|2|7|8
+2026-10|9780306406157|Harbours|0|1|0
+2026-11|2908-0142|"'=HYPERLINK(""https://evil.example"")"|1|4|4
+2026-11|9780306406157|Harbours|1|0|0
+""".replace(
+    "|", "\t"
+)
+# What is no report or no file of costs, and what is said of it.
+WRONG_REPORTS = [
+    ("", "line 1: no COUNTER report: Report_ID or Release is missing"),
+    ("<html>\n", "line 1: no COUNTER report: Report_ID or Release is missing"),
+    (REPORT.replace("Report_ID,TR", "Report_ID,PR"), "Report_ID: not a report of titles (TR): PR"),
+    (REPORT.replace("Release,5", "Release,4"), "Release: not Release 5: 4"),
+    (HEAD + COLUMNS.replace("Oct-2026,Nov-2026", "Total"), "line 9: no column of a month, such as Jan-2026"),
+    (HEAD + COLUMNS.replace("Nov-2026", "2026-10"), "line 9: two columns of one month"),
+    (REPORT.replace("Metric_Type,", "Metric,"), "no line with the columns Title and Metric_Type within the first 50"),
+    (REPORT.replace(",5,4\n", ",five,4\n"), "line 10: not a number in 2026-10: five"),
+    (REPORT.replace(",5,4\n", ",5,-4\n"), "line 10: not a number in 2026-11: -4"),
+    (
+        REPORT.replace("ISBN,Print_ISSN,Online_ISSN", "a,b,c"),
+        "line 9: none of the columns Online_ISSN, Print_ISSN, ISBN",
+    ),
+    (REPORT.replace("Tidal,Tidal", 'Ti"dal",Tidal', 1) + '"open', "line 15: unexpected end of data"),
+    (REPORT.replace("Unique_Item_Requests,1,1,0", ",1,1,0"), "line 14: no Metric_Type"),
+    (REPORT + "\0", "it has bytes of zero"),
+    (REPORT.replace("Harbours", "\udcff"), "neither UTF-8 nor UTF-16"),
+]
+WRONG_COSTS = [
+    ("tidal-press 2026 100\n", "line 1: not a target, a year and a sum with tabs between them"),
+    ("tidal-press\t2026\t1,000.00\n", "line 1: not a sum as 1250.00: 1,000.00"),
+    ("tidal-press\t26\t1\n", "line 1: not a year: 26"),
+    ("=a\t2026\t1\n", "line 1: not the name of a target: =a"),
+    ("a\t2026\t1\nb\t2026\t1\n\na\t2026\t2\n", "line 4: a 2026 a second time"),
+    ("a\t2026\t1\x1b[2J\n", "line 1: not a sum as 1250.00: 1?[2J"),
+    ("\udcff\t2026\t1\n", "not UTF-8"),
+]
+_MAIN = "{http://schemas.openxmlformats.org/spreadsheetml/2006/main}"
+
+
+def sheets_of(data: bytes) -> dict[str, list[list[str | int | float | None]]]:
+    """The rows of each sheet, by its name; a cell that is a formula is an error."""
+    with zipfile.ZipFile(io.BytesIO(data)) as archive:
+        book = ElementTree.fromstring(archive.read("xl/workbook.xml"))
+        names = [it.get("name") or "" for it in book.iter(f"{_MAIN}sheet")]
+        texts = [archive.read(f"xl/worksheets/sheet{number}.xml") for number in range(1, len(names) + 1)]
+        for part in archive.namelist():
+            ElementTree.fromstring(archive.read(part))
+    return {name: rows_of(text) for name, text in zip(names, texts)}
+
+
+def rows_of(sheet: bytes) -> list[list[str | int | float | None]]:
+    return [[cell_of(it) for it in row] for row in ElementTree.fromstring(sheet).iter(f"{_MAIN}row")]
+
+
+def cell_of(cell: ElementTree.Element) -> str | int | float | None:
+    assert cell.find(f"{_MAIN}f") is None, "a formula"
+    if cell.get("t") == "inlineStr":
+        return "".join(cell.itertext())
+    value = cell.findtext(f"{_MAIN}v")
+    return None if value is None else float(value) if "." in value else int(value)
+
+
+class CountsCase(Case):
+    """Runs openlink-counts on files in a folder."""
+
+    def setUp(self) -> None:
+        room = tempfile.TemporaryDirectory()
+        self.addCleanup(room.cleanup)
+        self.folder = Path(room.name)
+        self.logs = [self.write("log", LOG), self.write("followed", FOLLOWED), self.write("wanted", WANTED)]
+
+    def write(self, name: str, text: str) -> str:
+        path = self.folder / name
+        path.write_bytes(text.encode("utf-8", "surrogateescape"))
+        return str(path)
+
+    def counted(self, *words: str) -> tuple[int, bytes, str]:
+        done = subprocess.run(["update/counts", *words], capture_output=True, stdin=subprocess.DEVNULL)
+        return done.returncode, done.stdout, done.stderr.decode()
+
+    def text(self, *words: str) -> tuple[int, str, str]:
+        status, data, said = self.counted(*words)
+        return status, data.decode(), said.replace(f"{self.folder}/", "")
+
+
+class Formats(CountsCase):
+    def test_json(self) -> None:
+        status, text, said = self.text("--format", "json", *self.logs)
+        self.expect("the end", (status, said), (0, ""))
+        data = json.loads(text)
+        self.expect("tables", list(data), list(DATA))
+        for name, (columns, rows) in DATA.items():
+            self.expect(name, data[name], [dict(zip(columns.split("|"), row)) for row in rows])
+
+    def test_xlsx(self) -> None:
+        status, data, said = self.counted("--format", "xlsx", *self.logs)
+        self.expect("the end", (status, said), (0, ""))
+        wanted = {name: [columns.split("|"), *rows] for name, (columns, rows) in DATA.items()}
+        self.expect("the sheets", sheets_of(data), wanted)
+        again = self.counted("--format", "xlsx", *self.logs)[1]
+        self.expect("the same bytes", data == again)
+
+    def test_tsv(self) -> None:
+        plain = self.text(*self.logs)
+        self.expect("it is what is printed without a format", self.text("--format", "tsv", *self.logs), plain)
+        lines = plain[1].splitlines()
+        for line in ("2026-10|requests||3", "2026-10|followed|tidal-press|3", "2026-11|followed title|catalogue -|1"):
+            self.expect(line, line.replace("|", "\t") in lines)
+        self.expect("asked in vain", "2026-10\tasked in vain\t3006-1962\t2" in lines)
+
+    def test_arguments(self) -> None:
+        for words in (
+            ["--format"],
+            ["--format", "ods"],
+            ["--format", "json", "--format", "json"],
+            ["--cost", "a", "--cost", "b"],
+            ["--cost", "a", "--counter", "b"],
+            ["--wanted", "--format", "json"],
+            ["--index", "a"],
+            [self.logs[0], "--format", "json"],
+            ["--format=json"],
+        ):
+            status, text, said = self.text(*words)
+            self.expect(f"{words}", (status, text, said[:22]), (2, "", "usage: openlink-counts"))
+        for option in "--cost", "--counter":
+            said = f"openlink-counts: none: cannot be read\n"
+            self.expect(f"{option}: no file", self.text(option, f"{self.folder}/none", *self.logs), (3, "", said))
+
+
+class Costs(CountsCase):
+    def test_cost(self) -> None:
+        costs = self.write("costs", COSTS)
+        self.expect("a table", self.text("--cost", costs, *self.logs), (0, COST_TABLE, ""))
+        data = json.loads(self.text("--format", "json", "--cost", costs, *self.logs)[1])
+        self.expect("data", [list(row.values()) for row in data["cost"]], [
+            ["2025", "other", 3.5, 0, 0, None], ["2026", "catalogue", 7, 2, 2, 3.5], ["2026", "tidal-press", 100, 2, 4, 25],
+        ])  # fmt: skip
+        rows = sheets_of(self.counted("--format", "xlsx", "--cost", costs, *self.logs)[1])["cost"]
+        self.expect("a sheet", rows[1:], [
+            ["2025", "other", 3.5, 0, 0, None], ["2026", "catalogue", 7, 2, 2, 3.5], ["2026", "tidal-press", 100, 2, 4, 25],
+        ])  # fmt: skip
+
+    def test_wrong_files(self) -> None:
+        for text, wanted in WRONG_COSTS:
+            costs = self.write("costs", text)
+            status, _, said = self.text("--cost", costs, *self.logs)
+            self.expect(text[:20], (status, said), (3, f"openlink-counts: costs: {wanted}\n"))
+
+
+class Reports(CountsCase):
+    def test_beside(self) -> None:
+        report = self.write("report.csv", REPORT)
+        self.expect("a table", self.text("--counter", report, *self.logs), (0, BESIDE, ""))
+        self.expect("a report among the logs", self.text("--counter", report, *self.logs, report), (0, BESIDE, ""))
+        for name, text in self.forms():
+            other = self.write(name, text)
+            self.expect(name, self.text("--counter", other, *self.logs), (0, BESIDE, ""))
+        data = json.loads(self.text("--format", "json", "--counter", report, *self.logs)[1])
+        first = data["COUNTER"][0]
+        self.expect("data", first["title"], '=HYPERLINK("https://evil.example")')
+        sheet = sheets_of(self.counted("--format", "xlsx", "--counter", report, *self.logs)[1])["COUNTER"]
+        self.expect("a sheet", sheet[1], ["2026-10", "2908-0142", '=HYPERLINK("https://evil.example")', 2, 7, 8])
+
+    def forms(self) -> list[tuple[str, str]]:
+        """The report with other separators, marks and line ends, and months as of Release 5.1."""
+        rows = list(csv.reader(io.StringIO(REPORT)))
+        texts = [("mark.csv", "\ufeff" + REPORT), ("ends.csv", REPORT.replace("\n", "\r\n"))]
+        for name, separator in ("tabs.tsv", "\t"), ("semicolons.csv", ";"):
+            buffer = io.StringIO()
+            csv.writer(buffer, delimiter=separator).writerows(rows)
+            texts.append((name, buffer.getvalue()))
+        texts.append(("release.csv", REPORT.replace("Release,5", "Release,5.1").replace("Oct-2026", "2026-10", 1)))
+        texts.append(("view.csv", REPORT.replace("Report_ID,TR", "Report_ID,TR_J1")))
+        return texts
+
+    def test_several(self) -> None:
+        """Titles that share a number are one, whatever report has them; the same report twice is said, and counts once."""
+        report = self.write("report.csv", REPORT)
+        other = self.write(
+            "other.csv", HEAD + COLUMNS + ANNALS.replace("2908-0142", "").format(1, "Unique_Item_Requests", 3, 3, 0)
+        )
+        status, text, said = self.text("--counter", report, "--counter", other, *self.logs)
+        self.expect("the end", (status, said), (0, ""))
+        self.expect("the sum", text.splitlines()[1].split("\t")[3:], ["2", "10", "8"])
+        same = self.write("same.csv", REPORT)
+        got = self.text("--counter", report, "--counter", same, *self.logs)
+        self.expect("twice", got, (3, BESIDE, "openlink-counts: same.csv: the same report as report.csv\n"))
+
+    def test_titles_of_no_report(self) -> None:
+        report = self.write("report.csv", HEAD + COLUMNS)
+        lines = self.text("--counter", report, *self.logs)[1].splitlines()[1:]
+        self.expect("each number", lines, [
+            "2026-10\t2901-0012\t\t1\t\t", "2026-10\t2908-0142\t\t1\t\t", "2026-11\t2908-0142\t\t1\t\t",
+            "2026-11\t9780306406157\t\t1\t\t",
+        ])  # fmt: skip
+
+    def test_wrong_files(self) -> None:
+        good = self.write("good.csv", REPORT)
+        for text, wanted in WRONG_REPORTS:
+            wrong = self.write("wrong", text)
+            status, shown, said = self.text("--counter", wrong, "--counter", good, *self.logs)
+            self.expect(wanted, (status, said), (3, f"openlink-counts: wrong: {wanted}\n"))
+            self.expect(f"{wanted}: the other one is read", shown, BESIDE)
+
+
+class Files(CountsCase):
+    def test_compressed_files_that_break_off(self) -> None:
+        """All that can be read of them counts."""
+        data = gzip.compress(LOG.encode() * 2000)
+        path = self.folder / "log.gz"
+        path.write_bytes(data[:-8])
+        status, text, said = self.text(str(path))
+        self.expect("the status", status, 3)
+        self.expect("what it says", said.startswith("openlink-counts: log.gz: gzip: "))
+        self.expect("the lines", "2026-10\trequests\t\t6000" in text.splitlines())
+        path.write_bytes(LOG.encode())
+        self.expect("no gzip at all", self.text(str(path))[0], 3)
+
+    def test_full_disk(self) -> None:
+        with open("/dev/full", "wb") as full:
+            done = subprocess.run(["update/counts", *self.logs], stdout=full, stderr=subprocess.PIPE, text=True)
+        said = "openlink-counts: standard output: No space left on device\n"
+        self.expect("it is said", (done.returncode, done.stderr), (3, said))

@@ -1,0 +1,167 @@
+"""The names that the line of a target gives to the columns of its files: which header is found by them, and what is said
+of columns that are missing."""
+from __future__ import annotations
+
+from fixtures.cases import Case
+from holdings.shapes import PLAIN
+from holdings.shapes import tabs
+from openlink_update import target_options
+from openlink_update.outcome import Refused
+from openlink_update.tables import preparation
+
+GERMAN = "Titel;ISSN, print;Verlag;Beginn\nTides;2901-0012;Press;1995\n"
+ALL = 'columns Titel=publication_title, "ISSN, print"=print_identifier, Verlag=-, Beginn=date_first_issue_online'
+SERVED = tabs("publication_title|print_identifier|date_first_issue_online\nTides|2901-0012|1995\n")
+HAS = 'it has: "Titel", "ISSN, print", "Verlag", "Beginn"'
+NO_HEADER = "no header publication_title, -, print_identifier, date_first_issue_online"
+
+
+def read(cell: str, *files: str | bytes) -> tuple[str, list[str]] | list[str]:
+    """The table of files with the fourth cell of a line, and what is said; or the reasons against it."""
+    given = [(f"file {number}", it if isinstance(it, bytes) else it.encode()) for number, it in enumerate(files, 1)]
+    try:
+        prepared = preparation.prepare(given, target_options.parse(cell)[0])
+        return prepared.table.to_bytes().decode(), prepared.lines
+    except Refused as refusal:
+        return refusal.reasons
+
+
+def table(cell: str, *files: str) -> str:
+    found = read(cell, *files)
+    return found[0] if isinstance(found, tuple) else str(found)
+
+
+class Names(Case):
+    def test_header(self) -> None:
+        """It is found by names of the line too: three that are known, or all of the line."""
+        said = ["semicolons between cells: 1 row", "named by `columns`: 3 columns", "left out by `columns`: 1 column"]
+        self.expect("all names", read(ALL, GERMAN), (SERVED, said))
+        above = f"Verlagsliste;;;\n{GERMAN}"
+        self.expect("below a line", table(ALL, above), SERVED)
+        one = "columns Titel=publication_title"
+        self.expect("the only one of a line", table(one, "Titel;x\nTides;y\n"), "publication_title\tx\nTides\ty\n")
+        mixed = "columns Titel=publication_title, Verlag=-, Ende=-"
+        text = "x\nTitel;Print Identifier;Online Identifier\nTides;2901-0012;\n"
+        self.expect(
+            "one of it and two of KBART",
+            table(mixed, text),
+            "publication_title\tprint_identifier\tonline_identifier\nTides\t2901-0012\t\n",
+        )
+        fewer = "x\nTitel;Print Identifier;mine\nTides;2901-0012;\n"
+        says = "no header with the names of `columns` or of KBART; it has: "
+        self.expect("two alone", read(mixed, fewer), [f'file 1: {says}"Titel", "Print Identifier", "mine"'])
+
+    def test_spellings(self) -> None:
+        """Case, spaces and quotes around a name make no difference."""
+        for name in ("titel", "TITEL", " Titel ", '"Titel"', "Titel\xa0"):
+            text = f"{name}\tprint_identifier\tonline_identifier\nTides\t2901-0012\t\n"
+            got = table("columns Titel=publication_title", text)
+            self.expect(repr(name), got.split("\t")[0], "publication_title")
+        text = "ISSN  print\tprint_identifier\tx\nTides\t2901-0012\t\n"
+        self.expect(
+            "spaces in it", table('columns "ISSN print"=publication_title', text).split("\t")[0], "publication_title"
+        )
+
+    def test_kbart_names_stay(self) -> None:
+        text = PLAIN.replace("|", "\t").replace("title_url", "Link")
+        self.expect("with one more", table("columns Link=title_url", text), tabs(PLAIN))
+
+    def test_dropped_rows_of_cells(self) -> None:
+        """Short and long rows keep their places."""
+        text = "Titel;Verlag;ISSN\nTides;Press;2901-0012;more\nPiers\n;;2915-0272\n"
+        cell = "columns Titel=publication_title, Verlag=-, ISSN=print_identifier; dropped up to 9"
+        wanted = "publication_title\tprint_identifier\nTides\t2901-0012\tmore\n\t2915-0272\n"
+        self.expect("rows", table(cell, text), wanted)
+
+    def test_several_dropped(self) -> None:
+        text = "A;Titel;B;C;ISSN;D\na;Tides;b;c;2901-0012;d\n"
+        cell = "columns Titel=publication_title, ISSN=print_identifier, A=-, B=-, C=-, D=-"
+        self.expect("they go", table(cell, text), "publication_title\tprint_identifier\nTides\t2901-0012\n")
+        names = "no header -, publication_title, -, -, print_identifier, -"
+        self.expect(
+            "without a header",
+            table(names, text.splitlines()[1]),
+            "publication_title\tprint_identifier\nTides\t2901-0012\n",
+        )
+
+    def test_own_columns(self) -> None:
+        text = "publication_title\tprint_identifier\tFach\nTides\t2901-0012\tsea\n"
+        got = table("columns Fach=x_subject", text)
+        self.expect("one of its own", got.splitlines()[0], "publication_title\tprint_identifier\tx_subject")
+
+
+class Missing(Case):
+    """What is missing is said with the names that the file has."""
+
+    def test_names_of_the_line(self) -> None:
+        other = GERMAN.replace("Titel", "Haupttitel")
+        has = HAS.replace("Titel", "Haupttitel")
+        self.expect("a name that is served", read(ALL, other), [f'no column "Titel", which `columns` names; {has}'])
+        without = "Titel;ISSN, print;Beginn\nTides;2901-0012;1995\n"
+        found = read(ALL, without)
+        self.expect(
+            "one that is left out",
+            found[1] if isinstance(found, tuple) else found,
+            ["semicolons between cells: 1 row", "named by `columns`: 3 columns", 'no column "Verlag" to leave out'],
+        )
+        self.expect("the table", table(ALL, without), SERVED)
+        self.expect("in one of two files", table(ALL, GERMAN, PLAIN.replace("|", "\t")).count("\n"), 3)
+
+    def test_kinds(self) -> None:
+        head = ["publication_title", "print_identifier", "date_first_issue_online", "title_url"]
+        row = ["Tides", "2901-0012", "1995", "https://press.example.com/"]
+        for place, what in ((0, "a title"), (1, "an ISSN or ISBN"), (2, "a date"), (3, "")):
+            names, cells = ([*it[:place], *it[place + 1 :]] for it in (head, row))
+            found = read("", "\t".join(names) + "\n" + "\t".join(cells) + "\n")
+            has = ", ".join(f'"{name}"' for name in names)
+            wanted = [f"no column has {what}; the file has: {has}"] if what else []
+            self.expect(what, found[1] if isinstance(found, tuple) else found, wanted)
+        found = read("", "\n".join(["Titel;ISSN;Jahr", "Tides;2901-0012;1995"]))
+        said = 'no column has a title or an ISSN or ISBN or a date; the file has: "Titel", "ISSN", "Jahr"'
+        self.expect("a header that is not known", found[1] if isinstance(found, tuple) else found, [said])
+
+    def test_names_of_strangers(self) -> None:
+        """They are shown in one line that is safe and not long."""
+        names = ["\x1b[2J\u202ex" + "y" * 99, *(f"n{number}" for number in range(40))]
+        found = read("", "\t".join(names) + "\na\n")
+        line = found[1][-1] if isinstance(found, tuple) else ""
+        self.expect("unsafe characters", line.split("; ")[1][:22], 'the file has: "?[2J?xy')
+        self.expect("the last of thirty", line[-21:], '"n27", "n28", and 11 more'[-21:])
+
+    def test_two_readings(self) -> None:
+        twice = "ISSN\tISSN\tTitel\n2901-0012\t2908-0142\tTides\n"
+        cell = "columns ISSN=print_identifier, Titel=publication_title"
+        says = 'file 1: 2 columns are named "issn": which one `columns` means is unknown'
+        self.expect("two columns of a name", read(cell, twice), [says])
+        both = "print_identifier\tISSN\tTitel\n2901-0012\t2908-0142\tTides\n"
+        says = (
+            'file 1: it has a column print_identifier beside "ISSN", which `columns` calls so: leave one out, '
+            "print_identifier=-"
+        )
+        self.expect("a column that has the name", read(cell, both), [says])
+        got = table(f"{cell}, print_identifier=-", both)
+        self.expect("as the line says", got, "print_identifier\tpublication_title\n2908-0142\tTides\n")
+
+
+class NoHeader(Case):
+    def test_separators(self) -> None:
+        for separator in "\t;,":
+            text = separator.join(["Tides", "Press", "2901-0012", "1995"]) + "\n"
+            self.expect(repr(separator), table(NO_HEADER, text), SERVED)
+        text = '"Tides; Waves","Press","2901-0012","1995"\n'
+        self.expect("in quotes", table(NO_HEADER, text), SERVED.replace("Tides", "Tides; Waves"))
+        self.expect("an empty cell at the end", table(NO_HEADER, "Tides;Press;2901-0012;1995;\n"), SERVED)
+
+    def test_widths(self) -> None:
+        says = "file 1: no header: 4 names for lines of at most so many cells: 3 with tabs, 1 with commas, 1 with semicolons"
+        self.expect("no line has as many", read(NO_HEADER, "Tides\tPress\t2901-0012\n"), [says])
+        text = "Tides;Press;2901-0012;1995\nPiers;Press;2915-0272;1995;x\n"
+        self.expect("a longer row", read(NO_HEADER, text), ["file 1: no header: 4 names, and row 2 has 5 cells"])
+        text = "Tides;Press;2901-0012;1995\nPiers;Press;2915-0272\n"
+        self.expect("a shorter one", table(NO_HEADER, text), f"{SERVED}Piers\t2915-0272\n")
+
+    def test_header(self) -> None:
+        """A file that gets a header some day is not read as rows."""
+        text = "publication_title;publisher_name;print_identifier;date_first_issue_online\nTides;Press;2901-0012;1995\n"
+        has = '"publication_title", "publisher_name", "print_identifier", "date_first_issue_online"'
+        self.expect("it has one", read(NO_HEADER, text), [f"file 1: it has a header, so `no header` is wrong: {has}"])
