@@ -11,7 +11,7 @@ from collections.abc import Iterator
 
 from fixtures.cases import Case
 
-HEADERS = "update/openlink_update/received/headers.py"
+HEADERS = "update/openlink_update/received/column_names.py"
 CRATE = "crates/standard_names/src/columns.rt"
 FRONT_DOOR = "front_door/query.js"
 UPDATE = "update/openlink_update/tables/coverage.py"

@@ -66,7 +66,7 @@ SPOILT = (
     ("received/__init__.py", '\n__all__ = ["archives", "headers", "limits", "patterns", "texts"]\n', "exports"),
     ("received/__init__.py", "\n__all__ = []\n", "exports"),
     ("children.py", "\nfrom openlink_update.versions import library\n\nprint(library)\n", "modules"),
-    ("received/headers.py", "\nfrom openlink_update.tables import preparation\n\nprint(preparation)\n", "modules"),
+    ("received/headers.py", "\nfrom openlink_update.site import targets_file\n\nprint(targets_file)\n", "modules"),
 )
 
 
