@@ -19,6 +19,8 @@ from openlink_update.machines import library_files
 GOOD = ("a", "east", "east-wanted", "a-1-b", "error", "lookup-rate", "l" * 32)
 BAD = (
     "",
+    "desk",
+    "runs",
     "-",
     "-east",
     "east-",
