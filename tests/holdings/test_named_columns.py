@@ -1,4 +1,5 @@
-"""The names that the line of a target gives to the columns of its files: which header is found by them, and what is said
+"""The names that the line of a target gives to the columns of its files: which header is found by them, and what is
+said
 of columns that are missing."""
 from __future__ import annotations
 
@@ -154,7 +155,10 @@ class Update(Case):
             library.write("other.txt", PLAIN.replace("|", "\t"))
             library.targets = {"german": ("german.csv", ""), "other": ("other.txt", "")}
             library.write_targets()
-            says = 'no column has a title or an ISSN or ISBN or a date; the file has: "Titel", "ISSN, print", "Verlag", "Beginn"'
+            says = (
+                'no column has a title or an ISSN or ISBN or a date; the file has: "Titel", '
+                '"ISSN, print", "Verlag", "Beginn"'
+            )
             self.expect_lines("left out", library.update()[1], f"  {library.path('german.csv')}: {says}")
             cell = f"{ALL}; no column online_identifier"
             library.targets["german"] = ("german.csv", cell)
@@ -177,7 +181,10 @@ class NoHeader(Case):
         self.expect("an empty cell at the end", table(NO_HEADER, "Tides;Press;2901-0012;1995;\n"), SERVED)
 
     def test_widths(self) -> None:
-        says = "file 1: no header: 4 names for lines of at most so many cells: 3 with tabs, 1 with commas, 1 with semicolons"
+        says = (
+            "file 1: no header: 4 names for lines of at most so many cells: 3 with tabs, 1 "
+            "with commas, 1 with semicolons"
+        )
         self.expect("no line has as many", read(NO_HEADER, "Tides\tPress\t2901-0012\n"), [says])
         text = "Tides;Press;2901-0012;1995\nPiers;Press;2915-0272;1995;x\n"
         self.expect("a longer row", read(NO_HEADER, text), ["file 1: no header: 4 names, and row 2 has 5 cells"])
