@@ -310,6 +310,24 @@ class Lines(Case):
         self.expect("a number that a version remembers", judge.reasons("press", (), {words: 3}), [])
 
 
+class FirstTables(Case):
+    """Tables of new targets."""
+
+    def test_usual(self) -> None:
+        """What a first table may be right with is allowed from then on, and said; other slips leave the target out."""
+        header = ("publication_title", "print_identifier", "date_first_issue_online")
+        for words, row, is_used in (
+            ("no first date in any row", ["T", "0028-0836", ""], True),
+            ("first dates after today", ["T", "0028-0836", "2030"], False),
+        ):
+            judge = slip_judge.SlipJudge(None, DAY, OtherTitles(tuple))
+            judge.find("press", Material(Table(header, [row] * 9), [], [], 9, None, "", ""), None)
+            self.expect(f"{words}: used", judge.reasons("press", (), {}) == [], is_used)
+            said = [line.endswith(": allowed from now on") for line in judge.lines("press") if words in line]
+            self.expect(f"{words}: said", said, [is_used])
+            self.expect(f"{words}: remembered", f"press\t{words}\t9\t9\n" in judge.limits_text(["press"]), is_used)
+
+
 class OtherTables(Case):
     """The titles of other targets."""
 
