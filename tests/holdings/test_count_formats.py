@@ -252,6 +252,13 @@ class Costs(CountsCase):
             self.expect(text[:20], (status, said), (3, f"openlink-counts: costs: {wanted}\n"))
 
 
+    def test_years(self) -> None:
+        """A link counts for the year in which it was followed."""
+        log = self.write("years", "2025-12 target=a -\n2026-01 target=a -\n2026-01 target=a -\n")
+        lines = self.text("--cost", self.write("costs", "a\t2025\t6\na\t2026\t6\n"), log)[1].splitlines()
+        self.expect("costs", lines[1:], ["2025\ta\t6\t1\t1\t6.00", "2026\ta\t6\t1\t2\t3.00"])
+
+
 class Reports(CountsCase):
     def test_beside(self) -> None:
         report = self.write("report.csv", REPORT)
