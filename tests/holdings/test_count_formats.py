@@ -298,6 +298,15 @@ class Reports(CountsCase):
         got = self.text("--counter", report, "--counter", same, *self.logs)
         self.expect("twice", got, (3, BESIDE, "openlink-counts: same.csv: the same report as report.csv\n"))
 
+    def test_hostile_titles(self) -> None:
+        """No title breaks out of its cell."""
+        title = "</t></is></c><c><f>1+1</f></c>&amp;\x01\u202e"
+        report = self.write("report.csv", REPORT.replace("Harbours", title))
+        sheet = sheets_of(self.counted("--format", "xlsx", "--counter", report, *self.logs)[1])["COUNTER"]
+        self.expect("a sheet", sheet[2][2], "</t></is></c><c><f>1+1</f></c>&amp;??")
+        data = json.loads(self.text("--format", "json", "--counter", report, *self.logs)[1])
+        self.expect("data", data["COUNTER"][1]["title"], title)
+
     def test_titles_of_no_report(self) -> None:
         report = self.write("report.csv", HEAD + COLUMNS)
         lines = self.text("--counter", report, *self.logs)[1].splitlines()[1:]
