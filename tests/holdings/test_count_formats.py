@@ -252,6 +252,13 @@ class Costs(CountsCase):
             self.expect(text[:20], (status, said), (3, f"openlink-counts: costs: {wanted}\n"))
 
 
+    def test_years(self) -> None:
+        """A link counts for the year in which it was followed."""
+        log = self.write("years", "2025-12 target=a -\n2026-01 target=a -\n2026-01 target=a -\n")
+        lines = self.text("--cost", self.write("costs", "a\t2025\t6\na\t2026\t6\n"), log)[1].splitlines()
+        self.expect("costs", lines[1:], ["2025\ta\t6\t1\t1\t6.00", "2026\ta\t6\t1\t2\t3.00"])
+
+
 class Reports(CountsCase):
     def test_beside(self) -> None:
         report = self.write("report.csv", REPORT)
@@ -290,6 +297,15 @@ class Reports(CountsCase):
         same = self.write("same.csv", REPORT)
         got = self.text("--counter", report, "--counter", same, *self.logs)
         self.expect("twice", got, (3, BESIDE, "openlink-counts: same.csv: the same report as report.csv\n"))
+
+    def test_hostile_titles(self) -> None:
+        """No title breaks out of its cell."""
+        title = "</t></is></c><c><f>1+1</f></c>&amp;\x01\u202e"
+        report = self.write("report.csv", REPORT.replace("Harbours", title))
+        sheet = sheets_of(self.counted("--format", "xlsx", "--counter", report, *self.logs)[1])["COUNTER"]
+        self.expect("a sheet", sheet[2][2], "</t></is></c><c><f>1+1</f></c>&amp;??")
+        data = json.loads(self.text("--format", "json", "--counter", report, *self.logs)[1])
+        self.expect("data", data["COUNTER"][1]["title"], title)
 
     def test_titles_of_no_report(self) -> None:
         report = self.write("report.csv", HEAD + COLUMNS)
