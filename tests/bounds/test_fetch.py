@@ -120,7 +120,7 @@ class Bytes(Case):
             self.expect(f"{more} bytes after its end", (transfer.reply.status, transfer.fault()), wanted)
 
     def test_headers_without_an_end(self) -> None:
-        """Of a reply, of one before it, and after its body, which curl would read on and keep until the time is over."""
+        """Of a reply, of one before it, and after its body, which curl would read and keep until the time is over."""
         for name, first, line, wanted in (
             ("headers", b"HTTP/1.1 200 X\r\n", LINE, EARLY),
             ("one header", b"HTTP/1.1 200 X\r\nX-Odd: ", b"x" * 4000, "curl: status 27"),

@@ -1,5 +1,5 @@
-"""The numbers of the units of the updates: each allows what the update itself allows, and little more. So what takes too
-much is ended by the limit of its library, which names it, and the unit ends only a run that does not do so."""
+"""The numbers of the units of the updates: each allows what the update itself allows, and little more. So what takes
+too much is ended by the limit of its library, which names it, and the unit ends only a run that does not do so."""
 from __future__ import annotations
 
 import re

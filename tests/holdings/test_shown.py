@@ -136,8 +136,8 @@ class Shown(Case):
             self.expect("a text that is no report", self.is_run(lines[0], mark))
 
     def is_run(self, text: str, mark: pathlib.Path) -> bool:
-        """Whether bsd-mailx makes the file for a text. With -I it reads commands in it, as some other programs do without
-        an option."""
+        """Whether bsd-mailx makes the file for a text. With -I it reads commands in it, as some other programs do
+        without an option."""
         mark.unlink(missing_ok=True)
         (mark.parent / "rc").write_text("set sendmail=/bin/true\n")
         environment = {**os.environ, "MAILRC": str(mark.parent / "rc"), "HOME": str(mark.parent)}

@@ -211,7 +211,7 @@ class Connections(Case):
         return found
 
     def test_of_all_clients(self) -> None:
-        """One beyond them is not refused, but waits until another one ends. Here they are few, for the file's number."""
+        """One beyond them is not refused, but waits until another one ends. They are few, for the file's number."""
         port = self.balancer(TRIED).ports["good"]
         with contextlib.ExitStack() as stack:
             peers = [

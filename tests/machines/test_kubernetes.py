@@ -316,8 +316,8 @@ MISTAKES = [
     (("        runAsGroup: 10001\n", ""), "the pod may run as root"),
     (
         (
-            "                - ALL\n          volumeMounts:\n            - name: version\n              mountPath: /etc/openlink\n"
-            "              readOnly",
+            "                - ALL\n          volumeMounts:\n            - name: version\n"
+            "              mountPath: /etc/openlink\n              readOnly",
             "                - ALL\n              add:\n                - KILL\n          volumeMounts:\n"
             "            - name: version\n              mountPath: /etc/openlink\n              readOnly",
         ),

@@ -1,6 +1,6 @@
-"""SECURITY.md: each claim of its table has tests, which exist, in the folders that its row names. claims.tsv has the claims
-in their order, each a sentence or a part of one as the page has it, and after a tab its tests, `proof: NAME` of PROOFS.md,
-or `no claim: REASON`."""
+"""SECURITY.md: each claim of its table has tests, which exist, in the folders that its row names. claims.tsv has the
+claims in their order, each a sentence or a part of one as the page has it, and after a tab its tests, `proof: NAME` of
+PROOFS.md, or `no claim: REASON`."""
 from __future__ import annotations
 
 import functools
