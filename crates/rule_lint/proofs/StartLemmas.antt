@@ -146,7 +146,7 @@ near m firsts t u k start (is_replaced t' u' i l n e) from marked =
 near m firsts t u k start (is_exchanged t' u' i l n e byte) from marked =
     let next : i + 1 ≡ suc i = omega arith in
     let key : exchanged_key m (without t i) (get_or t i 0) (i + 1) ≡ exchanged_key m (without u (suc i)) (get_or u (suc i) 0) (suc i) =
-        rw (e, byte, next) refl in
+    rw (e, byte, next) refl in
     omega (arith, from.exchanged i l, marked.exchanged (suc i) n, ap (first_with firsts) key)
 
 alike : (m : ℕ) (firsts : HashMap ℕ ℕ Keys) (t u : Text) (k start : ℕ) → resembles t u ≡ true → IsStart m firsts t start → IsMarked m firsts k u → start ≤ k
