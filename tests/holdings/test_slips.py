@@ -300,6 +300,8 @@ class Planted(Case):
                 more = data_of([*case.plant(base, case.many), *good(300, 301)])
                 taken_back = weeks.week("press", more, "rule; dropped up to 9", rules=RULES)
                 self.expect(f"{case.words}: the words taken back", taken_back, [])
+                again = [line for line in weeks.said if line.startswith(f"press: {case.words}")]
+                self.expect(f"{case.words}: what was allowed is not said again", again, [])
 
     def test_few(self) -> None:
         """In two of a hundred rows: the table is used, and a line says it once."""
@@ -366,6 +368,27 @@ class Versions(Case):
                 os.rename(f"{first}/{name}", f"{first}/x")
                 self.expect(f"without {name}", making.is_same(weeks.version, first), False)
                 os.rename(f"{first}/x", f"{first}/{name}")
+
+    def test_kept_table(self) -> None:
+        """What a table has is known as long as it is in use, also if an update has learned to look for something."""
+        odd = changed("print_identifier", wrong)(good(), 2)
+        words = "check digits of print_identifier wrong"
+        with Weeks() as weeks:
+            weeks.week("press", data_of(good()), rules=RULES)
+            weeks.week("press", data_of(odd), rules=RULES)
+            before, limits = weeks.read("slips.tsv"), weeks.read("slip_limits.tsv")
+            self.expect("it has a slip", before.startswith(f"press\t{words}\t2\t100\t".encode()), True)
+            for is_new_slip in (False, True):
+                if is_new_slip:
+                    kept = [line for line in limits.splitlines(True) if b"\tabstracts alone\t" not in line]
+                    self.expect("one slip less", len(kept), len(limits.splitlines()) - 1)
+                    Path(weeks.version, "slip_limits.tsv").write_bytes(b"".join(kept))
+                reasons = weeks.week("press", data_of(good())[:-1], "least 200 rows", rules=RULES)
+                self.expect("a table that is refused", reasons, ["100 rows, and at least 200 must be there"])
+                self.expect("slips of the one in use", weeks.read("slips.tsv"), before)
+                self.expect("what is allowed", weeks.read("slip_limits.tsv"), limits)
+            weeks.week("press", data_of([*odd, *good(200, 201)]), rules=RULES)
+            self.expect("not said again", [line for line in weeks.said if words in line], [])
 
     def test_collections(self) -> None:
         """Python looks for cycles again after a table was judged, also if that fails."""
