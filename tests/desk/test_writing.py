@@ -6,6 +6,7 @@ import fcntl
 import io
 import os
 import shutil
+import signal
 import stat
 import subprocess
 import threading
@@ -14,6 +15,7 @@ from unittest import mock
 
 from desk.made_desk import LINE
 from fixtures import INTERPRETER
+from fixtures import TOP
 from fixtures import needs
 from fixtures.cases import Case
 from fixtures.fetch_input import TABLE
@@ -28,6 +30,8 @@ from openlink_update.rights.limits import Limits
 from openlink_update.rights.sandbox import Sandbox
 from openlink_update.site.front_door import Site
 from openlink_update.versions import library as libraries
+
+KILLED = f"{TOP}/tests/fixtures/killed.py"
 
 
 class Desk(Library):
@@ -173,6 +177,24 @@ class Writing(Case):
             os.unlink(f"{desk.library}/desk/lock")
             os.mkdir(f"{desk.library}/desk/lock")
             self.expect("no lock", (desk.desk()[0], "Is a directory" in desk.desk()[1]), (4, True))
+
+    def test_killed_at_renames(self) -> None:
+        """SIGKILL directly before and after each rename and link of a desk: one that is whole is shown, and the next
+        run puts the rest right."""
+        with Desk() as desk:
+            self.expect("the update", desk.update()[0], 0)
+            self.expect("the first desk", desk.desk(), (0, ""))
+            first, number = os.readlink(f"{desk.library}/desk/current"), 0
+            moments = Path(desk.top, "moments")
+            while not moments.exists():
+                status = desk.desk(options=("-B", KILLED, str(number), str(moments)))[0]
+                text, stamp = desk.shown("index.html") or "", os.readlink(f"{desk.library}/desk/current")
+                expected = (0 if moments.exists() else -signal.SIGKILL, True, number < 5)
+                found = (status, text.endswith("</html>\n"), stamp == first)
+                self.expect(f"killed at moment {number}: {stamp}", found, expected)
+                self.expect(f"then {number}", (desk.desk(), desk.names()), ((0, ""), ["current", "lock"]))
+                first, number = os.readlink(f"{desk.library}/desk/current"), number + 1
+            self.expect("moments", (moments.read_text("ascii"), number), ("6", 7))
 
     def test_bug(self) -> None:
         """An error that nobody expects is said, and ends neither the desk's command nor an update."""
