@@ -111,8 +111,8 @@ class Writing(Case):
             self.expect("owners", owners, {0})
             program = Path(desk.top, "program")
             program.write_text(
-                '#!/bin/sh\nid -u >"${0%/*}/desk/who"\n/usr/bin/python3 -c "import socket; socket.socket()" 2>/dev/null &&'
-                ' echo network >>"${0%/*}/desk/who"\nexit 3\n'
+                '#!/bin/sh\nid -u >"${0%/*}/desk/who"\n/usr/bin/python3 -c "import socket; socket.socket()" '
+                '2>/dev/null && echo network >>"${0%/*}/desk/who"\nexit 3\n'
             )
             program.chmod(0o755)
             Path(desk.library, "desk/who").touch(0o666)

@@ -241,7 +241,8 @@ const AROUND = [
         'x.doi=10.1002/(SICI)1096(1996)99:1<1::AID-A1>3.0.CO;2-1 '
             + 'x.doi_encoded=10.1002%2F(SICI)1096(1996)99%3A1%3C1%3A%3AAID-A1%3E3.0.CO%3B2-1'],
     ['a number sign', 'rft_val_fmt=x&rft_id=info:doi/10.5555/a%23b', 'x.doi=10.5555/a#b x.doi_encoded=10.5555%2Fa%23b'],
-    ['all signs of a path', "rft_val_fmt=x&rft_id=info:doi/10.5555/a-_.~:;()!$'*,=@b", "x.doi=10.5555/a-_.~:;()!$'*,=@b"],
+    ['all signs of a path', "rft_val_fmt=x&rft_id=info:doi/10.5555/a-_.~:;()!$'*,=@b",
+        "x.doi=10.5555/a-_.~:;()!$'*,=@b"],
     ['brackets around it', 'rft_val_fmt=x&rft_id=(doi:+10.5555/abc)', 'x.doi=10.5555/abc'],
     ['a proxy', 'rft_val_fmt=x&rft_id=https://doi-org.proxy.example.edu/10.5555/abc', 'x.doi=10.5555/abc'],
     ['stars', 'rft_val_fmt=x&rft_id=*10.5555/abc**', 'x.doi=10.5555/abc'],

@@ -244,7 +244,10 @@ class Rules(Case):
 
     def test_no_row(self) -> None:
         """Rules that hold on no row: because of the table, because of a new rule, in a first table."""
-        rules = 'rule\nwhen coverage_depth is "{}"\nlink https://a.org/{{title_id}}\n\nrule\nwhen given title_url\nlink {{+title_url}}\n'
+        rules = (
+            'rule\nwhen coverage_depth is "{}"\nlink https://a.org/{{title_id}}\n\n'
+            "rule\nwhen given title_url\nlink {{+title_url}}\n"
+        )
 
         def of(*texts: str, word: str = "fulltext", address: str = "") -> Material:
             rows = ((f"T {at}", "0028-0836", address, text) for at, text in enumerate(texts))

@@ -309,7 +309,7 @@ class Planted(Case):
             with Weeks() as weeks:
                 weeks.week("press", data_of(good()), "rule", rules=RULES)
                 planted = case.plant(good(), case.few)
-                allowed = f"rule; hosts +login.ezproxy.other.example.edu"
+                allowed = "rule; hosts +login.ezproxy.other.example.edu"
                 self.expect(f"{case.words}: used", weeks.week("press", data_of(planted), allowed, rules=RULES), [])
                 lines = [line for line in weeks.said if case.words in line]
                 wanted = [f"press: {said(case, case.few)}"]

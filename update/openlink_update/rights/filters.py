@@ -1,6 +1,6 @@
-"""Programs of a library that change the files of a target before they are prepared. One is a file in the folder `filters`
-of the input, which root has allowed by its name in a list beside the input. It reads a file as it came, and writes what
-is prepared in its place:
+"""Programs of a library that change the files of a target before they are prepared. One is a file in the folder
+`filters` of the input, which root has allowed by its name in a list beside the input. It reads a file as it
+came, and writes what is prepared in its place:
 
     LIBRARY/filter/program, data    the program, and the file, which root puts there for it
     LIBRARY/filter/out, err         what it writes, and complains of
