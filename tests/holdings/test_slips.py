@@ -352,6 +352,25 @@ class Planted(Case):
                     f"{case.words}: after a run for walls", case.words in weeks.read("slip_limits.tsv").decode()
                 )
 
+    def test_had_before_and_more(self) -> None:
+        """What a table had at that first look is allowed, be it with the same files in that week or with new ones."""
+        for words, rows in (("check digits of online_identifier wrong", 0), ("session identifiers in addresses", 1)):
+            case = next(case for case in CASES if case.words == words)
+            with Weeks() as weeks:
+                base = case.plant(good(), 10)
+                first = f"rule; {words} up to 100%"
+                self.expect(f"{words}: in use", weeks.week("press", data_of(base), first, rules=RULES), [])
+                for name in (slip_judge.NAME, slip_judge.LIMITS):
+                    os.unlink(f"{weeks.version}/{name}")
+                for number, is_said in ((rows, 1), (rows + 1, 0)):
+                    more = data_of([*base, *good(200, 200 + number)])
+                    self.expect(f"{words}: {number} more rows", weeks.week("press", more, "rule", rules=RULES), [])
+                    lines = [line for line in weeks.said if "so it is allowed from now on" in line]
+                    self.expect(f"{words}: said with {number} more rows", len(lines), is_said)
+                limits = [line.split("\t") for line in weeks.read("slip_limits.tsv").decode().splitlines()]
+                kept = [cells[2:] for cells in limits if cells[1] == words]
+                self.expect(f"{words}: what is allowed", kept, [["10", "100"]])
+
 
 @needs.program()
 class Versions(Case):
