@@ -127,7 +127,7 @@ class Backup(Case):
             self.expect(
                 "timers",
                 sorted(os.path.basename(it) for it in glob.glob(machine.path("run", "*.started"))),
-                ["openlink-update.timer.started", "openlink-walls.timer.started"],
+                [f"openlink-{name}.timer.started" for name in ("desk", "update", "walls")],
             )
             logs = glob.glob(machine.path("var/log/nginx/openlink*.log"))
             self.expect(
