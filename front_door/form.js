@@ -1,5 +1,5 @@
-// The form in which a reader fills in a citation. It is a GET to /find, or to /why for staff, without script. text.js says in which njs it
-// runs.
+// The form in which a reader fills in a citation. It is a GET to /find, or to /why for staff, without script. text.js
+// says in which njs it runs.
 import pages from './pages.js';
 import texts from './text.js';
 import words from './words.js';

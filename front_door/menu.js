@@ -52,8 +52,9 @@ function addCoverage(link, row, site) {
     link.coverage = data;
     link.covered = coverage.textOf(row, site);
 }
-// All groups of the site with these links. A target without a group is in the first. One that targets.json does not name
-// is in the group that the head of its rules says, if the site has it, and else in the last, unless there is only one.
+// All groups of the site with these links. A target without a group is in the first. One that targets.json does not
+// name is in the group that the head of its rules says, if the site has it, and else in the last, unless there is only
+// one.
 function groupsOf(links, site) {
     const groups = emptyGroups(site);
     const places = Object.create(null);

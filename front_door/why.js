@@ -1,7 +1,7 @@
 // The page for staff: the queries that a request becomes, the program's report on each, and for each target the
-// command that explains its link or why it has none. Targets without a row of the title are folded. All text of a request or a file is escaped here where it is put
-// into HTML, and quoted where it is put into a command. An operator edits nothing here: targets.json names the folder
-// of the registry if it is not the one below.
+// command that explains its link or why it has none. Targets without a row of the title are folded. All text of a
+// request or a file is escaped here where it is put into HTML, and quoted where it is put into a command. An
+// operator edits nothing here: targets.json names the folder of the registry if it is not the one below.
 //
 // Only the server for staff loads this file, so no request of a reader meets code that reads files. text.js says in
 // which njs it runs.

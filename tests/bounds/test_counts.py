@@ -58,7 +58,7 @@ class Logs(Case):
             counts = counted(LINE.format(MONTH, "a", source) for source in range(count))
             self.expect(f"{count} of a month", named(counts, "source").get(log_counts.OTHERS, 0), others)
         with mock.patch.object(log_counts, "_MOST_SOURCES", 10**9):
-            for count, others in ((100_000, 0), (100_001, 1)):
+            for count, others in ((60_000, 0), (60_001, 1)):
                 counts = counted(LINE.format(MONTH, "a", source) for source in range(count))
                 self.expect(f"{count} in all", named(counts, "source").get(log_counts.OTHERS, 0), others)
 
@@ -66,8 +66,8 @@ class Logs(Case):
         forms = {
             "shown": (50_000, lambda it: LINE.format(MONTH, it, "b")),
             "followed": (50_000, lambda it: f"{MONTH} target={it} -\n"),
-            "followed title": (100_000, lambda it: f"{MONTH} target=a 978{it:010}\n"),
-            "asked in vain": (100_000, lambda it: f"{MONTH} 978{it:010} -\n"),
+            "followed title": (60_000, lambda it: f"{MONTH} target=a 978{it:010}\n"),
+            "asked in vain": (60_000, lambda it: f"{MONTH} 978{it:010} -\n"),
         }
         for kind, (most, form) in forms.items():
             for more in 0, 1:

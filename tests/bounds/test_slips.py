@@ -117,6 +117,17 @@ class Cells(Case):
         for text, wanted in (("HARBOUR 12", True), ("HARBOUR 1", False)):
             self.expect(text, titles._in_capitals(text), wanted)
 
+    def test_first_rows(self) -> None:
+        """Of 2,000 rows each is compared first, of one more every other; and 10 in 100 may have another title."""
+        for count, wanted in ((2000, False), (2001, True)):
+            before = material([[f"Title {at}", f"{at}"] for at in range(count)])
+            now = material([["Other" if at % 2 else f"Title {at}", f"{at}"] for at in range(count)])
+            self.expect(f"{count} rows", titles._are_most_same(now, before), wanted)
+        before = material([[f"Title {at}", f"{at}"] for at in range(100)])
+        for count, wanted in ((10, True), (11, False)):
+            now = material([["Other" if at < count else f"Title {at}", f"{at}"] for at in range(100)])
+            self.expect(f"{count} other titles", titles._are_most_same(now, before), wanted)
+
 
 class Words(Case):
     def test_names(self) -> None:

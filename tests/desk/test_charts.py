@@ -1,5 +1,5 @@
-"""The charts: sizes of bars in proportion to their numbers, the second part on the first or below it, and lines at round
-numbers."""
+"""The charts: sizes of bars in proportion to their numbers, the second part on the first or below it, and lines at
+round numbers."""
 from __future__ import annotations
 
 import random

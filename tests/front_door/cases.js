@@ -153,7 +153,7 @@ const DAYS = [
     ['set by the request', 'rft_val_fmt=x&x.from=0&X.TO=99999999&%78.to=99999999', '', 'rft_val_fmt=x&X.TO=99999999'],
     ['set by the request, with a date', 'x.from=0&rft_val_fmt=x&x%2Efrom=1&rft.date=2013&x.to=99999999',
         'x.from=20130101 x.to=20131231', 'rft_val_fmt=x&rft.date=2013'],
-    ['cells of the table', 'rft_val_fmt=x&coverage_from=0&coverage%5Fto=99999999', '', 'rft_val_fmt=x']
+    ['cells of the table', 'rft_val_fmt=x&coverage_from=0&coverage%5Fto=99999999&title_page=none:', '', 'rft_val_fmt=x']
 ];
 
 const PAGES = [
@@ -240,6 +240,9 @@ const AROUND = [
         'rft_val_fmt=x&rft_id=info:doi/10.1002/(SICI)1096(1996)99:1%3C1::AID-A1%3E3.0.CO;2-1',
         'x.doi=10.1002/(SICI)1096(1996)99:1<1::AID-A1>3.0.CO;2-1 '
             + 'x.doi_encoded=10.1002%2F(SICI)1096(1996)99%3A1%3C1%3A%3AAID-A1%3E3.0.CO%3B2-1'],
+    ['a number sign', 'rft_val_fmt=x&rft_id=info:doi/10.5555/a%23b', 'x.doi=10.5555/a#b x.doi_encoded=10.5555%2Fa%23b'],
+    ['all signs of a path', "rft_val_fmt=x&rft_id=info:doi/10.5555/a-_.~:;()!$'*,=@b",
+        "x.doi=10.5555/a-_.~:;()!$'*,=@b"],
     ['brackets around it', 'rft_val_fmt=x&rft_id=(doi:+10.5555/abc)', 'x.doi=10.5555/abc'],
     ['a proxy', 'rft_val_fmt=x&rft_id=https://doi-org.proxy.example.edu/10.5555/abc', 'x.doi=10.5555/abc'],
     ['stars', 'rft_val_fmt=x&rft_id=*10.5555/abc**', 'x.doi=10.5555/abc'],

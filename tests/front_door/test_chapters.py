@@ -166,7 +166,7 @@ class Chapters(SiteCase):
     def test_record(self) -> None:
         """The record has each file that the sites write."""
         record, files = chapter("Privacy").split("\n### Record of what is kept\n")[1], files_of_sites()
-        self.expect("files", len(files), 6)
+        self.expect("files", len(files), 8)
         self.expect(
             "files that the record lacks", [it for it in files if not re.search(rf"[/`]{re.escape(it)}`", record)], []
         )

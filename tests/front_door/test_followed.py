@@ -163,12 +163,24 @@ class Followed(SiteCase):
         followed = [line[8:] for line in lines]
         self.expect("of the article", followed[:2], ["target=tidal-press 2901-0012", "target=catalogue 2901-0012"])
         self.expect("numbers", {line.split(" ")[1] for line in followed} <= {"2901-0012", "9781234561000"})
-        self.expect("no other", len(followed), len(lines))
+        self.expect("neither HEAD nor a probe", sum("2901-0012" in line for line in followed), 2)
         shown = subprocess.run(
             ["update/counts", self.site.path("log/" + LOG)], capture_output=True, text=True, check=True
         ).stdout
         kinds = {line.split("\t")[1] for line in shown.splitlines()[1:]}
         self.expect("counted", kinds, {"followed", "followed title"})
+
+    def test_wanted(self) -> None:
+        """A link of a page without full text is not asked for in vain again."""
+        self.site.edit((OFF, ON), ("js_var $openlink_log_wanted off;", "js_var $openlink_log_wanted on;"))
+        name, query = "openlink-wanted.log", "issn=3006-1962&atitle=x"
+        before = lines_of(self.site, name)
+        self.site.get(f"/find?{query}")
+        self.expect("the page", len(added(self.site, name, 1, before)), 1)
+        reply = self.site.get(f"/go?target=interlibrary-loan&{query}")
+        self.expect("the link", reply.status, 302)
+        self.redirects()
+        self.expect("the link is no other", len(lines_of(self.site, name)) - len(before), 1)
 
     def test_nowhere_else(self) -> None:
         """A name that the page does not have gives the page, which is a request as any other. No link passes it on."""
@@ -176,7 +188,7 @@ class Followed(SiteCase):
         clicks = lines_of(self.site, LOG)
         for target in NO_TARGETS:
             before = lines_of(self.site)
-            for query in (f"target={target}&{ARTICLE}", f"{ARTICLE}&target={target}&first=1"):
+            for query in (f"target={target}&{ARTICLE}&target=x", f"{ARTICLE}&target={target}&first=1"):
                 reply = self.site.get(f"/go?{query}")
                 self.expect(f"{target[:40]}: the page", (reply.status, reply.headers["Location"]), (200, None))
                 self.expect(f"{target[:40]}: the links", "tidal-press" in reply.text)

@@ -82,6 +82,9 @@ class Heads(TitlesCase):
         self.write(tidal_press=HEAD.format("Tidal", "Tiden", "In the library"))
         self.site.write_targets(self.named)
         self.expect("named", self.shown(), ("Full text", "Tidal Press"))
+        others = {name: it for name, it in self.others["targets"].items() if name != "aggregate-net"}
+        self.site.write_targets({**self.others, "targets": {**others, "tidal-press": {"group": "Full text"}}})
+        self.expect("named without a label", self.shown(), ("Full text", "tidal-press"))
 
     def test_redirect(self) -> None:
         """/go leads to the one link of the first group, whoever says the group."""
@@ -90,7 +93,8 @@ class Heads(TitlesCase):
         self.expect("last", self.site.get(f"/go?{query}").status, 200)
         self.write(tidal_press=HEAD.format("Tidal", "Tiden", "Full text"))
         reply = self.site.get(f"/go?{query}")
-        self.expect("first", (reply.status, reply.headers["Location"].startswith("https://press.example.com/")), (302, True))
+        is_there = reply.headers["Location"].startswith("https://press.example.com/")
+        self.expect("first", (reply.status, is_there), (302, True))
 
     def test_lists(self) -> None:
         """The lists of titles have the label too."""
@@ -121,7 +125,7 @@ class Heads(TitlesCase):
                 text = self.site.get(f"/find?{QUERY}").text
                 self.expect(f"{name}: no markup", SCRIPT in text, False)
                 self.expect(f"{name}: the page is whole", text.count("<main>") == text.count("</html>") == 1)
-        lines = ["\n", "tidal-press\n", "tidal-press\t\n", "tidal-press\tFull text\t=\n", "\t\t\t\n", "\xff\xfe\t\x00\n"]
+        lines = ["\n", "tidal-press\n", "tidal-press\t\n", "tidal-press\tFull text\t=\n", "\t\t\t\n", "\xff\t\x00\n"]
         (Path(self.site.version()) / "index/heads").write_text("\n" + "".join(lines))
         self.expect("damaged lines", self.shown(), ("Full text", "tidal-press"))
 

@@ -111,6 +111,14 @@ class Offered(TitlesCase):
         super().setUp()
         self.put_in_use("more")
 
+    def test_counted_link(self) -> None:
+        """A link by /go leads to the page of a title too."""
+        self.site.edit(("js_var $openlink_followed off;", "js_var $openlink_followed on;"))
+        page = self.site.get("/find?issn=2901-0039").text
+        self.expect("on the page", '"/go?target=piers&amp;issn=2901-0039"' in page)
+        reply = self.site.get("/go?target=piers&issn=2901-0039")
+        self.expect("where it leads", (reply.status, reply.headers["Location"]), (302, PAPERS[1]))
+
     def test_requests(self) -> None:
         for query, wanted in REQUESTS:
             data = self.data(query)

@@ -224,7 +224,7 @@ class Formats(CountsCase):
             status, text, said = self.text(*words)
             self.expect(f"{words}", (status, text, said[:22]), (2, "", "usage: openlink-counts"))
         for option in "--cost", "--counter":
-            said = f"openlink-counts: none: cannot be read\n"
+            said = "openlink-counts: none: cannot be read\n"
             self.expect(f"{option}: no file", self.text(option, f"{self.folder}/none", *self.logs), (3, "", said))
 
 
@@ -234,11 +234,15 @@ class Costs(CountsCase):
         self.expect("a table", self.text("--cost", costs, *self.logs), (0, COST_TABLE, ""))
         data = json.loads(self.text("--format", "json", "--cost", costs, *self.logs)[1])
         self.expect("data", [list(row.values()) for row in data["cost"]], [
-            ["2025", "other", 3.5, 0, 0, None], ["2026", "catalogue", 7, 2, 2, 3.5], ["2026", "tidal-press", 100, 2, 4, 25],
+            ["2025", "other", 3.5, 0, 0, None],
+            ["2026", "catalogue", 7, 2, 2, 3.5],
+            ["2026", "tidal-press", 100, 2, 4, 25],
         ])  # fmt: skip
         rows = sheets_of(self.counted("--format", "xlsx", "--cost", costs, *self.logs)[1])["cost"]
         self.expect("a sheet", rows[1:], [
-            ["2025", "other", 3.5, 0, 0, None], ["2026", "catalogue", 7, 2, 2, 3.5], ["2026", "tidal-press", 100, 2, 4, 25],
+            ["2025", "other", 3.5, 0, 0, None],
+            ["2026", "catalogue", 7, 2, 2, 3.5],
+            ["2026", "tidal-press", 100, 2, 4, 25],
         ])  # fmt: skip
 
     def test_wrong_files(self) -> None:
@@ -246,6 +250,13 @@ class Costs(CountsCase):
             costs = self.write("costs", text)
             status, _, said = self.text("--cost", costs, *self.logs)
             self.expect(text[:20], (status, said), (3, f"openlink-counts: costs: {wanted}\n"))
+
+
+    def test_years(self) -> None:
+        """A link counts for the year in which it was followed."""
+        log = self.write("years", "2025-12 target=a -\n2026-01 target=a -\n2026-01 target=a -\n")
+        lines = self.text("--cost", self.write("costs", "a\t2025\t6\na\t2026\t6\n"), log)[1].splitlines()
+        self.expect("costs", lines[1:], ["2025\ta\t6\t1\t1\t6.00", "2026\ta\t6\t1\t2\t3.00"])
 
 
 class Reports(CountsCase):
@@ -275,7 +286,7 @@ class Reports(CountsCase):
         return texts
 
     def test_several(self) -> None:
-        """Titles that share a number are one, whatever report has them; the same report twice is said, and counts once."""
+        """Titles that share a number are one, whatever report has them; a report that is given twice counts once."""
         report = self.write("report.csv", REPORT)
         other = self.write(
             "other.csv", HEAD + COLUMNS + ANNALS.replace("2908-0142", "").format(1, "Unique_Item_Requests", 3, 3, 0)
@@ -286,6 +297,15 @@ class Reports(CountsCase):
         same = self.write("same.csv", REPORT)
         got = self.text("--counter", report, "--counter", same, *self.logs)
         self.expect("twice", got, (3, BESIDE, "openlink-counts: same.csv: the same report as report.csv\n"))
+
+    def test_hostile_titles(self) -> None:
+        """No title breaks out of its cell."""
+        title = "</t></is></c><c><f>1+1</f></c>&amp;\x01\u202e"
+        report = self.write("report.csv", REPORT.replace("Harbours", title))
+        sheet = sheets_of(self.counted("--format", "xlsx", "--counter", report, *self.logs)[1])["COUNTER"]
+        self.expect("a sheet", sheet[2][2], "</t></is></c><c><f>1+1</f></c>&amp;??")
+        data = json.loads(self.text("--format", "json", "--counter", report, *self.logs)[1])
+        self.expect("data", data["COUNTER"][1]["title"], title)
 
     def test_titles_of_no_report(self) -> None:
         report = self.write("report.csv", HEAD + COLUMNS)

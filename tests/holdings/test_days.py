@@ -129,15 +129,19 @@ class Days(Case):
 
     @needs.program()
     def test_refused(self) -> None:
-        """A table that brings a column of the update's is refused; an embargo in words is said and not used."""
+        """A table that brings a column of the update's is refused; an embargo of two readings is said and not used."""
         for name in ("coverage_from", "coverage_to"):
             said, _ = served(table((*row("1995", "", ""), "0"), header=(*HEADER, name)))
             self.expect(f"a table with {name}", [line for line in said if f"a column {name}" in line] != [])
             self.expect(f"a table with {name} is left out", said[0], "x: left out, since it has no old files")
-        said, (_, rows) = served(table(row("1995", "", ""), row("1995", "", "6 months"), row("1995", "", "none")))
-        expected = ["x: new, 3 rows", '  embargo_info not an embargo 2, first 1 "6 months": not used']
+        said, (_, rows) = served(table(row("1995", "", ""), row("1996", "", "6 to 12 months"), row("1997", "", "some")))
+        expected = ["x: new, 3 rows", '  embargo_info not an embargo 2, first 1 "6 to 12 months": not used']
         self.expect("words", said[:2], expected)
-        self.expect("words are not used", [cells[-2:] for cells in rows], [["19950101", "99999999"]] * 3)
+        self.expect(
+            "words are not used",
+            [cells[-2:] for cells in rows],
+            [[f"{year}0101", "99999999"] for year in (1995, 1996, 1997)],
+        )
 
     @needs.program()
     def test_walls(self) -> None:

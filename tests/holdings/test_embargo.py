@@ -7,6 +7,7 @@ from pathlib import Path
 
 from fixtures import needs
 from fixtures.cases import Case
+from fixtures.made_titles import issn
 from fixtures.made_versions import DAY
 from fixtures.made_versions import Weeks
 from fixtures.made_versions import table
@@ -24,7 +25,7 @@ OPEN = ("", "19950101", "99999999", "1995", "")
 CASES = {
     "about P6M": (*OPEN, False),
     "GROUP3M": (*OPEN, False),
-    "6 months": (*OPEN, False),
+    "6 to 12 months": (*OPEN, False),
     "": (*OPEN, False),
     "P6": (*OPEN, False),
     "XP6M": (*OPEN, False),
@@ -42,7 +43,7 @@ CASES = {
 def row(number: int, embargo: str, last: str = "") -> tuple[str, ...]:
     return (
         f"Title {number}",
-        f"{3000 + number}-0000",
+        issn(3_000_000 + number),
         "",
         "1995",
         last,
@@ -60,7 +61,7 @@ def index_entries(version: str) -> dict[str, str]:
     for name in os.listdir(folder):
         with open(os.path.join(folder, name), encoding="utf-8") as file:
             for cells in (line.split("\t") for line in file):
-                if re.fullmatch(r"\d{4}-0000", cells[0]):
+                if re.fullmatch(r"\d{4}-\d{3}[\dX]", cells[0]):
                     found[cells[0]] = cells[4].rstrip("\n").partition(" ")[2].partition(" ")[2]
     return found
 
@@ -105,7 +106,7 @@ class Embargo(Case):
         )
         for number, (cell, (last, start, end, entry, days, is_moving)) in enumerate(CASES.items()):
             self.expect(f"{cell!r}: last date, days", (served[number][4], *served[number][-2:]), (last, start, end))
-            self.expect(f"{cell!r}: the index", entries[f"{3000 + number}-0000"], entry)
+            self.expect(f"{cell!r}: the index", entries[issn(3_000_000 + number)], entry)
             found = dict(zip(exported[0], exported[1 + number]))
             self.expect(
                 f"{cell!r}: the export has the provider's cells",
@@ -115,6 +116,23 @@ class Embargo(Case):
             closed = re.search(r"<days_not_available>(\d+)<", items[number])
             self.expect(f"{cell!r}: the days for Google Scholar", closed[1] if closed else "", days)
             self.expect(f"{cell!r}: whether the wall moves daily", coverage.has_walls(table(row(0, cell))), is_moving)
+
+    def test_words(self) -> None:
+        """Words of one reading are what KBART writes in their place, wherever a cell counts."""
+        found = []
+        for pairs in ([("P6M", "P6M"), ("P1Y", "P1Y")], [("6 months", "P6M"), ("one year", "P1Y")]):
+            with Weeks() as weeks:
+                weeks.deliver("x", table(*(row(number, cell) for number, (cell, _) in enumerate(pairs))))
+                said = weeks.make()
+                served = weeks.rows("x")[1]
+                weeks.maker.make_index(True)
+                entries = index_entries(weeks.version)
+                header, *rows = self.exports_of(weeks)
+            place = header.index("embargo_info")
+            self.expect(f"exports of {pairs}", [cells[place] for cells in rows], [form for _, form in pairs])
+            found.append((served, entries))
+        self.expect("what is said", said, ["x: new, 2 rows", "  embargoes in words written as KBART does: 2 cells"])
+        self.expect("as they are served, and in the index", found[1], found[0])
 
     def test_dates_of_providers(self) -> None:
         """A row that has a last date keeps it, whatever its embargo."""

@@ -64,7 +64,8 @@ CASES = [
     ("it began on the last open day", row("A", first="2025-07-15", embargo="P1Y"), ("2025 7 - -", "", "366")),
     ("it began on the day after it", row("A", first="2025-07-16", embargo="P1Y"), None),
     ("five years, and it ended before", row("A", first="1990", last="2019", embargo="R5Y"), None),
-    ("an embargo in words", row("A", first="1990", embargo="6 months"), ("1990 - - -", "", "")),
+    ("an embargo in words", row("A", first="1990", embargo="6 months"), ("1990 - - -", "", "184")),
+    ("words of two readings", row("A", first="1990", embargo="6 to 12 months"), ("1990 - - -", "", "")),
     ("abstracts", row("A", first="1990", coverage_depth="abstracts"), None),
 ]
 

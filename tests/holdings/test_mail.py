@@ -96,5 +96,6 @@ class Mail(ProvidersCase):
             child.send_signal(signal.SIGTERM)
             status, printed = ended(child)
             self.expect("its end", (status, printed), (3, "openlink-update: ended by SIGTERM\n"))
+            self.expect("no desk was begun", os.path.exists(f"{library.library}/desk"), False)
             self.expect("no version", (library.read("good.txt"), library.served("registry.tsv")), (OLD, None))
             self.expect("no connection is left", wait_until(lambda: not self.providers.raw.now.get("127.0.0.2")))

@@ -1,8 +1,11 @@
-"""The names that the line of a target gives to the columns of its files: which header is found by them, and what is said
+"""The names that the line of a target gives to the columns of its files: which header is found by them, and what is
+said
 of columns that are missing."""
 from __future__ import annotations
 
+from fixtures import needs
 from fixtures.cases import Case
+from fixtures.updates import Library
 from holdings.shapes import PLAIN
 from holdings.shapes import tabs
 from openlink_update import target_options
@@ -143,6 +146,31 @@ class Missing(Case):
         self.expect("as the line says", got, "print_identifier\tpublication_title\n2908-0142\tTides\n")
 
 
+@needs.program()
+class Update(Case):
+    def test_names_that_a_table_lacks(self) -> None:
+        """They are said where the table is left out, and after the line is corrected it is served."""
+        with Library() as library:
+            library.write("german.csv", GERMAN)
+            library.write("other.txt", PLAIN.replace("|", "\t"))
+            library.targets = {"german": ("german.csv", ""), "other": ("other.txt", "")}
+            library.write_targets()
+            says = (
+                'no column has a title or an ISSN or ISBN or a date; the file has: "Titel", '
+                '"ISSN, print", "Verlag", "Beginn"'
+            )
+            self.expect_lines("left out", library.update()[1], f"  {library.path('german.csv')}: {says}")
+            cell = f"{ALL}; no column online_identifier"
+            library.targets["german"] = ("german.csv", cell)
+            library.write_targets()
+            self.expect("served", (library.update()[0], library.table("german")), (0, SERVED))
+            library.targets["german"] = ("german.csv", cell.replace("Verlag=-", "Verlag=publisher_name"))
+            library.write_targets()
+            printed = library.update()[1]
+            lines = ["german: options changed, 1 row added, 1 gone", "  named by `columns`: 4 columns"]
+            self.expect_lines("another name", printed, *lines)
+
+
 class NoHeader(Case):
     def test_separators(self) -> None:
         for separator in "\t;,":
@@ -153,7 +181,10 @@ class NoHeader(Case):
         self.expect("an empty cell at the end", table(NO_HEADER, "Tides;Press;2901-0012;1995;\n"), SERVED)
 
     def test_widths(self) -> None:
-        says = "file 1: no header: 4 names for lines of at most so many cells: 3 with tabs, 1 with commas, 1 with semicolons"
+        says = (
+            "file 1: no header: 4 names for lines of at most so many cells: 3 with tabs, 1 "
+            "with commas, 1 with semicolons"
+        )
         self.expect("no line has as many", read(NO_HEADER, "Tides\tPress\t2901-0012\n"), [says])
         text = "Tides;Press;2901-0012;1995\nPiers;Press;2915-0272;1995;x\n"
         self.expect("a longer row", read(NO_HEADER, text), ["file 1: no header: 4 names, and row 2 has 5 cells"])

@@ -10,6 +10,7 @@ from unittest import mock
 
 from fixtures import needs
 from fixtures.cases import Case
+from fixtures.made_titles import issn
 from fixtures.made_versions import Weeks
 from fixtures.made_versions import table
 from openlink_update.exports import export_files
@@ -24,7 +25,7 @@ _FEW = 12
 
 
 def rows(count: int) -> list[tuple[str, ...]]:
-    return [(f"Title {number}", f"{3000 + number}-0000", "", "1995", "", "", "t", "P6M") for number in range(count)]
+    return [(f"Title {number}", issn(3_000_000 + number), "", "1995", "", "", "t", "P6M") for number in range(count)]
 
 
 @contextlib.contextmanager

@@ -15,6 +15,7 @@ from collections.abc import Iterator
 from fixtures import PYTHON
 from fixtures import needs
 from fixtures.cases import Case
+from fixtures.made_titles import issn
 from fixtures.made_versions import HEADER
 from fixtures.made_versions import Weeks
 from fixtures.made_versions import table
@@ -64,7 +65,7 @@ def row(title: str, number: str, embargo: str = "", first: str = "1995") -> tupl
 def hostile(start: int) -> list[tuple[str, ...]]:
     tail = UNSAFE.replace("\r", "")
     return [
-        row(f"{text}{tail}{number}", f"{start + number}-0000", "six\x1b]0;owned months")
+        row(f"{text}{tail}{number}", issn(1000 * (start + number)), "six\x1b]0;owned months")
         for number, text in enumerate(FORMULAS)
         if "\t" not in text
     ]
@@ -148,12 +149,12 @@ class Shown(Case):
     @needs.program()
     def test_lists(self) -> None:
         """Titles that came and went, and dropped rows."""
-        good = [row(f"Good {number}", f"{1000 + number}-0000") for number in range(20)]
+        good = [row(f"Good {number}", issn(1000 * (1000 + number))) for number in range(20)]
         lost = [
             (*cells[:1], "=2+3" if number % 2 else "@soon", *cells[2:]) for number, cells in enumerate(hostile(3000))
         ]
         lost.append(row('"=1+1', "soon"))
-        allowed = "gone up to 100; dropped up to 99; not an ISSN or ISBN; rows without an identifier; lines"
+        allowed = "gone up to 100; dropped up to 99; not an ISSN or ISBN; rows without an identifier"
         with Weeks() as weeks, contextlib.ExitStack() as stack:
             weeks.deliver("press", table(*good, *hostile(2000)).replace(b"\0", b""), allowed)
             weeks.make()

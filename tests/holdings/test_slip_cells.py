@@ -63,6 +63,22 @@ class Cells(Case):
         for text in ("", "ANY", "12", "soon", "1234567890123", "２８００-0836"):
             self.expect(text, is_wrong(text), False)
 
+    def test_days(self) -> None:
+        """Days after that of the run; a month or a year begins with its first day."""
+        header = ("publication_title", "print_identifier", "date_first_issue_online")
+        for date, is_slip in (
+            ("2026-11-27", False),
+            ("2026-11-28", True),
+            ("2026-11", False),
+            ("2026-12", True),
+            ("2026", False),
+            ("2027", True),
+            ("soon", False),
+            ("9998-01-01", True),
+        ):
+            now = Material(Table(header, [["T", "0028-0836", date]]), [], [], 1, None, "", "")
+            self.expect(date, count_of("first dates after today", now), int(is_slip))
+
     def test_sessions(self) -> None:
         for text, is_slip in (
             ("https://a.org/t;jsessionid=8A1F0C2D99", True),
@@ -164,6 +180,7 @@ class Cells(Case):
             ("Annals of Tidal Studies", "Tidal Studies (Online)", False),
             ("Études de la mer", "etudes de la MER", False),
             ("Annals of Tidal Studies", "Journal of Harbour Engineering", True),
+            ("Coastal Erosion Management", "Coastal Birds Photography", True),
             ("学報", "Glaciers", False),
         ):
             now = material((title, "0028-0836", "https://a.org/1"))
@@ -227,7 +244,10 @@ class Rules(Case):
 
     def test_no_row(self) -> None:
         """Rules that hold on no row: because of the table, because of a new rule, in a first table."""
-        rules = 'rule\nwhen coverage_depth is "{}"\nlink https://a.org/{{title_id}}\n\nrule\nwhen given title_url\nlink {{+title_url}}\n'
+        rules = (
+            'rule\nwhen coverage_depth is "{}"\nlink https://a.org/{{title_id}}\n\n'
+            "rule\nwhen given title_url\nlink {{+title_url}}\n"
+        )
 
         def of(*texts: str, word: str = "fulltext", address: str = "") -> Material:
             rows = ((f"T {at}", "0028-0836", address, text) for at, text in enumerate(texts))
@@ -291,6 +311,24 @@ class Lines(Case):
             found = [reason for reason in judge.reasons("press", allowed, {}) if words in reason]
             self.expect(f"{allowed}, {count}", bool(found), is_refused)
         self.expect("a number that a version remembers", judge.reasons("press", (), {words: 3}), [])
+
+
+class FirstTables(Case):
+    """Tables of new targets."""
+
+    def test_usual(self) -> None:
+        """What a first table may be right with is allowed from then on, and said; other slips leave the target out."""
+        header = ("publication_title", "print_identifier", "date_first_issue_online")
+        for words, row, is_used in (
+            ("no first date in any row", ["T", "0028-0836", ""], True),
+            ("first dates after today", ["T", "0028-0836", "2030"], False),
+        ):
+            judge = slip_judge.SlipJudge(None, DAY, OtherTitles(tuple))
+            judge.find("press", Material(Table(header, [row] * 9), [], [], 9, None, "", ""), None)
+            self.expect(f"{words}: used", judge.reasons("press", (), {}) == [], is_used)
+            said = [line.endswith(": allowed from now on") for line in judge.lines("press") if words in line]
+            self.expect(f"{words}: said", said, [is_used])
+            self.expect(f"{words}: remembered", f"press\t{words}\t9\t9\n" in judge.limits_text(["press"]), is_used)
 
 
 class OtherTables(Case):

@@ -2,11 +2,12 @@
 from __future__ import annotations
 
 import dataclasses
-import datetime
+import gc
 import os
 import re
 from collections.abc import Callable
 from pathlib import Path
+from unittest import mock
 
 from fixtures import needs
 from fixtures import vendor_files
@@ -26,6 +27,7 @@ from openlink_update.slips.material import Found
 from openlink_update.slips.material import Material
 from openlink_update.slips.material import Pair
 from openlink_update.tables import preparation
+from openlink_update.versions import making
 
 HEADER = (
     "publication_title",
@@ -298,6 +300,8 @@ class Planted(Case):
                 more = data_of([*case.plant(base, case.many), *good(300, 301)])
                 taken_back = weeks.week("press", more, "rule; dropped up to 9", rules=RULES)
                 self.expect(f"{case.words}: the words taken back", taken_back, [])
+                again = [line for line in weeks.said if line.startswith(f"press: {case.words}")]
+                self.expect(f"{case.words}: what was allowed is not said again", again, [])
 
     def test_few(self) -> None:
         """In two of a hundred rows: the table is used, and a line says it once."""
@@ -305,7 +309,7 @@ class Planted(Case):
             with Weeks() as weeks:
                 weeks.week("press", data_of(good()), "rule", rules=RULES)
                 planted = case.plant(good(), case.few)
-                allowed = f"rule; hosts +login.ezproxy.other.example.edu"
+                allowed = "rule; hosts +login.ezproxy.other.example.edu"
                 self.expect(f"{case.words}: used", weeks.week("press", data_of(planted), allowed, rules=RULES), [])
                 lines = [line for line in weeks.said if case.words in line]
                 wanted = [f"press: {said(case, case.few)}"]
@@ -314,6 +318,10 @@ class Planted(Case):
                 self.expect(f"{case.words}: said", lines, wanted)
                 more = data_of([*planted, *good(200, 201)])
                 weeks.week("press", more, allowed, rules=RULES)
+                lines = [line.split("\t") for line in weeks.read("slips.tsv").decode().splitlines()]
+                counts = [cells[2] for cells in lines if cells[1] == case.words]
+                compares = case.words in ("new texts that rules do not compare with", "titles in capitals")
+                self.expect(f"{case.words}: old rows count too", counts, [] if compares else [str(case.few)])
                 again = [line for line in weeks.said if line.startswith(f"press: {case.words}")]
                 self.expect(f"{case.words}: not again", again, [])
 
@@ -343,6 +351,89 @@ class Planted(Case):
                 self.expect(
                     f"{case.words}: after a run for walls", case.words in weeks.read("slip_limits.tsv").decode()
                 )
+
+    def test_had_before_and_more(self) -> None:
+        """What a table had at that first look is allowed, be it with the same files in that week or with new ones."""
+        for words, rows in (("check digits of online_identifier wrong", 0), ("session identifiers in addresses", 1)):
+            case = next(case for case in CASES if case.words == words)
+            with Weeks() as weeks:
+                base = case.plant(good(), 10)
+                first = f"rule; {words} up to 100%"
+                self.expect(f"{words}: in use", weeks.week("press", data_of(base), first, rules=RULES), [])
+                for name in (slip_judge.NAME, slip_judge.LIMITS):
+                    os.unlink(f"{weeks.version}/{name}")
+                for number, is_said in ((rows, 1), (rows + 1, 0)):
+                    more = data_of([*base, *good(200, 200 + number)])
+                    self.expect(f"{words}: {number} more rows", weeks.week("press", more, "rule", rules=RULES), [])
+                    lines = [line for line in weeks.said if "so it is allowed from now on" in line]
+                    self.expect(f"{words}: said with {number} more rows", len(lines), is_said)
+                limits = [line.split("\t") for line in weeks.read("slip_limits.tsv").decode().splitlines()]
+                kept = [cells[2:] for cells in limits if cells[1] == words]
+                self.expect(f"{words}: what is allowed", kept, [["10", "100"]])
+
+
+@needs.program()
+class Versions(Case):
+    """What a version remembers, and what judging leaves."""
+
+    def test_same_files(self) -> None:
+        """Two versions of which one knows of slips are not the same, so an upgrade puts a new one in use."""
+        with Weeks() as weeks:
+            weeks.week("press", data_of(good()), rules=RULES)
+            first = weeks.version
+            weeks.week("press", data_of(good()), rules=RULES)
+            self.expect("nothing new", making.is_same(weeks.version, first), True)
+            for name in (slip_judge.NAME, slip_judge.LIMITS):
+                os.rename(f"{first}/{name}", f"{first}/x")
+                self.expect(f"without {name}", making.is_same(weeks.version, first), False)
+                os.rename(f"{first}/x", f"{first}/{name}")
+
+    def test_kept_table(self) -> None:
+        """What a table has is known as long as it is in use, also if an update has learned to look for something."""
+        odd = changed("print_identifier", wrong)(good(), 2)
+        words = "check digits of print_identifier wrong"
+        with Weeks() as weeks:
+            weeks.week("press", data_of(good()), rules=RULES)
+            weeks.week("press", data_of(odd), rules=RULES)
+            before, limits = weeks.read("slips.tsv"), weeks.read("slip_limits.tsv")
+            self.expect("it has a slip", before.startswith(f"press\t{words}\t2\t100\t".encode()), True)
+            for is_new_slip in (False, True):
+                if is_new_slip:
+                    kept = [line for line in limits.splitlines(True) if b"\tabstracts alone\t" not in line]
+                    self.expect("one slip less", len(kept), len(limits.splitlines()) - 1)
+                    Path(weeks.version, "slip_limits.tsv").write_bytes(b"".join(kept))
+                reasons = weeks.week("press", data_of(good())[:-1], "least 200 rows", rules=RULES)
+                self.expect("a table that is refused", reasons, ["100 rows, and at least 200 must be there"])
+                self.expect("slips of the one in use", weeks.read("slips.tsv"), before)
+                self.expect("what is allowed", weeks.read("slip_limits.tsv"), limits)
+            weeks.week("press", data_of([*odd, *good(200, 201)]), rules=RULES)
+            self.expect("not said again", [line for line in weeks.said if words in line], [])
+
+    def test_collections(self) -> None:
+        """Python looks for cycles again after a table was judged, also if that fails."""
+        with Weeks() as weeks:
+            weeks.week("press", data_of(good()), rules=RULES)
+            self.expect("after a table", gc.isenabled(), True)
+            with mock.patch.object(slip_judge.SlipJudge, "find", side_effect=ValueError):
+                with self.assertRaises(ValueError):
+                    weeks.week("press", data_of(good(0, 99)), rules=RULES)
+            self.expect("after a failure", gc.isenabled(), True)
+
+    def test_two_targets(self) -> None:
+        """The second target of a first version has the numbers of the first under other titles."""
+        with Weeks() as weeks:
+            weeks.deliver("press", data_of(good()), rules=RULES)
+
+            apart = sorted_apart(good(), ROWS)
+            for name, rows in (("same", good()), ("apart", apart)):
+                weeks.write(f"{name}.txt", data_of(rows))
+            lines = [f"{name}\tpress.rules\t{name}.txt\n" for name in ("press", "same", "apart")]
+            weeks.write("targets.tsv", "".join(lines).encode())
+            said = weeks.make()
+            reasons = [line for line in said if "numbers known under other titles: 200 of 200 rows, and 40" in line]
+            self.expect(
+                "targets", (weeks.maker.names, weeks.maker.left_out, len(reasons)), (["press", "same"], ["apart"], 1)
+            )
 
 
 class LineEnds(Case):
@@ -512,6 +603,8 @@ class GoodFiles(Case):
 
     def test_honest_weeks(self) -> None:
         """Weeks that are in order."""
+        unended = material_of(data_of(good())[:-1], RULES.encode())
+        self.expect("a provider whose files have no last line end", slips_of(unended, unended), {})
         before = material_of(data_of(good()), RULES.encode())
         for name, rows in (
             ("titles of their own case", [[row[0].title(), *row[1:]] for row in good()]),

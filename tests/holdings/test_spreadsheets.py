@@ -133,7 +133,10 @@ class Cells(Case):
         row = '<row><c t="e"><v>#N/A</v></c><c t="str"><v>2915-0272</v></c></row>'
         self.expect("it is empty", read(of_sheet(row)), [ROW, ["", "2915-0272"]])
         self.expect("it is said", said(of_sheet(row)), ["with an error of the spreadsheet, left empty: 1 cell"])
-        cell = '<table:table-cell table:formula="of:=X" office:value-type="string"><text:p>#REF!</text:p></table:table-cell>'
+        cell = (
+            '<table:table-cell table:formula="of:=X" '
+            'office:value-type="string"><text:p>#REF!</text:p></table:table-cell>'
+        )
         number = '<table:table-cell office:value-type="string"><text:p>2915-0272</text:p></table:table-cell>'
         document = of_document(f"<table:table-row>{cell}{number}</table:table-row>")
         self.expect("of a document", read(document), [ROW, ["", "2915-0272"]])
@@ -166,13 +169,15 @@ class Cells(Case):
             ),
             (
                 "a number",
-                "<table:table-cell office:value-type='float' office:value='1234.0'><text:p>1,234</text:p></table:table-cell>",
+                "<table:table-cell office:value-type='float' office:value='1234.0'><text:p>1,234</text:p><"
+                "/table:table-cell>",
                 "1234",
             ),
             (
                 "a table in it",
                 text.format(
-                    "<text:p>Tides</text:p><table:table><table:table-row><table:table-cell><text:p>x</text:p></table:table-cell></table:table-row></table:table>"
+                    "<text:p>Tides</text:p><table:table><table:table-row><table:table-cell><text:p>x</text:p><"
+                    "/table:table-cell></table:table-row></table:table>"
                 ),
                 "Tides",
             ),

@@ -1,4 +1,5 @@
-"""Forty files as vendors send them, through openlink-update with lines of targets.tsv alone: the rows that are served, and
+"""Forty files as vendors send them, through openlink-update with lines of targets.tsv alone: the rows that are
+served, and
 what the mail says."""
 from __future__ import annotations
 

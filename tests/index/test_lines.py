@@ -351,5 +351,5 @@ class Lines(Case):
             self.expect(
                 "without the list",
                 (found.names(), found.read("format"), len(found.of_key("=zoo"))),
-                (["format", "keys"], b"5 no list\n", 1),
+                (["format", "keys"], b"6 no list\n", 1),
             )

@@ -19,6 +19,8 @@ from openlink_update.machines import library_files
 GOOD = ("a", "east", "east-wanted", "a-1-b", "error", "lookup-rate", "l" * 32)
 BAD = (
     "",
+    "desk",
+    "runs",
     "-",
     "-east",
     "east-",
@@ -144,7 +146,10 @@ class Names(Case):
                     self.expect(f"{name}: {pattern}", len(re.findall(pattern, found, re.M)), 1)
             listed = [line.split("\t")[0] for line in machine.library("list")[1].splitlines()]
             self.expect("list", listed, sorted(GOOD))
-            self.expect("the logs", len(glob.glob(machine.path("var/log/nginx/openlink.*"))), 2 * len(GOOD))
+            ends = ("followed.log", "log", "wanted.log")
+            logs = sorted(f"openlink.{name}.{end}" for name in GOOD for end in ends)
+            written = glob.glob(machine.path("var/log/nginx/openlink.*"))
+            self.expect("the logs", sorted(map(os.path.basename, written)), logs)
             self.expect(
                 "one machine",
                 read(machine.path("etc/nginx/conf.d/openlink.conf")),

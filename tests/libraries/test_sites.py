@@ -225,8 +225,8 @@ class Sites(Case):
         self.expect("its health", health, [200, 503])
 
     def test_remove(self) -> None:
-        """The other library stays, and nothing of the removed one is left but its input, its site, and what the
-        operator has added to its units."""
+        """The other library stays, and nothing of the removed one is left but its input, its site, its desk, the
+        records of its runs, and what the operator has added to its units."""
         machine, east, wing = self.machine, self.east, self.wing
         port, ports = wing.ports()
         units = [f"openlink@{it}" for it in ports]
@@ -264,7 +264,7 @@ class Sites(Case):
         self.expect(
             "the folder",
             (os.path.lexists(wing.path()), sorted(os.listdir(f"{wing.path()}.removed"))),
-            (False, ["input", "local.conf", "logo.svg", "passwords", "report", "site.conf", "updated"]),
+            (False, ["desk", "input", "local.conf", "logo.svg", "passwords", "report", "runs", "site.conf", "updated"]),
         )
         self.expect("its site is gone", wait_until(lambda: machine.get(wing.host, "/find")[0] == 404))
         self.expect("and its local server", wait_until(lambda: not machine.listens(port)))

@@ -13,7 +13,8 @@ RELOAD = "systemctl daemon-reload"
 LIST = "systemctl list-units --plain --no-legend --state=active openlink@*.service"
 STOP = (
     "deb-systemd-invoke stop openlink-desk.timer openlink-update.timer openlink-walls.timer "
-    "openlink-desk.service openlink-update.service openlink-walls.service openlink-connections.service openlink@*.service"
+    "openlink-desk.service openlink-update.service openlink-walls.service openlink-connections.service "
+    "openlink@*.service"
 )
 TO_NGINX = ["systemctl is-active -q nginx", "nginx -t -q", "invoke-rc.d nginx reload"]
 # As systemctl prints them.

@@ -1,1 +1,1 @@
-"""The rules that ship, lines of targets that name them, proxies before links, and what heads of rules say to readers."""
+"""Rules that ship, lines of targets that name them, proxies before links, and what heads of rules say to readers."""

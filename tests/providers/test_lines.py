@@ -12,6 +12,7 @@ from fixtures.made_versions import table
 from openlink_update import input_files
 from openlink_update import places
 from openlink_update.rules import shipped
+from openlink_update.versions import target_list
 
 ROWS = table(("A", issn(1), "", "1990", "", "https://press.example.com/a", "t1"))
 OWN = "rule\nlink https://own.example.org/{print_identifier}\n"
@@ -118,6 +119,17 @@ class Lines(Case):
             self.expect("64 characters", shipped.fault_of("a" * 64, folder), "")
             self.expect("65 characters", bool(shipped.fault_of("a" * 65, folder)))
             self.expect("three", shipped.fault_of("press", folder).count("provider:press-"), 3)
+
+    def test_groups(self) -> None:
+        """What the heads of rules say of groups: of those that ship, of her own, and of none that cannot be read."""
+        with Weeks() as weeks:
+            weeks.write("own.rules", f"# group: Mine\n{OWN}".encode())
+            weeks.write("code.olk", b"# group: No\n")
+            lines = ("a\tprovider:wiley\tp.txt", "b\town.rules\tp.txt", "c\tnone.rules\tp.txt", "d\tcode.olk\tp.txt",
+                     "e\tprovider:nobody\tp.txt")
+            weeks.write("targets.tsv", "".join(f"{it}\n" for it in lines).encode())
+            targets = target_list.read(input_files.InputFolder(weeks.path("input")))
+            self.expect("groups", target_list.groups_of(targets), {"a": "Full text", "b": "Mine"})
 
     def test_all(self) -> None:
         """Each of the rules that ship can be named."""

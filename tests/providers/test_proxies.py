@@ -24,6 +24,7 @@ DOI = "rule\nwhen given x.doi\nlink https://doi.org/{x.doi}\n"
 PAGE = "rule\nlink {+title_page}\n"
 NO_PAGE = 'rule\nwhen title_page is "none:"\nlink none:\n'
 SICI = "10.1002/(SICI)1096(1996)99:1<1::AID-A1>3.0.CO;2-1"
+ENCODED_SICI = "&x.doi_encoded=10.1002%252F(SICI)1096(1996)99%253A1%253C1%253A%253AAID-A1%253E3.0.CO%253B2-1"
 LATE = "&rft.date=2015&x.from=20150101&x.to=20151231"
 
 
@@ -139,14 +140,12 @@ class Equal(Case):
                     Path(folder, "plain.rules").write_text(rules)
                     Path(folder, "proxy.rules").write_bytes(proxies.with_proxy(rules.encode(), prefix, shown))
                     for query in queries:
-                        encoded = "&x.doi_encoded=10.1002%252F(SICI)1096(1996)99%253A1%253C1%253A%253AAID-A1%253E3.0.CO%253B2-1"
-                        sent = f"rft.issn=2901-0012&{query}{encoded if SICI in query else ''}"
+                        sent = f"rft.issn=2901-0012&{query}{ENCODED_SICI if SICI in query else ''}"
                         one, other = (self.link(program, name, sent) for name in ("plain", "proxy"))
                         behind = other.removeprefix(prefix)
                         same = unquote(behind) if proxies.is_encoding(prefix) else behind
-                        wanted = one if one.startswith("http") else "none:"
-                        if one.startswith("http"):
-                            self.expect(f"{prefix} {query}: the proxy", other.startswith(prefix))
+                        wanted, is_web = one, one.startswith("http")
+                        self.expect(f"{prefix} {query}: the proxy", other.startswith(prefix), is_web)
                         self.expect(f"{prefix} {query}", self.plain(same), self.plain(wanted))
 
     @staticmethod
@@ -194,6 +193,16 @@ class InVersions(Case):
             )
             self.expect("no rules of the proxy", (Path(weeks.version) / "rules/press.rules").exists(), False)
 
+    def test_kept(self) -> None:
+        """If new files are refused, the old ones have no proxy of theirs."""
+        rules, page = "rule\nlink {+title_page}\n", "https://press.example.com/a"
+        with Weeks() as weeks:
+            weeks.week("press", table(press("A", 1, page)), rules=rules)
+            evil = table(press("A", 1, "https://evil.example/a"))
+            self.expect("refused", len(weeks.week("press", evil, f"proxy {PLAIN}", rules=rules)) > 0)
+            self.expect("the old link", weeks.menu(f"rft.issn={issn(1)}"), {"press": page})
+            self.expect("no rules of the proxy", (Path(weeks.version) / "rules/press.rules").exists(), False)
+
     def test_free(self) -> None:
         """`free` is as it is without a proxy."""
         with Weeks() as weeks:
@@ -216,6 +225,16 @@ class InVersions(Case):
             weeks.write("targets.tsv", f"press\tpress.olk\tpress.txt\tproxy {PLAIN}\n".encode())
             wanted = [f"  {weeks.path('input', 'press.olk')}: proxy: only rules can have one, and this is a code file"]
             self.expect("a code file", [line for line in weeks.make() if "proxy" in line], wanted)
+
+    def test_hosts(self) -> None:
+        """A host that a request could choose is behind the proxy, so `lint` has nothing to say."""
+        rules = "rule\nlink https://{+title_id}/x\n"
+        row = ("A", issn(1), "", "1990", "", "https://press.example.com/a")
+        with Weeks() as weeks:
+            weeks.week("press", table(row), rules=rules)
+            self.expect("without", weeks.maker.left_out, ["press"])
+            weeks.week("press", table(row), f"proxy {PLAIN}", rules=rules)
+            self.expect("behind it", weeks.maker.names, ["press"])
 
     def test_addresses(self) -> None:
         """The addresses of titles' pages that the index has are behind the same proxy."""

@@ -1,5 +1,5 @@
-"""The rules that ship: each file has its head, compiles, and has no warning on a table of its provider's form; each rule
-is reached by a request, whose link is the one that the provider documents."""
+"""The rules that ship: each file has its head, compiles, and has no warning on a table of its provider's form. Each
+rule is reached by a request, whose link is the one that the provider documents."""
 from __future__ import annotations
 
 import datetime

@@ -15,6 +15,8 @@ HEADERS = "update/openlink_update/received/column_names.py"
 CRATE = "crates/standard_names/src/columns.rt"
 FRONT_DOOR = "front_door/query.js"
 UPDATE = "update/openlink_update/tables/coverage.py"
+# The column that it adds where rules name it.
+PAGES = "update/openlink_update/rules/pages.py"
 FOLDERS = ("benches", "examples", "front_door", "packaging", "tests", "update")
 # Each of these has a list of all columns somewhere.
 WITH_LISTS = (("front_door", "update"), ("tests",), ("examples",))
@@ -44,13 +46,14 @@ def faults_of_columns(top: str) -> list[str]:
     expected, last = columns(top)
     listed = part(top, FRONT_DOOR, r"\bconst COLUMNS = ' ' \+ \((.*?)\) \+ ' ';")
     added = quoted(part(top, UPDATE, r"\b_COLUMNS = \((.*?)\)"))
+    page = quoted(part(top, PAGES, r"\nCOLUMN, NO_PAGE = (.*?)\n"))[:1]
     same = {
         f"the last columns of {CRATE}, and those that {UPDATE} adds": (last, added),
         HEADERS: (quoted(part(top, HEADERS, r"\nCOLUMNS = \((.*?)\n\)")), expected),
         FRONT_DOOR: ("".join(re.findall(r"'([^']*)'", listed)).split(" "), expected),
         f"those that {FRONT_DOOR} adds": (
             part(top, FRONT_DOOR, r"\bconst ADDED_COLUMNS = ' (.*?) ';").split(" "),
-            added,
+            [*added, *page],
         ),
     }
     found = [
@@ -58,7 +61,7 @@ def faults_of_columns(top: str) -> list[str]:
         for what, (got, wanted) in same.items()
         if got != wanted
     ]
-    return found + ([] if len(expected) > MOST_OF_A_PART and added else [f"{CRATE}: no columns"])
+    return found + ([] if len(expected) > MOST_OF_A_PART and added and page else [f"{CRATE}: no columns"])
 
 
 def lists_in(words: list[str], known: list[str]) -> Iterator[list[str]]:
@@ -119,7 +122,7 @@ class SpoiltColumns(Case):
         room = tempfile.TemporaryDirectory()
         self.addCleanup(room.cleanup)
         self.top = room.name
-        for path in (HEADERS, CRATE, FRONT_DOOR, UPDATE):
+        for path in (HEADERS, CRATE, FRONT_DOOR, UPDATE, PAGES):
             os.makedirs(os.path.dirname(f"{self.top}/{path}"), exist_ok=True)
             shutil.copy(path, f"{self.top}/{path}")
         for folder in FOLDERS:

@@ -255,8 +255,9 @@ class Runs(_Run):
         closed.write_text("s3cr3t")
         closed.chmod(0o600)
         self.expect("secrets", self.shell(f"cat {closed} || echo none"), "none\n")
-        lines = "chmod 777 ../program 2>&1; rm -f ../out 2>&1; ls -ld .. >/dev/null; echo done"
-        self.expect("its own program and output are root's", self.shell(lines).endswith("done\n"))
+        for name in ("program", "out", "data"):
+            line = f"chmod 777 ../{name} 2>/dev/null && echo open || echo closed"
+            self.expect(f"{name} is root's", self.shell(line), "closed\n")
 
     def test_failures(self) -> None:
         cases = {
@@ -279,6 +280,11 @@ class Runs(_Run):
             "no interpreter", self.run_of("#!/nowhere\n"), "fault: it cannot be started: No such file or directory"
         )
 
+    def test_full_disk(self) -> None:
+        """It is the failure of this target too."""
+        with mock.patch.object(Path, "write_bytes", side_effect=OSError(28, "No space left on device", "/x/data")):
+            self.expect("no room", self.shell("cat"), "fault: /x/data: No space left on device")
+
     def test_kernel_without_landlock(self) -> None:
         with mock.patch("openlink_update.rights.closed_files._version", lambda: 0):
             said = self.shell("echo x")
@@ -297,6 +303,11 @@ class Runs(_Run):
         self.expect("a deep folder", self.shell(deep), "x\n")
         self.expect("a closed one", self.shell("mkdir -p a/b; chmod 0 a; echo x"), "x\n")
         self.expect("nothing is left", self.place.folder.exists(), False)
+
+
+def _with_words(mark: str) -> list[str]:
+    """The processes whose arguments have a mark."""
+    return [name for name in filter(str.isdigit, os.listdir("/proc")) if mark in _words(name)]
 
 
 def _words(process: str) -> str:
@@ -361,7 +372,23 @@ class Bounds(_Run):
         self.expect("4,096 blank ones", self.shell(line.format(4096, "\\n", "echo y")), "fault: status 2")
 
 
-class WithoutUser(Case):
+class WithoutUser(_Run):
+    def test_its_own_defences(self) -> None:
+        """Where the update has no other user, a filter has neither the network nor other files, and leaves no process
+        of its session."""
+        self.user = None
+        mark = f"4{os.getpid()}.5"
+        (self.top / "sources.tsv").write_text("token")
+        said = self.shell(f"cat {self.top}/sources.tsv 2>/dev/null && echo open || echo closed")
+        self.expect("a file", said, "closed\n")
+        line = "/usr/bin/python3 -c 'import socket; socket.socket()' 2>/dev/null && echo open || echo closed"
+        self.expect("a socket", self.shell(line), "closed\n")
+        self.expect("it ends", self.shell(f"sleep {mark} & echo x"), "x\n")
+        end = time.monotonic() + patience(10)
+        while _with_words(mark) and time.monotonic() < end:
+            time.sleep(0.01)
+        self.expect("no process", _with_words(mark), [])
+
     def test_root_runs_none(self) -> None:
         """Where no user is free, root does not run it by its own rights."""
         with Filtered() as library, mock.patch("os.geteuid", lambda: 0):

@@ -40,7 +40,7 @@ class Renames(Case):
     def test_killed_at_renames(self) -> None:
         """SIGKILL directly before and after each rename and link of a run that ends well, those of `openlink compile`
         too, and of one that goes back, from its first own rename on. The next run puts it right."""
-        for name, options, first, expected in (("forward", {}, 0, 22), ("back", {"restart": "true"}, 10, 24)):
+        for name, options, first, expected in (("forward", {}, 0, 24), ("back", {"restart": "true"}, 10, 26)):
             with Library(probes=5) as library:
                 week, number, moments = "A", first, None
                 while moments is None:
@@ -82,4 +82,4 @@ class Renames(Case):
                     (status, library.weeks_served(), library.left_behind()),
                     (0, {"A"}, []),
                 )
-            self.expect("walls: moments", (moments, number), (22, 23))
+            self.expect("walls: moments", (moments, number), (24, 25))

@@ -59,6 +59,10 @@ class Options:
         """Whether the same bytes are another table by these options."""
         return bool(self.columns or self.header or self.sheet or self.is_html or self.filter)
 
+    def reads_as(self, other: "Options") -> bool:
+        """Whether the same bytes are the same table by other options."""
+        return dataclasses.replace(self, proxy=other.proxy, least=other.least) == other
+
 
 NONE = Options()
 

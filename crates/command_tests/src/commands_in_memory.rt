@@ -57,12 +57,12 @@ const COMMANDS: [(&[&str], &str, &[&str]); 9] = [
     (
         &["compile", "a.rules", "new"],
         "127 bytes\n",
-        &["a.rules", "new", "new", "new", "new", "new"],
+        &["a.rules", "new", "new", "new", "new", "new", "new"],
     ),
     (
         &["upgrade", "a.olk", "new"],
         "42 bytes\n",
-        &["a.olk", "new", "new", "new", "new", "new"],
+        &["a.olk", "new", "new", "new", "new", "new", "new"],
     ),
     (
         &["link", "a.rules", QUERY],

@@ -3,7 +3,7 @@
 use crate::known_system::Outside;
 use crate::{bytes, gives, outside, run};
 use commands::command;
-use files_in_memory::Content;
+use files_in_memory::{Content, NEW_MODE};
 use std::alloc::{AllocError, Global};
 use streams_in_memory::Peers;
 
@@ -173,6 +173,22 @@ fn an_upgraded_file_has_version_2(rt: HostRuntime) -> Result<(), AllocError> {
     gives(&rt, &mut outside, &upgrade, 0, "68 bytes\n", "")?;
     assert!(rt; is_upgraded(bytes(&outside, "new")));
     assert!(rt; bytes(&outside, "list.olk") == Some(LIST));
+    Ok(())
+}
+
+/// A file that is replaced keeps its mode, and a file that was not there has the mode of a new one.
+#[test]
+fn a_replaced_file_keeps_its_mode(rt: HostRuntime) -> Result<(), AllocError> {
+    let mut outside = outside(rt.alloc(), &FILES)?;
+    let empty = Content::File(Vec::new(rt.alloc()));
+    outside.files.memory.put("old", empty)?;
+    outside.files.memory.set_mode_at("old", 384)?;
+    for path in ["old", "new"] {
+        let upgrade = ["upgrade", "list.olk", path];
+        gives(&rt, &mut outside, &upgrade, 0, "68 bytes\n", "")?;
+    }
+    assert_eq!(rt; outside.files.memory.mode("old"), Some(384));
+    assert_eq!(rt; outside.files.memory.mode("new"), Some(NEW_MODE));
     Ok(())
 }
 

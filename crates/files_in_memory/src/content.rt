@@ -16,6 +16,13 @@ pub enum Content {
     Other,
 }
 
+/// What is at a path, and its mode, if it has one.
+#[derive(Drop)]
+pub struct Entry {
+    pub(crate) content: Content,
+    pub(crate) mode: Option<u32>,
+}
+
 impl Content {
     pub(crate) fn copy(&self, alloc: Global) -> Result<Content, AllocError>
         ensures { IfOk result (λ copy. found_of (Some copy) ≡ found_of (Some self.now)) }
@@ -25,5 +32,17 @@ impl Content {
             Content::File(bytes) => Ok(Content::File(Vec::from_slice(alloc, bytes)?)),
             Content::Other => Ok(Content::Other),
         }
+    }
+}
+
+impl Entry {
+    pub(crate) fn copy(&self, alloc: Global) -> Result<Entry, AllocError>
+        ensures content { IfOk result (λ copy. found_of (Some copy.content) ≡ found_of (Some self.now.content)) }
+        ensures mode { IfOk result (λ copy. copy.mode ≡ self.now.mode) }
+    {
+        Ok(Entry {
+            content: self.content.copy(alloc)?,
+            mode: self.mode,
+        })
     }
 }

@@ -54,15 +54,14 @@ impl FailingMemory {
 }
 
 impl Files for FailingMemory {
-    ghost use Rattle.std.specs.Prelude.{◌≡◌, None, string_bytes};
-    ghost use Rattle.files_in_memory.specs.InMemory.{disk_of};
+    ghost use Rattle.std.specs.Prelude.{◌≡◌, string_bytes};
+    ghost use Rattle.files_in_memory.specs.InMemory.{disk_of, modes_of};
 
     type Draft = MemoryDraft;
 
     ghost at = { λ files. disk_of files.memory };
 
-    // Files in memory have no mode.
-    ghost mode_at = { λ _ _. None };
+    ghost mode_at = { λ files. modes_of files.memory };
 
     // Any call may be the one that fails.
     ghost fails = { λ _ _ _ _. Unit {0} };

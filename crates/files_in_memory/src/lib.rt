@@ -5,6 +5,6 @@ mod content;
 mod failing;
 mod memory;
 
-pub use content::Content;
+pub use content::{Content, Entry};
 pub use failing::FailingMemory;
-pub use memory::{Memory, MemoryDraft};
+pub use memory::{Memory, MemoryDraft, NEW_MODE};

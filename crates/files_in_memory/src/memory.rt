@@ -3,17 +3,21 @@
 ghost use Rattle.std.specs.Prelude.{◌≡◌, ℕ, List, Some, IfErr, IfNone, IfSome, OnErr, OnOk};
 ghost use Rattle.files.specs.Found.{Absent, File};
 ghost use Rattle.files.specs.Changes.{ChangesOnly, Unchanged};
-ghost use Rattle.files_in_memory.specs.InMemory.{disk_of, found_of};
+ghost use Rattle.files.specs.Modes.{ChangesModeOnly, HasSameModes, IsMode};
+ghost use Rattle.files_in_memory.specs.InMemory.{disk_of, found_of, modes_of};
 
-use crate::content::Content;
+use crate::content::{Content, Entry};
 use files::{FileError, Files};
 use std::alloc::{AllocError, Global};
 use std::collections::BTreeMap;
 
-/// Files in memory. A call fails only because of what is at its path.
+/// The mode of a new file in memory.
+pub const NEW_MODE: u32 = 420;
+
+/// Files in memory, with their modes. A call fails only because of what is at its path.
 #[derive(Drop)]
 pub struct Memory {
-    files: BTreeMap<String, Content>,
+    files: BTreeMap<String, Entry>,
     alloc: Global,
 }
 
@@ -35,16 +39,52 @@ impl Memory {
         }
     }
 
-    /// Puts this at the path.
+    /// Puts this at the path, with the mode of a new file, which is 420 (octal 644).
     pub fn put(&mut self, path: &str, content: Content) -> Result<(), AllocError>
         ensures here { OnOk result (disk_of self.new path.now ≡ found_of (Some content)) }
         ensures others { OnOk result (ChangesOnly path.now (disk_of self.old) (disk_of self.new)) }
         ensures err { OnErr result (Unchanged (disk_of self.old) (disk_of self.new)) }
+        ensures mode { OnOk result (modes_of self.new path.now ≡ Some NEW_MODE) }
+        ensures modes { OnOk result (ChangesModeOnly path.now (modes_of self.old) (modes_of self.new)) }
+        ensures same_modes { OnErr result (HasSameModes (modes_of self.old) (modes_of self.new)) }
     {
         let path = String::from_str(self.alloc, path)?;
-        match self.files.insert(path, content) {
+        let entry = Entry {
+            content,
+            mode: Some(NEW_MODE),
+        };
+        match self.files.insert(path, entry) {
             Ok(_) => Ok(()),
             Err(_) => Err(AllocError),
+        }
+    }
+
+    /// Gives what is at the path this mode. Nothing is changed if nothing is there.
+    pub fn set_mode_at(&mut self, path: &str, mode: u32) -> Result<(), AllocError>
+        ensures mode { OnOk result (IsMode (modes_of self.new path.now) mode) }
+        ensures modes { ChangesModeOnly path.now (modes_of self.old) (modes_of self.new) }
+        ensures err { OnErr result (HasSameModes (modes_of self.old) (modes_of self.new)) }
+        ensures same { Unchanged (disk_of self.old) (disk_of self.new) }
+    {
+        let Some(entry) = self.files.get(path) else {
+            return Ok(());
+        };
+        let content = entry.content.copy(self.alloc)?;
+        let path = String::from_str(self.alloc, path)?;
+        let mode = Some(mode);
+        match self.files.insert(path, Entry { content, mode }) {
+            Ok(_) => Ok(()),
+            Err(_) => Err(AllocError),
+        }
+    }
+
+    /// The mode of what is at the path.
+    pub fn mode(&self, path: &str) -> Option<u32>
+        ensures { result ≡ modes_of self.now path.now }
+    {
+        match self.files.get(path) {
+            Some(entry) => entry.mode,
+            None => None,
         }
     }
 
@@ -53,20 +93,22 @@ impl Memory {
         ensures some { IfSome result (λ content. disk_of self.now path.now ≡ found_of (Some content.now)) }
         ensures none { IfNone result (disk_of self.now path.now ≡ Absent) }
     {
-        self.files.get(path)
+        match self.files.get(path) {
+            Some(entry) => Some(&entry.content),
+            None => None,
+        }
     }
 }
 
 impl Files for Memory {
-    ghost use Rattle.std.specs.Prelude.{◌≡◌, None, string_bytes};
-    ghost use Rattle.files_in_memory.specs.InMemory.{IsRefusedCall, disk_of};
+    ghost use Rattle.std.specs.Prelude.{◌≡◌, string_bytes};
+    ghost use Rattle.files_in_memory.specs.InMemory.{IsRefusedCall, disk_of, modes_of};
 
     type Draft = MemoryDraft;
 
     ghost at = { disk_of };
 
-    // Files in memory have no mode.
-    ghost mode_at = { λ _ _. None };
+    ghost mode_at = { modes_of };
 
     ghost fails = { λ old call path _. IsRefusedCall call (disk_of old path) };
 
@@ -75,7 +117,7 @@ impl Files for Memory {
     ghost drafted = { λ draft path bytes. (path ≡ string_bytes draft.path) × (bytes ≡ draft.bytes.items) };
 
     fn read(&mut self, alloc: Global, path: &str, limit: usize) -> Result<Vec<u8>, FileError> {
-        match self.files.get(path) {
+        match self.content(path) {
             Some(Content::File(bytes)) => {
                 let end = bytes.len().min(limit + 1);
                 Ok(Vec::from_slice(alloc, &bytes[..end])?)
@@ -85,9 +127,9 @@ impl Files for Memory {
     }
 
     fn check_place(&mut self, path: &str) -> Result<Option<u32>, FileError> {
-        match self.files.get(path) {
+        match self.content(path) {
             Some(Content::Other) => Err(FileError::Failed),
-            _ => Ok(None),
+            _ => Ok(self.mode(path)),
         }
     }
 
@@ -97,14 +139,19 @@ impl Files for Memory {
         }
         let key = String::from_str(self.alloc, path)?;
         let path = String::from_str(self.alloc, path)?;
-        self.files.insert(key, Content::Unfinished)?;
+        let entry = Entry {
+            content: Content::Unfinished,
+            mode: Some(NEW_MODE),
+        };
+        self.files.insert(key, entry)?;
         Ok(MemoryDraft {
             path,
             bytes: Vec::new(self.alloc),
         })
     }
 
-    fn set_mode(&mut self, _draft: &MemoryDraft, _mode: u32) -> Result<(), FileError> {
+    fn set_mode(&mut self, draft: &MemoryDraft, mode: u32) -> Result<(), FileError> {
+        self.set_mode_at(draft.path.as_str(), mode)?;
         Ok(())
     }
 
@@ -115,17 +162,19 @@ impl Files for Memory {
 
     fn keep(&mut self, draft: MemoryDraft) -> Result<(), FileError> {
         let MemoryDraft { path, bytes } = draft;
-        self.files.insert(path, Content::File(bytes))?;
+        let mode = self.mode(path.as_str());
+        let content = Content::File(bytes);
+        self.files.insert(path, Entry { content, mode })?;
         Ok(())
     }
 
     fn rename(&mut self, from: &str, to: &str) -> Result<(), FileError> {
-        let Some(content) = self.files.get(from) else {
+        let Some(entry) = self.files.get(from) else {
             return Err(FileError::Failed);
         };
-        let content = content.copy(self.alloc)?;
+        let entry = entry.copy(self.alloc)?;
         let to = String::from_str(self.alloc, to)?;
-        self.files.insert(to, content)?;
+        self.files.insert(to, entry)?;
         self.files.remove(from);
         Ok(())
     }

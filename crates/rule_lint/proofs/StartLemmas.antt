@@ -12,8 +12,8 @@ use Rattle.std.proofs.lemmas.List.{drop-map, length-drop, take_all}
 use Rattle.text_model.specs.Texts.{Text, texts_of}
 use Rattle.kbart_rows.specs.declared.keys.Keys.{Keys}
 use Rattle.rule_lint.specs.Names.{adds_prefix, has_one_before, has_one_replaced, has_two_exchanged, is_edited_first, is_one_edit, resembles}
-use Rattle.rule_lint.specs.Private.Starts.{AreSearchStarts, IsMarked, IsStart, exchanged_key, first_with, key_at, lower_case, lowered_key, name_hash, shorter_key, whole_key}
-use Rattle.rule_lint.specs.Private.Starts.{without}
+use Rattle.rule_lint.specs.Private.Starts.{AreSearchStarts, IsMarked, IsStart, exchanged_key, first_with, key_at}
+use Rattle.rule_lint.specs.Private.Starts.{lower_case, lowered_key, name_hash, shorter_key, whole_key, without}
 
 -- ---- one more name
 
@@ -145,7 +145,8 @@ near m firsts t u k start (is_replaced t' u' i l n e) from marked =
     omega (arith, from.replaced i l, marked.shorter i n, ap (λ text. first_with firsts (shorter_key m text i)) e)
 near m firsts t u k start (is_exchanged t' u' i l n e byte) from marked =
     let next : i + 1 ≡ suc i = omega arith in
-    let key : exchanged_key m (without t i) (get_or t i 0) (i + 1) ≡ exchanged_key m (without u (suc i)) (get_or u (suc i) 0) (suc i) = rw (e, byte, next) refl in
+    let key : exchanged_key m (without t i) (get_or t i 0) (i + 1) ≡ exchanged_key m (without u (suc i)) (get_or u (suc i) 0) (suc i) =
+    rw (e, byte, next) refl in
     omega (arith, from.exchanged i l, marked.exchanged (suc i) n, ap (first_with firsts) key)
 
 alike : (m : ℕ) (firsts : HashMap ℕ ℕ Keys) (t u : Text) (k start : ℕ) → resembles t u ≡ true → IsStart m firsts t start → IsMarked m firsts k u → start ≤ k

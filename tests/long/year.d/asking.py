@@ -114,8 +114,8 @@ def state_text(request, span, start, end):
 
 
 def is_right(kind, reply, expected, pages, is_settled):
-    """Whether a reply is the one for these links, and has no other pages of the title. Beside a link may be the coverage
-    of another version meanwhile."""
+    """Whether a reply is the one for these links, and has no other pages of the title. Beside a link may be the
+    coverage of another version meanwhile."""
     status, text, location = reply
     if kind == "/go":
         full = [link for link in expected if link[0] == FULL]

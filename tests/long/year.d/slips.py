@@ -119,8 +119,8 @@ def few_without_numbers(provider, source):
 
 def embargo_in_words(provider, source):
     lines = changed(cells(provider), "embargo_info", lambda cell: "six months" if cell else "")
-    rows = tuple(dataclasses.replace(row, embargo="") for row in provider.rows)
-    return Slip(USED, ("  embargo_info not an embargo ",), data=text(lines), rows=rows)
+    rows = tuple(dataclasses.replace(row, embargo="P6M" if row.embargo else "") for row in provider.rows)
+    return Slip(USED, ("  embargoes in words written as KBART does: ",), data=text(lines), rows=rows)
 
 
 def dates_of_two_readings(provider, source):
@@ -167,8 +167,10 @@ def sorted_apart(lines):
 
 def in_notes(lines):
     """The coverage is in the notes and nowhere else."""
-    places = [tables.COLUMNS.index(name) for name in ("date_first_issue_online", "num_first_vol_online",
-                                                      "date_last_issue_online")]
+    places = [
+        tables.COLUMNS.index(name)
+        for name in ("date_first_issue_online", "num_first_vol_online", "date_last_issue_online")
+    ]
     for line in lines[1:]:
         line[tables.COLUMNS.index("notes")] = "1995-2003"
         for place in places:
@@ -186,8 +188,10 @@ def one_wrong_digit(provider, source):
     stable = {row.printed for row in provider.rows if row.first == "1990"}  # the probes' titles
     at = next(at for at, row in reversed([*enumerate(provider.rows)]) if row.printed not in stable)
     row = dataclasses.replace(provider.rows[at], printed=wrong(provider.rows[at].printed))
-    rows = (*provider.rows[:at], row, *provider.rows[at + 1:])
-    return Slip(USED, ("check digits of print_identifier wrong: 1 of ",), data=tables.file_of(provider, rows), rows=rows)
+    rows = (*provider.rows[:at], row, *provider.rows[at + 1 :])
+    return Slip(
+        USED, ("check digits of print_identifier wrong: 1 of ",), data=tables.file_of(provider, rows), rows=rows
+    )
 
 
 def total_among_rows(provider, source):
@@ -233,7 +237,7 @@ KINDS = {
     ),
     "a spreadsheet": no_table(
         lambda provider: tables.zipped({"[Content_Types].xml": "x", "xl/workbook.xml": "x"}),
-        "a spreadsheet: save it as text with tabs",
+        "a spreadsheet whose XML is cut short or damaged",
     ),
     "UTF-16 without its mark": no_table(
         lambda provider: tables.text_of(cells(provider)).encode("utf-16-le"), "it has bytes of zero"
@@ -275,22 +279,27 @@ KINDS = {
     "dates of two readings": dates_of_two_readings,
     "a table too large": too_large,
     "check digits of print numbers": bad_cells(
-        "print_identifier", wrong, "check digits of print_identifier wrong", 0.5),
+        "print_identifier", wrong, "check digits of print_identifier wrong", 0.5
+    ),
     "check digits of online numbers": bad_cells(
-        "online_identifier", wrong, "check digits of online_identifier wrong", 0.5),
+        "online_identifier", wrong, "check digits of online_identifier wrong", 0.5
+    ),
     "no first dates": bad_cells("date_first_issue_online", lambda _: "", "no first date in any row"),
     "first dates to come": bad_cells("date_first_issue_online", lambda _: "2041-05", "first dates after today"),
     "sessions in addresses": bad_cells("title_url", visited, "session identifiers in addresses"),
     "the proxy of another library": bad_cells("title_url", proxied, "the proxy of another library in addresses"),
     "a text in another spelling": bad_cells(
-        "coverage_depth", lambda _: "Full Text", "new texts that rules do not compare with", 0.5),
+        "coverage_depth", lambda _: "Full Text", "new texts that rules do not compare with", 0.5
+    ),
     "rules without rows": bad_cells("coverage_depth", lambda _: "selected articles", "rules that hold on no row"),
     "volumes in words": bad_cells(
-        "num_first_vol_online", lambda cell: cell and f"Vol. {cell}", "volumes or issues that are no number"),
+        "num_first_vol_online", lambda cell: cell and f"Vol. {cell}", "volumes or issues that are no number"
+    ),
     "damaged letters": bad_cells("publication_title", damaged, "damaged letters in titles"),
     "titles in capitals": bad_cells("publication_title", str.upper, "titles in capitals"),
-    "titles sorted apart": bad_table(lambda lines: text(sorted_apart(lines)),
-                                     "  {file}: numbers known under other titles: "),
+    "titles sorted apart": bad_table(
+        lambda lines: text(sorted_apart(lines)), "  {file}: numbers known under other titles: "
+    ),
     "abstracts alone": bad_cells("coverage_depth", lambda _: "abstracts", "abstracts alone"),
     "embargoes in notes": bad_table(lambda lines: text(embargoes_in_notes(lines)), "  {file}: embargoes in notes: "),
     "coverage in notes": bad_table(lambda lines: text(in_notes(lines)), "  {file}: coverage in notes: "),

@@ -159,8 +159,8 @@ class Year:
         for text in self.machine.left_over(self.vendors):
             self.fault(f"left over: {text}")
         program, workers = self.machine.pids()
-        self.peaks["program"] = max(self.peaks["program"], *map(most_megabytes, program))
-        self.peaks["nginx"] = max(self.peaks["nginx"], *map(most_megabytes, workers))
+        self.peaks["program"] = max([self.peaks["program"], *map(most_megabytes, program)])
+        self.peaks["nginx"] = max([self.peaks["nginx"], *map(most_megabytes, workers)])
         self.peaks["disk"] = max(self.peaks["disk"], self.machine.megabytes_in_use())
 
     def check_mail(self):

@@ -1,4 +1,5 @@
 """The work of openlink-update: one library, several, or other machines."""
+import dataclasses
 import os
 from pathlib import Path
 
@@ -32,6 +33,15 @@ from openlink_update.update_options import LIBRARY, Options
 from openlink_update.versions import shared_tables
 from openlink_update.versions.library import Library
 from openlink_update.weekly_run import Run
+
+
+@dataclasses.dataclass(frozen=True)
+class _End:
+    """How the work ended: its exit status, and what ended it early. After a signal nothing more is begun."""
+
+    status: int
+    fault: str = ""
+    is_by_signal: bool = False
 
 
 def main(words: list[str] | None = None) -> int:
@@ -87,9 +97,10 @@ def _update_one(options: Options) -> int:
     run_notes.hear(recorder.add)
     user = sandbox_of(options, library, site, options.input or library.path("input"))
     run = (Receiver if options.receive else Run)(library, site, options, user, others)
-    status, fault = _end_of(run, options)
-    if fault:
-        status = _settle(run, options, status, fault)
+    end = _end_of(run, options)
+    status = end.status
+    if end.fault:
+        status = _settle(run, options, status, end.fault)
     elif not options.dry_run and library.current() and run.processes.is_down():
         report(f"openlink-update: no process answers: ports {', '.join(map(str, site.ports))}", "stderr")
         status = DEVICE
@@ -98,7 +109,7 @@ def _update_one(options: Options) -> int:
         recorder.write(library, status)
     run_notes.hear(None)
     lock.close()
-    if not options.dry_run:
+    if not options.dry_run and not end.is_by_signal:
         writing.write(library, site, user, options.program)
     return status
 
@@ -117,21 +128,20 @@ def _settle(run: Run, options: Options, status: int, fault: str) -> int:
     return status
 
 
-def _end_of(run: Run, options: Options) -> tuple[int, str | None]:
-    """The exit status of the work, and what ended it early."""
+def _end_of(run: Run, options: Options) -> _End:
     try:
         try:
-            return _work(run, options), None
+            return _End(_work(run, options))
         finally:
             ignore_signals()
     except Interrupted as ending:
-        return WENT_BACK, f"ended by {ending}"
+        return _End(WENT_BACK, f"ended by {ending}", is_by_signal=True)
     except Failure as failure:
-        return failure.status, str(failure)
+        return _End(failure.status, str(failure))
     except OSError as fault:
-        return DEVICE, f"{fault.filename or options.library}: {fault.strerror}"
+        return _End(DEVICE, f"{fault.filename or options.library}: {fault.strerror}")
     except Exception as fault:  # a bug in the package: the version before is to be served then too
-        return DEVICE, f"{type(fault).__name__}: {fault}"
+        return _End(DEVICE, f"{type(fault).__name__}: {fault}")
 
 
 def _work(run: Run, options: Options) -> int:

@@ -28,10 +28,10 @@ _BLOCK = 2**20  # bytes that are read at once
 _MOST_LINE = 2**17  # bytes; nginx writes shorter ones
 _MOST_MONTHS = 1200
 _MOST_SOURCES = 10_000  # of a month; only an attack has more
-_MOST_SOURCES_IN_ALL = 100_000
+_MOST_SOURCES_IN_ALL = 60_000
 _MOST_TARGETS_IN_ALL = 50_000  # with months
-_MOST_TITLES_IN_ALL = 100_000  # followed, with months and targets
-_MOST_VAIN_IN_ALL = 100_000  # with months
+_MOST_TITLES_IN_ALL = 60_000  # followed, with months and targets
+_MOST_VAIN_IN_ALL = 60_000  # with months
 _MOST_NAME = 100  # bytes of a source or a target
 
 _PROBE = b"info:sid/openlink:probe"
@@ -47,15 +47,17 @@ _TARGET = re.compile(rb"target=([A-Za-z0-9_.-]{1,100})")
 _NUMBER = re.compile(_ISSN_OR_ISBN)
 _YEAR = re.compile(rb"[12]\d{3}|-")
 
-# Lines of requests as the front door writes them, with the month, the status, how the number of links begins, the
-# targets, the status of an error and the source. Then those of other paths, and last any other line.
+# Lines of requests as the front door writes them, with the month, whether it is a redirect, how the number of links
+# begins, the targets of a redirect or those that were shown, the status of an error and the source. Then those of other
+# paths and of paths with spaces, and last any other line.
 _REQUEST_LINES = re.compile(
-    rb"^(?:(\d{4}-[01]\d)\S{18} (?:([123]\d\d) \S+ /(?:find(?:\.json)?|go|fault) \S+ "
-    rb"found=(?:(0/0(?= )|0/(?=\d+ )|\d(?=\d*/\d+ ))[\d/]*(?: targets=([A-Za-z0-9_.,-]*))?|(?: targets=)?)"
-    rb"|([45]\d\d) \S+ /(?:find(?:\.json)?|go|fault) \S+ found=\S*(?: targets=\S*)?)"
+    rb"^(?:(\d{4}-[01]\d)-..T[!-~]{14} (?:(?:(302)|[123]\d\d) [!-~]+ /(?:find(?:\.json)?|go|fault) [!-~]+ "
+    rb"found=(?:(0/0(?= )|0/(?=\d+ )|\d(?=\d*/\d+ ))[\d/]*"
+    rb"(?: targets=(?(2)([A-Za-z0-9_.,-]*)|([A-Za-z0-9_.,-]*)))?|(?: targets=)?)"
+    rb"|([45]\d\d) [!-~]+ /(?:find(?:\.json)?|go|fault) [!-~]+ found=[!-~]*(?: targets=[!-~]*)?)"
     rb" from=(?!info:sid/openlink:probe$)([A-Za-z0-9_:./-]{0,100})"
-    rb"|\d{4}-[01]\d\S{18} [1-5]\d\d \S+ (?!/(?:find(?:\.json)?|go|fault) )/\S* \S+ found=\S* targets=\S* from=\S*"
-    rb"|(.+))$\n?",
+    rb"|\d{4}-[01]\d-..T[!-~]{14} [1-5]\d\d [!-~]+ (?:(?!/(?:find(?:\.json)?|go|fault) )/[!-~]*|/[!-~]* .*)"
+    rb" [!-~]+ found=[!-~]* targets=[!-~]* from=[!-~]*|(.+))$\n?",
     re.M,
 )
 # Lines of links that were followed, with the month, the target and the number; and any other line.
@@ -140,20 +142,29 @@ class Counts:
             self._add_requests(columns)
 
     def _add_requests(self, columns: Sequence[tuple[bytes, ...]]) -> None:
-        months, statuses, found, targets, errors, sources, _ = columns
-        for (month, error, start, source), number in Counter(zip(months, errors, found, sources)).items():
-            if month and not self._is_counted(month, number):
-                continue
-            if error:
-                self._plain[month, ERRORS, error] += number
-            elif start:
-                self._add_request(month, start, source, number)
-        lists: defaultdict[tuple[bytes, bool], list[bytes]] = defaultdict(list)
-        for month, status, names in zip(months, statuses, targets):
-            if names:
-                lists[month, status == _REDIRECT].append(names)
-        for (month, is_followed), texts in lists.items():
-            self._add_targets(month, is_followed, b",".join(texts))
+        months = Counter(columns[0])
+        del months[b""]
+        if len(months) == 1:
+            self._add_month(*months.popitem(), columns)
+            return
+        by_month: defaultdict[bytes, list[tuple[bytes, ...]]] = defaultdict(list)
+        for line in zip(*columns):
+            by_month[line[0]].append(line)
+        for month in months:
+            self._add_month(month, months[month], tuple(zip(*by_month[month])))
+
+    def _add_month(self, month: bytes, number: int, columns: Sequence[tuple[bytes, ...]]) -> None:
+        """Counts the requests of a month; lines that are none are among them, with empty cells."""
+        _, _, found, followed, shown, errors, sources, _ = columns
+        if not self._is_counted(month, number):
+            return
+        for error, times in Counter(filter(None, errors)).items():
+            self._plain[month, ERRORS, error] += times
+        for (start, source), times in Counter(zip(found, sources)).items():
+            if start:
+                self._add_request(month, start, source, times)
+        for targets, names in (self._followed, followed), (self._shown, shown):
+            self._add_targets(targets, month, b",".join(filter(None, names)))
 
     def _is_counted(self, month: bytes, number: int) -> bool:
         """Whether a month has a place; its lines have another form if it has none."""
@@ -181,12 +192,10 @@ class Counts:
         if found == b"0/0":
             self._plain[month, WITHOUT_LINK, b""] += number
 
-    def _add_targets(self, month: bytes, is_followed: bool, names: bytes, number: int = 1) -> None:
-        if month not in self._months:
-            return
-        counted = self._followed if is_followed else self._shown
-        for name, times in Counter(names.split(b",")).items():
-            counted.add(month, name if len(name) <= _MOST_NAME else OTHERS.encode(), times * number)
+    def _add_targets(self, targets: _Names, month: bytes, names: bytes, number: int = 1) -> None:
+        if names:
+            for name, times in Counter(names.split(b",")).items():
+                targets.add(month, name if len(name) <= _MOST_NAME else OTHERS.encode(), times * number)
 
     def _add_followed(self, month: bytes, target: bytes, isn: bytes, number: int) -> None:
         if month and self._is_counted(month, number):
@@ -233,9 +242,8 @@ class Counts:
             self.unread += number
         elif self._is_counted(month, number):
             self._add_request(month, found.removeprefix(b"found="), source, number)
-            names = fields[6].removeprefix(b"targets=") if len(fields) == 8 else b""
-            if names:
-                self._add_targets(month, status == _REDIRECT, names, number)
+            targets = self._followed if status == _REDIRECT else self._shown
+            self._add_targets(targets, month, fields[6].removeprefix(b"targets=") if len(fields) == 8 else b"", number)
 
 
 def counts_of(files: Iterable[Readable]) -> Counts:

@@ -18,6 +18,7 @@ from openlink_update import run_records
 from openlink_update.desk import logs, site_files, templates_in
 from openlink_update.desk.site_files import STATE, Source
 from openlink_update.disk import sync, sync_disk
+from openlink_update.machines.libraries import SITE
 from openlink_update.outcome import Failure
 from openlink_update.rights import handover
 from openlink_update.rights.lent_files import Lent
@@ -35,6 +36,8 @@ def write(library: Library, site: Site, sandbox: Sandbox, program: str) -> bool:
     """Whether the desk was written, or need not be. What fails is said, and the one before is shown."""
     try:
         folder = library.path(_FOLDER)
+        if (folder / SITE).exists():
+            raise Failure(f"{folder} is a library: give it another name")
         folder.mkdir(exist_ok=True)
         if not templates_in.are_there():
             _say_missing(folder / _MISSING)

@@ -32,11 +32,13 @@ _RESERVED = (
     "updated",
     "versions",
 )
+_LATER = ("desk", "runs")  # folders of a library, which a library of an earlier release may have as its name
 SITE, LOCAL, MAIL, REPORT, SHARED = "site.conf", "local.conf", "mail", "report", "shared"
 
 
 def is_name(text: str) -> bool:
-    return len(text) <= _MOST and _NAME.fullmatch(text) is not None and text not in _RESERVED
+    """Whether a new library may have this name."""
+    return len(text) <= _MOST and _NAME.fullmatch(text) is not None and text not in (*_RESERVED, *_LATER)
 
 
 class Libraries:
@@ -50,7 +52,7 @@ class Libraries:
     def names(self) -> list[str]:
         """The names of all libraries in their order."""
         names = sorted(os.listdir(self.folder)) if self.folder.is_dir() else []
-        return [name for name in names if is_name(name) and self.path(name, SITE).is_file()]
+        return [name for name in names if (is_name(name) or name in _LATER) and self.path(name, SITE).is_file()]
 
     def check(self, names: Iterable[str]) -> None:
         """A Failure says which of these is no library."""

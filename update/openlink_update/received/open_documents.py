@@ -1,4 +1,5 @@
-"""Spreadsheets as .ods (OASIS Open Document): of each cell what people see but for the forms of numbers and dates. Cells
+"""Spreadsheets as .ods (OASIS Open Document): of each cell what people see but for the forms of numbers and dates.
+Cells
 and rows that are repeated are made only where text comes after them."""
 import datetime
 

@@ -1,4 +1,5 @@
-"""The table of a web page. Pages come from strangers, and the parser of the standard library looks at the rest of a page
+"""The table of a web page. Pages come from strangers, and the parser of the standard library looks at the rest of a
+page
 again and again if its marks are never closed, so a page is divided into tags and texts here, in one pass."""
 import html
 import re

@@ -50,7 +50,8 @@ def _version() -> int:
 
 
 def close(read: Iterable[Path], written: Path) -> None:
-    """Closes all files but those of programs, some more that are read, and a folder. An OSError if the kernel cannot."""
+    """Closes all files but those of programs, some more that are read, and a folder. An OSError if the kernel
+    cannot."""
     found = _version()
     if not found:
         raise OSError(errno.ENOSYS, "this kernel cannot close files, by Landlock")

@@ -1,6 +1,6 @@
-"""Programs of a library that change the files of a target before they are prepared. One is a file in the folder `filters`
-of the input, which root has allowed by its name in a list beside the input. It reads a file as it came, and writes what
-is prepared in its place:
+"""Programs of a library that change the files of a target before they are prepared. One is a file in the folder
+`filters` of the input, which root has allowed by its name in a list beside the input. It reads a file as it
+came, and writes what is prepared in its place:
 
     LIBRARY/filter/program, data    the program, and the file, which root puts there for it
     LIBRARY/filter/out, err         what it writes, and complains of
@@ -163,8 +163,8 @@ def _how(code: int) -> str:
 
 def filtered(place: Place, program: bytes, data: bytes, user: Sandbox) -> bytes:
     """What a program gives for the bytes of a file. Unreadable if it fails, or gives nothing or too much."""
-    place.prepare(program, data, user.number)
     try:
+        place.prepare(program, data, user.number)
         fault = user.run(Job(place.run, (place.empty,), has_network=False))
         given = place.given()
         if len(given) > _MOST_GIVEN:
@@ -176,6 +176,8 @@ def filtered(place: Place, program: bytes, data: bytes, user: Sandbox) -> bytes:
         return given
     except Failure as failure:
         raise Unreadable(str(failure)) from failure
+    except OSError as fault_of_disk:
+        raise Unreadable(f"{fault_of_disk.filename or place.folder}: {fault_of_disk.strerror}") from fault_of_disk
     finally:
         place.remove()
 

@@ -71,9 +71,9 @@ def _bytes_of(match: "re.Match[str] | None") -> int | None:
 
 class Site:
     """What the site of the front door (openlink.conf) and the files that it includes say: the module, its texts and its
-    languages, how nginx asks the processes, targets.json, the ports of the processes, the base URL, the logs, and whether
-    there is a list of titles. For a library of several, `machine` is the openlink.conf that has the module and the languages
-    of all."""
+    languages, how nginx asks the processes, targets.json, the ports of the processes, the base URL, the logs, and
+    whether there is a list of titles. For a library of several, `machine` is the openlink.conf that has the module and
+    the languages of all."""
 
     def __init__(self, path: str | Path, machine: str | Path | None = None) -> None:
         self.path, text = path, _text_with_includes(path)

@@ -42,6 +42,11 @@ class Material:
         """Whether no row is shorter than the header."""
         return min(map(len, self.table.rows), default=0) >= len(self.table.columns)
 
+    def forget(self) -> None:
+        """Gives back the memory of columns, which are made again if they are asked for."""
+        self._columns.clear()
+        self._small_texts.clear()
+
     def has(self, column: str) -> bool:
         return column in self.table.columns
 

@@ -8,8 +8,9 @@ from openlink_update.slips.material import Found, Pair
 _MOST_CELLS = 3  # of a row of a total or a footnote
 _NO_TITLE = re.compile(
     r"\W*(?:(?:grand |sub-?|overall )?totals?\b|sum(?:me)?\b|(?:ins)?gesamt|number of "
-    r"|\d+ (?:titles|records|rows|journals)\b|(?:titles|records|rows)\b\W*\d|©|\(c\)|copyright\b|sources?:|notes?:|footnotes?\b|as of\b|report\b|generated\b"
-    r"|exported\b|created\b|printed\b|(?:last )?updated\b|disclaimer\b|end of |all rights|please\b|for questions|stand:)"
+    r"|\d+ (?:titles|records|rows|journals)\b|(?:titles|records|rows)\b\W*\d|©|\(c\)|copyright\b|sources?:|notes?:"
+    r"|footnotes?\b|as of\b|report\b|generated\b|exported\b|created\b|printed\b|(?:last )?updated\b|disclaimer\b"
+    r"|end of |all rights|please\b|for questions|stand:)"
     r"|\*|.*\S@\S+\.\S",
     re.I,
 )

@@ -79,7 +79,10 @@ class SlipJudge:
         self._lines[name] += self._lines_of_new(name, found)
 
     def _founds(self, now: Material, before: Material | None, clean: frozenset[str] = frozenset()) -> _Founds:
-        return _founds(Pair(now, before, self._today, self._others.of, clean))
+        found = _founds(Pair(now, before, self._today, self._others.of, clean))
+        for material in filter(None, (now, before)):
+            material.forget()
+        return found
 
     def _first_of(self, name: str, before: Material) -> _Founds:
         """The slips of a table in use that is looked at for the first time, which are allowed from now on."""
@@ -89,7 +92,8 @@ class SlipJudge:
         found = self._founds(before, None)
         found = {kind.words: found[kind.words] for kind in kinds if kind.words in found}
         self._lines[name] = [
-            f'{_text_of(words, it)}, the first "{_safe(it.example)}": the table in use has it, so it is allowed from now on'
+            f'{_text_of(words, it)}, the first "{_safe(it.example)}": the table in use has it, so it is allowed from '
+            "now on"
             for words, it in found.items()
         ]
         return found
@@ -119,8 +123,8 @@ class SlipJudge:
         return {kind.words: it.count for kind in KINDS if (it := self._found.get(name, {}).get(kind.words))}
 
     def reasons(self, name: str, allowed: Collection[str], numbers: Mapping[str, int]) -> list[str]:
-        """Why the files in which slips were looked for cannot be used. `allowed` are the words of the target's line, and
-        `numbers` says up to how many rows those without a number allow."""
+        """Why the files in which slips were looked for cannot be used. `allowed` are the words of the target's line,
+        and `numbers` says up to how many rows those without a number allow."""
         reasons = []
         for kind in KINDS:
             it = self._found[name].get(kind.words)

@@ -15,8 +15,8 @@ _WORD = re.compile(r"\w{4,}")
 _STEM = 4  # letters of a word that are compared, so that an abbreviation is the same
 # The stems of words that titles share by chance.
 _USUAL = set(
-    "jour inte rese stud revi scie anna proc hand intr hist theo appl euro amer with from zeit revu reva bull tran soci "
-    "univ worl adva".split()
+    "jour inte rese stud revi scie anna proc hand intr hist theo appl euro amer with from zeit revu reva bull tran "
+    "soci univ worl adva".split()
 )
 _MOST_TRIED, _MOST_OTHER = 2000, 10  # rows that are compared first, and in 100, those with another title
 _LETTERS = 10  # of a title in capitals; shorter ones are names, such as PLOS ONE

@@ -1,6 +1,6 @@
 """Dates in the cells of a table as the standard writes them: YYYY, YYYY-MM or YYYY-MM-DD. A date that can be read in
-two ways becomes its year, and a day that does not exist its month; with dots the day comes first. A date without a year, or with two, stays as it is,
-for `inspect` to warn of."""
+two ways becomes its year, and a day that does not exist its month; with dots the day comes first. A date without a
+year, or with two, stays as it is, for `inspect` to warn of."""
 import datetime
 import re
 

@@ -80,7 +80,7 @@ def _with_identifiers(header: list[str], rows: _Rows) -> tuple[_Rows, list[str]]
         if len(cell) >= _LEAST:
             old, cell = cell, _number_alone(cell)
             after += cell != old
-            old, cell = cell, numbers_in_cells.after_word(cell)
+            old, cell = cell, numbers_in_cells.without_words(cell)
             before += cell != old
             old, cell = cell, _long_isbn(cell)
             isbns += cell != old

@@ -1,5 +1,5 @@
-"""Embargoes in words, as KBART writes them where one reading is possible: a number, a unit, and words that only say that
-the last months are closed. What else is in the cell leaves it as it is, such as `last 5 years only`."""
+"""Embargoes in words, as KBART writes them where one reading is possible: a number, a unit, and words that only say
+that the last months are closed. What else is in the cell leaves it as it is, such as `last 5 years only`."""
 import functools
 import re
 import unicodedata

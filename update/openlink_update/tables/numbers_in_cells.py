@@ -22,11 +22,9 @@ _MOST_OF_TWO = 200
 _LEAST_DIGITS, _ISSN, _ISBN = 5, 8, 10
 
 
-def after_word(cell: str) -> str:
-    """The number after a word that says what it is; the cell itself if there is no such word, or no number."""
-    match = _WORD.match(cell)
-    rest = cell[match.end() :] if match else ""
-    return rest if rest and form_of(rest) else cell
+def without_words(cell: str) -> str:
+    """The number of a cell without words beside it that say what it is; the cell itself if it has no number."""
+    return _alone(cell) or cell
 
 
 def _alone(part: str) -> str:

@@ -1,5 +1,5 @@
-"""Dates such as 3/4/1995, which can be read with the day first or with the month first: the other dates of the column in
-the same file decide, if all of those that can be read in one way alone have the same order."""
+"""Dates such as 3/4/1995, which can be read with the day first or with the month first: the other dates of the column
+in the same file decide, if all of those that can be read in one way alone have the same order."""
 import re
 from collections.abc import Iterable, Sequence
 

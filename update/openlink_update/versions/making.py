@@ -459,21 +459,23 @@ class Maker:
             reasons.append(f"{target.table}: {amount(after, 'row')}, and at least {target.options.least} must be there")
         if after * 2 < before and FEWER not in target.allowed:
             reasons.append(f"{target.table}: {FEWER}: {after}, and {before} before; to allow it: {FEWER}")
-        return reasons
+        return reasons + [f"{target.table}: {line}" for line in prepared.missing if reasons]
 
     def _say_changes(self, name: str, old: _Files | None, new: _Files) -> None:
-        table = new.prepared.table
+        table, is_read_anew = new.prepared.table, True
         if old is None:
             self._report(f"{name}: new, {amount(len(table.rows), 'row')}")
         else:
             changes = [] if new.rules == old.rules else ["rules changed"]
             changes += [] if new.options.proxy == old.options.proxy else ["proxy changed"]
-            if new.read != old.read:
+            is_read_anew = new.read != old.read or not new.options.reads_as(old.options)
+            changes += [] if new.options.reads_as(old.options) else ["options changed"]
+            if is_read_anew:
                 added, gone = self._moved = row_changes.changes(old.table_or_empty, table)
                 changes.append(f"{amount(added, 'row')} added, {gone} gone")
             self._report(f"{name}: {', '.join(changes)}")
         lines = self._judge.write_changes(name) if old else []
-        prepared = new.filter_lines() + new.prepared.lines if old is None or new.read != old.read else []
+        prepared = new.filter_lines() + new.prepared.lines if is_read_anew else []
         day = self._earlier.day_of(name)
         if old and day and table != old.table_or_empty:
             self._report(f"  the table of {day} again")

@@ -6,7 +6,8 @@ use Rattle.rule_lint.proofs.review.lint.Goals as goal
 
 pub invariant_of-target-clause-starts_of_lists : goal.invariant_of-target-clause-starts_of_lists
 invariant_of-target-clause-starts_of_lists c =
-    subst (λ names. AreSearchStarts c.multiplier_of-multiplier.result c.in_ok-starts_of.field-0 (texts_of names)) c.deref.ensures.value c.in_ok-starts_of.ensures
+    subst (λ names. AreSearchStarts c.multiplier_of-multiplier.result c.in_ok-starts_of.field-0 (texts_of names))
+    c.deref.ensures.value c.in_ok-starts_of.ensures
 
 pub invariant_of-target-clause-starts_of_columns : goal.invariant_of-target-clause-starts_of_columns
 invariant_of-target-clause-starts_of_columns c =

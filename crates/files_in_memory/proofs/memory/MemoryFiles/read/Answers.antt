@@ -8,12 +8,12 @@ pub returns-in_err-from_slice-in-Some-File-clause-absent : goal.returns-in_err-f
 returns-in_err-from_slice-in-Some-File-clause-absent c none =
     let there : File c.in-Some-File.bytes.items ≡ Absent =
     ap (λ content. found_of (Some content)) (sym c.in-Some-File.field-0-is)
-    ∙ ap found_of c.in-Some-File.ensures.value ∙ none in
+    ∙ sym c.in-Some-File.ensures.some ∙ none in
     absurd (cc there)
 
 pub returns-in_ok-from_slice-in-Some-File-clause-absent : goal.returns-in_ok-from_slice-in-Some-File-clause-absent
 returns-in_ok-from_slice-in-Some-File-clause-absent c none =
     let there : File c.in-Some-File.bytes.items ≡ Absent =
     ap (λ content. found_of (Some content)) (sym c.in-Some-File.field-0-is)
-    ∙ ap found_of c.in-Some-File.ensures.value ∙ none in
+    ∙ sym c.in-Some-File.ensures.some ∙ none in
     absurd (cc there)
