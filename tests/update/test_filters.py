@@ -334,10 +334,9 @@ class Bounds(_Run):
             self.expect("no end", self.shell("sleep 1000; echo x").startswith("fault: no end within "))
             self.expect("it was ended", time.monotonic() - begun < 100)
 
+    @needs.root()
     def test_time_of_root(self) -> None:
         """What its own process does not end, root does."""
-        if self.user is None:
-            self.skipTest("root alone has another user")
         with mock.patch("openlink_update.rights.filters._MORE_SECONDS", -298):
             said = self.shell("sleep 1000; echo x")
         self.expect("no end", said, "fault: no end within 0.0333333 minutes, so it was ended")
@@ -348,9 +347,8 @@ class Bounds(_Run):
         self.expect("above it", self.shell(line.format(1024)), "fault: status 1")
         self.expect("the limit", self.shell("ulimit -v"), "1048576\n")
 
+    @needs.root()
     def test_processes(self) -> None:
-        if self.user is None:
-            self.skipTest("root has no limit of processes")
         script = "i=0; while [ $i -lt {} ]; do sleep 30 & i=$((i + 1)); done; echo x"
         # The process that started it, its shell, and 62 more.
         self.expect("as many as it may", self.shell(script.format(62)), "x\n")
