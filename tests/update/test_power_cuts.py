@@ -106,11 +106,11 @@ class PowerCuts(Case):
             library.input.deliver("B")
             library.input.add_row("coastal-law", b"Walls\t3040-0007\t\t2000\t\t\t\t\t\thttps://x.example.org\t\tw\tP9M")
             for name, options, syncs in (
-                ("a week", (), 7),
-                ("back", ("--back",), 3),
-                ("forward", (), 7),
-                ("nothing new", (), 2),
-                ("walls", ("--walls",), 5),
+                ("a week", (), 9),
+                ("back", ("--back",), 5),
+                ("forward", (), 9),
+                ("nothing new", (), 4),
+                ("walls", ("--walls",), 7),
             ):
                 if name == "walls":
                     path = library.path("current", "tables", "coastal-law.txt")
@@ -125,8 +125,9 @@ class PowerCuts(Case):
                 spoilt = without_each_sync(trace, library.folder, calls)
                 self.expect(f"{name}: calls that wait for the disk", len(spoilt), syncs)
                 for number, (place, losses) in enumerate(spoilt):
-                    # That `before` is removed need not be on the disk before the name that follows it.
-                    is_last = name in ("a week", "forward") and number == len(spoilt) - 3
+                    # That `before` is removed need not be on the disk before the name that follows it. The last two
+                    # are those of the record of the run.
+                    is_last = name in ("a week", "forward") and number == len(spoilt) - 5
                     self.expect(f"{name}: without {calls[place]}: {losses}", losses != Losses([], [], []), not is_last)
 
 
