@@ -129,7 +129,9 @@ class Hostile(Case):
             self.expect(f"the status of {name}: {lines}", lines[0], "4" if name in hostile else "0")
             stays = f"{os.path.basename(old[name])} stays in use"
             wanted = [f"openlink-update: {hostile[name]}", stays] if name in hostile else lines[-2:]
-            self.expect(f"the end of {name}", lines[-2:], wanted)
+            # What has no room for a version has none for the pages of the desk.
+            wanted += [f"the desk was not written: {hostile[name]}"] if name == "disk" else []
+            self.expect(f"the end of {name}", lines[-len(wanted) :], wanted)
         for line in (f"{name}:" for name in NAMES):
             self.expect(f"the mail has {line}", line in printed.splitlines())
         self.expect("in time", took < float(self.minutes) * 60 + patience(60))
