@@ -58,7 +58,7 @@ class Recorder:
         try:
             folder.mkdir(exist_ok=True)
             data = json.dumps(dataclasses.asdict(self._record(library, status))).encode()
-            _place(folder / f"{self._begun}.{self._work}.json", data)
+            _place(_free_path(folder, self._begun, self._work), data)
             _remove_old(folder, self._work)
         except OSError as fault:
             report(f"no record of this run: {fault.filename or folder}: {fault.strerror}")
@@ -165,6 +165,14 @@ def _in_use(library: Library) -> str:
         return library.current() or ""
     except (Failure, OSError):  # the run has said so
         return ""
+
+
+def _free_path(folder: Path, begun: str, work: str) -> Path:
+    """The path of a record. Of two runs that begin in one second the later has the name of the next one."""
+    second = datetime.datetime.strptime(begun, STAMP)
+    while (path := folder / f"{second.strftime(STAMP)}.{work}.json").exists():
+        second += datetime.timedelta(seconds=1)
+    return path
 
 
 def _place(path: Path, data: bytes) -> None:
