@@ -1,4 +1,4 @@
-"""The numbers of slips, and of the words that allow something."""
+"""The bounds of slips, and of the texts that allow them."""
 from __future__ import annotations
 
 import datetime

@@ -182,7 +182,7 @@ class NoHeader(Case):
 
     def test_widths(self) -> None:
         says = (
-            "file 1: no header: 4 names for lines of at most so many cells: 3 with tabs, 1 "
+            "file 1: no header: 4 names, but the longest line has other numbers of cells: 3 with tabs, 1 "
             "with commas, 1 with semicolons"
         )
         self.expect("no line has as many", read(NO_HEADER, "Tides\tPress\t2901-0012\n"), [says])

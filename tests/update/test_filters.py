@@ -240,7 +240,7 @@ class Runs(_Run):
             "what it gives": "echo x >../new",
             "other programs' processes": "cat /proc/1/cmdline",
             "the settings of the machine": "cat /etc/hostname /etc/fstab",
-            "the folder of all": f"touch /tmp/{self.top.name}.filter",
+            "the folder of all": f"touch {tempfile.gettempdir()}/{self.top.name}.filter",
             "a socket": "/usr/bin/python3 -c 'import socket; socket.socket()'",
         }
         for name, line in closed.items():

@@ -26,7 +26,7 @@ from openlink_update.site.probing import Difference, Probes, Trial
 from openlink_update.site.processes import Processes
 from openlink_update.tables import coverage, parts
 from openlink_update.update_options import Options
-from openlink_update.versions import making, same_files, shared_tables, target_list
+from openlink_update.versions import making, same_files, shared_tables, target_files, target_list
 from openlink_update.versions.library import Library
 from openlink_update.versions.making import Maker
 from openlink_update.versions.program import Program
@@ -155,7 +155,7 @@ class Run:
 
     def _made(self, plan: "_Plan", unfinished: Path, older: Path | None) -> str:
         """Makes a version as the library's user. Returns a word, and what became of targets whose files were bad."""
-        received = [Lent(making.received_in(older))] if older else []
+        received = [Lent(target_files.received_in(older))] if older else []
         inputs = [Lent(root, frozenset({sources.SECRETS})) for root in plan.folder.folders()]
         self.sandbox.own(unfinished)
 
@@ -195,7 +195,7 @@ class Run:
             shared_tables.asked = parent.prepared
         Probes(folder, "probes.tsv")  # a line that is wrong is said before the work begins
         if older:
-            received = parent.lent(making.received_in(older))
+            received = parent.lent(target_files.received_in(older))
         program = Program(self._program, unfinished)
         maker = Maker(unfinished, older, program, datetime.date.today(), report, received, parent.filtered)
         word = plan.make(maker, folder)

@@ -135,7 +135,9 @@ def _separator_of(lines: Sequence[str], naming: Naming) -> str:
     best = max(widths, key=lambda it: widths[it].count(width))
     if width not in widths[best]:
         found = ", ".join(f"{max(counts, default=0)} with {_SEPARATORS[it]}" for it, counts in widths.items())
-        raise Unreadable(f"no header: {amount(width, 'name')} for lines of at most so many cells: {found}")
+        raise Unreadable(
+            f"no header: {amount(width, 'name')}, but the longest line has other numbers of cells: {found}"
+        )
     return best
 
 

@@ -107,7 +107,7 @@ class SlipJudge:
         return (it.count, it.rows) if it is not None and it.count > _usual_most(kind, it.rows) else (0, 0)
 
     def _lines_of_new(self, name: str, first: _Founds) -> list[str]:
-        """What is said of slips that a table did not have, or not in so many rows; those of its first look are said."""
+        """What is said of slips that a table did not have, or in fewer rows; those of its first look are said."""
         lines, before = [], {**self._found_before.get(name, {}), **first}
         for kind in KINDS:
             it, known = self._found[name].get(kind.words), before.get(kind.words)

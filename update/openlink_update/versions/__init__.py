@@ -9,5 +9,6 @@ __all__ = [
     "served",
     "shared_tables",
     "tables_again",
+    "target_files",
     "target_list",
 ]

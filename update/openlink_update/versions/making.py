@@ -23,100 +23,42 @@
 An old table is prepared again before a new one is compared with it, so a newer form of preparation does not look like a
 change by the provider."""
 import contextlib
-import dataclasses
 import datetime
 import filecmp
 import functools
 import gc
 import os
-import re
 import shutil
-from collections.abc import Callable, Iterable, Iterator
+from collections.abc import Callable, Iterator
 from pathlib import Path
 
 from openlink_update import run_notes, target_options
 from openlink_update.index import abbreviations, named_parts, target_heads, title_index
 from openlink_update.index.title_groups import Title
-from openlink_update.input_files import InputFile
-from openlink_update.outcome import Failure, Refused, Unreadable
-from openlink_update.received import patterns
+from openlink_update.outcome import Failure, Refused
 from openlink_update.rights.filters import Filter
 from openlink_update.rights.sandbox import no_filter
 from openlink_update.root_folder import RootFolder
 from openlink_update.rules import compiled, pages, proxies
 from openlink_update.run_notes import TargetState
 from openlink_update.shown_text import amount
-from openlink_update.slips import odd_rows, slip_judge
+from openlink_update.slips import slip_judge
 from openlink_update.slips.material import Material
 from openlink_update.tables import dropped_rows, row_changes
-from openlink_update.tables.preparation import Prepared
 from openlink_update.tables.table import Table
 from openlink_update.target_options import Options
-from openlink_update.versions import earlier_files, host_judge, shared_tables, undated_links
+from openlink_update.versions import earlier_files, host_judge, target_files, undated_links
 from openlink_update.versions.allowed_words import FEWER
 from openlink_update.versions.earlier_files import EarlierFiles
 from openlink_update.versions.judging import Judge
 from openlink_update.versions.prepared_tables import PreparedTables
 from openlink_update.versions.program import Program
 from openlink_update.versions.served import Tables, targets_in
+from openlink_update.versions.target_files import TargetFiles
 from openlink_update.versions.target_list import Target
 
-_RECEIVED, _FILTERED = "received", ".filtered"
 _PART = 2**20  # bytes that are compared at a time
 _OF_THE_OWNER = 0o600  # nginx needs no table as it came: what a library has received is its own
-
-
-@dataclasses.dataclass(frozen=True)
-class _Files:
-    """The files of a target, as they came, and what is prepared from them."""
-
-    rules: bytes
-    tables: tuple[bytes, ...]
-    has_code: bool
-    paths: tuple[str, ...] = dataclasses.field(compare=False)  # of the tables
-    options: Options = target_options.NONE
-    given: tuple[bytes, ...] = ()  # what a filter made of the tables, if the target has one
-    # All of these, as they were read.
-    sources: tuple[InputFile, ...] = dataclasses.field(compare=False, default=())
-
-    def changed(self) -> list[str]:
-        """Why files that have been written since they were read cannot be used. One that was replaced is another."""
-        paths = [source.path for source in self.sources if source.is_changed()]
-        return [f"{path}: it changed while it was read: update again when it is written" for path in paths]
-
-    def filter_lines(self) -> list[str]:
-        """What is said of the filter."""
-        pairs = zip(self.tables, self.given)
-        return [f"filter {self.options.filter}: {len(came):,} bytes became {len(made):,}" for came, made in pairs]
-
-    @functools.cached_property
-    def prepared(self) -> Prepared:
-        """Refused if one of the files cannot be read as a table."""
-        return shared_tables.prepare(list(zip(self.paths, self.read)), self.options)
-
-    @property
-    def read(self) -> tuple[bytes, ...]:
-        """The bytes of the tables that are prepared."""
-        return self.given or self.tables
-
-    @functools.cached_property
-    def material(self) -> Material:
-        """What slips are looked for in; without rows if the table cannot be prepared."""
-        rules, proxy = None if self.has_code else self.rules, self.options.proxy
-        unended = next(filter(None, map(odd_rows.unended_line, self.read)), "")
-        try:
-            it = self.prepared
-        except Refused:
-            return Material(Table((), []), [], [], 0, rules, proxy, unended)
-        return Material(it.table, it.dropped, it.reversed, it.count, rules, proxy, unended)
-
-    @functools.cached_property
-    def table_or_empty(self) -> Table:
-        """The table, or nothing in place of one that cannot be prepared: a version may be older than preparation."""
-        try:
-            return self.prepared.table
-        except Refused:
-            return Table((), [])
 
 
 @contextlib.contextmanager
@@ -130,78 +72,8 @@ def _collecting_nothing() -> Iterator[None]:
         gc.enable()
 
 
-def _material_of(files: _Files) -> Material:
+def _material_of(files: TargetFiles) -> Material:
     return files.material
-
-
-def _files_of(target: Target, filtered: Filter) -> _Files:
-    """The files that the list names for a target. Refused if one of them cannot be read, or if its filter fails."""
-    if target.reasons:
-        raise Refused([*target.reasons])
-    reasons, sources = [], []
-    for number, path in enumerate((target.rules, *target.tables)):
-        try:
-            found = patterns.path_of(path, target.input.matches) if number else path
-            sources.append(target.input.file(found) if number else target.rules_file())
-        except OSError as fault:
-            is_pattern = "*" in path and isinstance(fault, FileNotFoundError)
-            reasons.append(f"{fault.filename or path}: {'no file has such a name' if is_pattern else fault.strerror}")
-    if reasons:
-        raise Refused(reasons)
-    rules, *data = [it.data for it in sources]
-    paths = tuple(str(it.path) for it in sources[1:])
-    given = _given(target.options.filter, list(zip(paths, data)), filtered)
-    return _Files(rules, tuple(data), target.has_code(), paths, target.options, given, tuple(sources))
-
-
-def _given(name: str, files: list[tuple[str, bytes]], filtered: Filter) -> tuple[bytes, ...]:
-    """What the filter with a name gives for files; nothing without a name. Refused if it fails for one."""
-    given, reasons = list[bytes](), list[str]()
-    for path, data in files if name else ():
-        try:
-            given.append(filtered(name, data))
-        except Unreadable as fault:
-            reasons.append(f"{path}: filter {name}: {fault}")
-    if reasons:
-        raise Refused(reasons)
-    return tuple(given)
-
-
-def _received_names(version: Path, name: str) -> list[str]:
-    """The names of the files of a target's table in `received` of a version, in their order."""
-    return _tables_among(os.listdir(version / "received"), name)
-
-
-def _tables_among(files: Iterable[str], name: str) -> list[str]:
-    pattern = re.compile(rf"{re.escape(name)}\.txt(\.\d+)?")
-    return sorted(filter(pattern.fullmatch, files), key=lambda file: (len(file), file))
-
-
-def received_in(version: Path) -> RootFolder:
-    """The folder of a version's files as they came."""
-    return RootFolder(version / _RECEIVED)
-
-
-def files_in(received: RootFolder, name: str, options: Options = target_options.NONE) -> _Files | None:
-    """The files of a target, made with these options, among those that a version has received, or None if it has
-    none."""
-    names = received.names()
-    tables = _tables_among(names, name)
-    for suffix, has_code in ((".rules", False), (".olk", True)):
-        if f"{name}{suffix}" in names and tables:
-            rules, *data = [_content(received, file) for file in (f"{name}{suffix}", *tables)]
-            paths = tuple(str(received.place((file,))) for file in tables)
-            made = [f"{file}{_FILTERED}" for file in tables] if options.filter else []
-            if not set(made) <= set(names):
-                return None
-            given = tuple(_content(received, file) for file in made)
-            return _Files(rules, tuple(data), has_code, paths, options, given)
-    return None
-
-
-def _content(received: RootFolder, name: str) -> bytes:
-    with received.open((name,)) as file:
-        return file.read()
 
 
 class Maker:
@@ -220,7 +92,7 @@ class Maker:
         """`received` opens the files that the older version has received, if this process may not; `filtered` runs a
         filter."""
         self._filtered = filtered
-        self._received = received or (received_in(Path(older)) if older is not None else None)
+        self._received = received or (target_files.received_in(Path(older)) if older is not None else None)
         self._folder, self._older = Path(folder), None if older is None else Path(older)
         self._program, self._today, self._print = program, today, report
         self._said: list[str] = []  # of the target that is being made
@@ -306,9 +178,9 @@ class Maker:
         """The names of the targets of the older version."""
         return targets_in(self._older) if self._older else []
 
-    def _files_before(self, name: str) -> _Files | None:
+    def _files_before(self, name: str) -> TargetFiles | None:
         return (
-            files_in(self._received, name, self._options_before.get(name, target_options.NONE))
+            target_files.files_in(self._received, name, self._options_before.get(name, target_options.NONE))
             if self._received
             else None
         )
@@ -324,11 +196,11 @@ class Maker:
         rows = len(files.table_or_empty.rows) if files else 0
         run_notes.note_target(TargetState(target.name, state, rows, *self._moved, tuple(self._said)))
 
-    def _added(self, target: Target) -> tuple[str, _Files | None]:
+    def _added(self, target: Target) -> tuple[str, TargetFiles | None]:
         """The state of a target that is added, and the files that are used."""
         old, new = self._files_before(target.name), None
         try:
-            new = _files_of(target, self._filtered)
+            new = target_files.files_of(target, self._filtered)
             reasons = [] if new == old else self._reasons_against(target, old, new) + new.changed()
         except Refused as refusal:
             reasons = refusal.reasons
@@ -355,7 +227,7 @@ class Maker:
             return run_notes.CHANGED if old else run_notes.NEW, new
         return run_notes.KEPT if reasons else run_notes.SAME, old
 
-    def _put_again(self, target: Target, old: _Files) -> None:
+    def _put_again(self, target: Target, old: TargetFiles) -> None:
         """Puts the files of the version before, which were good then."""
         reasons = self._put(target, old)
         if reasons:
@@ -376,7 +248,7 @@ class Maker:
         path = self._folder / f"received/{name}.rules"
         return path.read_bytes() if path.exists() else b""
 
-    def _put(self, target: Target, files: _Files) -> list[str]:
+    def _put(self, target: Target, files: TargetFiles) -> list[str]:
         """Writes the files of a target and compiles its rules. Returns why the program rejects them."""
         name = target.name
         self._options[name] = files.options
@@ -387,7 +259,7 @@ class Maker:
             path = f"received/{name}.txt{f'.{number}' if number > 1 else ''}"
             self._write_closed(path, data)
             if files.given:
-                self._write_closed(f"{path}{_FILTERED}", files.given[number - 1])
+                self._write_closed(f"{path}{target_files.FILTERED}", files.given[number - 1])
         try:
             prepared = files.prepared
         except Refused as refusal:
@@ -398,14 +270,14 @@ class Maker:
             self._write(f"dropped/{name}.txt", prepared.dropped_table())
         return reasons + (self._verified(target, files) if files.has_code else self._compiled(target, files))
 
-    def _verified(self, target: Target, files: _Files) -> list[str]:
+    def _verified(self, target: Target, files: TargetFiles) -> list[str]:
         """Why a code file cannot be used."""
         code = f"code/{target.name}.olk"
         self._write(code, files.rules)
         faults = [f"{target.rules}: proxy: only rules can have one, and this is a code file"]
         return self._rejected(target.rules, "verify", code) + (faults if files.options.proxy else [])
 
-    def _compiled(self, target: Target, files: _Files) -> list[str]:
+    def _compiled(self, target: Target, files: TargetFiles) -> list[str]:
         """Compiles the rules of a target, with its proxy if it has one. Returns why they cannot be used."""
         received, code = f"received/{target.name}.rules", f"code/{target.name}.olk"
         reasons = self._rejected(target.rules, "compile", received, code)
@@ -424,12 +296,12 @@ class Maker:
     def _discard(self, name: str) -> None:
         """Removes what a target has in this version."""
         self._tables.discard(name)
-        received = [f"received/{file}" for file in _received_names(self._folder, name)]
+        received = [f"received/{file}" for file in target_files.received_names(self._folder, name)]
         rules = [f"received/{name}.rules", f"received/{name}.olk", compiled.behind(name), f"code/{name}.olk"]
         for place in (*rules, f"dropped/{name}.txt", *received):
             (self._folder / place).unlink(missing_ok=True)
         for place in received:
-            (self._folder / f"{place}{_FILTERED}").unlink(missing_ok=True)
+            (self._folder / f"{place}{target_files.FILTERED}").unlink(missing_ok=True)
 
     def _rejected(self, path: str, *words: str) -> list[str]:
         """Why a command rejects a file that came from a path, as a list of at most one reason."""
@@ -439,7 +311,7 @@ class Maker:
             return [f"{path}: {refusal.reasons[0]}"]
         return []
 
-    def _reasons_against(self, target: Target, old: _Files | None, new: _Files) -> list[str]:
+    def _reasons_against(self, target: Target, old: TargetFiles | None, new: TargetFiles) -> list[str]:
         """Writes the new files of a target, and returns why they cannot be used."""
         try:
             prepared = new.prepared
@@ -461,7 +333,7 @@ class Maker:
             reasons.append(f"{target.table}: {FEWER}: {after}, and {before} before; to allow it: {FEWER}")
         return reasons + [f"{target.table}: {line}" for line in prepared.missing if reasons]
 
-    def _say_changes(self, name: str, old: _Files | None, new: _Files) -> None:
+    def _say_changes(self, name: str, old: TargetFiles | None, new: TargetFiles) -> None:
         table, is_read_anew = new.prepared.table, True
         if old is None:
             self._report(f"{name}: new, {amount(len(table.rows), 'row')}")
@@ -482,7 +354,7 @@ class Maker:
         for line in [*prepared, *self._tables.lines[name], *lines]:
             self._report(f"  {line}")
 
-    def _say_refusal(self, name: str, old: _Files | None, reasons: list[str]) -> None:
+    def _say_refusal(self, name: str, old: TargetFiles | None, reasons: list[str]) -> None:
         (self.left_out if old is None else self.kept).append(name)
         how = "left out, since it has no old files" if old is None else "kept its old rules and table"
         self._report(f"{name}: {how}")
@@ -493,7 +365,7 @@ class Maker:
 def is_same(one: str | Path, other: str | Path, received: RootFolder | None = None) -> bool:
     """Whether two versions serve the same. The first may have no index yet, but its format. `received` opens the files
     that the other has received, if this process may not."""
-    versions, folders = (Path(one), Path(other)), ("code", "tables", _RECEIVED)
+    versions, folders = (Path(one), Path(other)), ("code", "tables", target_files.RECEIVED)
     names = [
         [f"{folder}/{name}" for folder in folders for name in sorted(os.listdir(version / folder))]
         for version in versions
@@ -501,11 +373,11 @@ def is_same(one: str | Path, other: str | Path, received: RootFolder | None = No
     lists = ["registry.tsv", "allowed.tsv", host_judge.NAME, undated_links.NAME, abbreviations.NAME]
     lists += [target_options.NAME, slip_judge.NAME, slip_judge.LIMITS]
     files = [*lists, "index/format", *names[0]]
-    opened = received or received_in(versions[1])
+    opened = received or target_files.received_in(versions[1])
     return names[0] == names[1] and all(
         (
             _has_bytes_of(versions[0] / file, opened, Path(file).name)
-            if file.startswith(f"{_RECEIVED}/")
+            if file.startswith(f"{target_files.RECEIVED}/")
             else (versions[1] / file).is_file() and filecmp.cmp(versions[0] / file, versions[1] / file, shallow=False)
         )
         for file in files

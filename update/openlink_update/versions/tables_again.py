@@ -8,7 +8,7 @@ from openlink_update.outcome import DEVICE, Failure, Refused
 from openlink_update.tables import coverage, parts
 from openlink_update.tables.table import Table
 from openlink_update.target_options import NONE, options_in
-from openlink_update.versions.making import files_in, received_in
+from openlink_update.versions.target_files import files_in, received_in
 from openlink_update.versions.served import divided, names_in, targets_in
 
 
