@@ -56,6 +56,9 @@ REFUSED = [
     (b"a b\ttable.txt\tnone.txt\n", 3, "target a b: load: BadMagic at 0"),
     (b"a b\tnone.olk\tempty.txt\n", 4, "target a b: device: none.olk"),
     (b"a b\tcode.olk\tempty.txt\n", 3, "target a b: table: NoHeader"),
+    # Control characters of a name are printed as those of a path.
+    (b"\x1b[2J\x07\tcode.olk\ttable.txt\n", 3, "target \\x1b[2J\\x07: BadTargetName"),
+    (b"a\x7f\x00\x0bb\tnone.olk\ttable.txt\n", 4, "target a\\x7f\\x00\\x0bb: device: none.olk"),
     # It has a byte more than it may have.
     (b"\n" * 65_537, 3, "registry: line 0"),
 ]
@@ -76,12 +79,17 @@ def lines(names):
 
 
 # Only the second row has a link. It has no cell for the last date, so the request's value counts.
-RULES = ("list list\nrule\nwhen date_first_issue_online is \"2000\"\n"
-         "link {+title_url}{?print_identifier,date_first_issue_online,date_last_issue_online,rft.issn,x,list*}\n")
-WITH_CELLS = ("rft.issn=1234567x&title_url=http%3A%2F%2Fevil.example&list=a&x=1&list=b&x=2"
-              "&date_last_issue_online=2005")
-LINK = ("http://e.org/b?print_identifier=1234-567X&date_first_issue_online=2000&date_last_issue_online=2005"
-        "&rft.issn=1234567x&x=1&list=a&list=b")
+RULES = (
+    'list list\nrule\nwhen date_first_issue_online is "2000"\n'
+    "link {+title_url}{?print_identifier,date_first_issue_online,date_last_issue_online,rft.issn,x,list*}\n"
+)
+WITH_CELLS = (
+    "rft.issn=1234567x&title_url=http%3A%2F%2Fevil.example&list=a&x=1&list=b&x=2" "&date_last_issue_online=2005"
+)
+LINK = (
+    "http://e.org/b?print_identifier=1234-567X&date_first_issue_online=2000&date_last_issue_online=2005"
+    "&rft.issn=1234567x&x=1&list=a&list=b"
+)
 
 
 class Registries(ProgramCase):

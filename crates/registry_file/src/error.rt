@@ -27,7 +27,7 @@ pub enum RegistryError {
 
 /// A target that is rejected, and why.
 #[derive(Debug, Drop, Error)]
-#[error("{name}: {fault}")]
+#[error("{}: {fault}", PrintedPath(.name))]
 pub struct TargetError {
     /// Its name in the registry file.
     pub name: String,

@@ -11,9 +11,10 @@ ghost use Rattle.standard_names.specs.Keys.{request_keys as every_key};
 ghost use Rattle.rule_lint.specs.Names.{is_known as is_defined, is_standard_column as is_in_standard};
 ghost use Rattle.rule_lint.specs.Names.{is_name as is_template_name, resembles, resembled as first_resembled};
 ghost use Rattle.rule_lint.specs.Host.{is_rows_own as is_of_rows};
+ghost use Rattle.rule_lint.specs.Private.Starts.{AreSearchStarts};
 
 use crate::resemblance::first_like;
-use crate::starts::start_of;
+use crate::starts::{Firsts, start_of};
 use crate::target::Target;
 use crate::varchars::is_template_name;
 use kbart_rows::{RowCursor, Table};
@@ -59,6 +60,20 @@ pub(crate) fn template_columns<'a>(
     Ok(names)
 }
 
+/// The first of these names that resembles the name, by the first names with each key.
+fn first_from_start<'a>(
+    names: &[&'a str],
+    firsts: &Firsts,
+    multiplier: u64,
+    name: &str,
+) -> Option<&'a str>
+    requires { AreSearchStarts multiplier firsts.now (texts_of names.now) }
+    ensures { option_copied result ≡ find (resembles name.now) (texts_of names.now) }
+{
+    let start = start_of(firsts, multiplier, name.as_bytes()).min(names.len());
+    first_like(&names[start..], name)
+}
+
 fn key_like(name: &str) -> Option<&'static str>
     ensures { option_copied result ≡ find (resembles name.now) every_key }
 {
@@ -80,15 +95,18 @@ impl<'a> Target<'a> {
         ensures { option_copied result
             ≡ find (resembles name.now) (filter is_template_name self.now.table.now.header) }
     {
-        let columns = self.template_columns.as_slice();
-        let start = start_of(&self.starts, name.as_bytes()).min(columns.len());
-        first_like(&columns[start..], name)
+        first_from_start(
+            &self.template_columns,
+            &self.column_starts,
+            self.multiplier,
+            name,
+        )
     }
 
     fn list_like(&self, name: &str) -> Option<&'a str>
         ensures { option_copied result ≡ find (resembles name.now) (each_once (list_names self.now.rules.now.lists)) }
     {
-        first_like(&self.lists, name)
+        first_from_start(&self.lists, &self.list_starts, self.multiplier, name)
     }
 
     /// The first column, list or key that the name resembles.

@@ -7,7 +7,7 @@ use crate::check::check_rules;
 use crate::columns::columns_of;
 use crate::lines::push_rule_count;
 use crate::names::template_columns;
-use crate::starts::starts_of;
+use crate::starts::{multiplier_of, starts_of};
 use crate::target::Target;
 use kbart_rows::Table;
 use printed_text::Findings;
@@ -24,12 +24,17 @@ pub fn lint(alloc: Global, rules: &Rules, table: &Table) -> Result<Findings, All
     ensures warned { IfOk result (λ findings. findings.warned ≡ has_rule_warning rules.now table.now) }
 {
     let template_columns = template_columns(alloc, table)?;
+    let keys = table.keys();
+    let multiplier = multiplier_of(keys);
+    let lists = rules.lists(alloc)?;
     let target = Target {
         rules,
         table,
-        lists: rules.lists(alloc)?,
         columns: columns_of(alloc, table)?,
-        starts: starts_of(alloc, &template_columns)?,
+        multiplier,
+        list_starts: starts_of(alloc, &lists, keys, multiplier)?,
+        lists,
+        column_starts: starts_of(alloc, &template_columns, keys, multiplier)?,
         template_columns,
     };
     let mut findings = Findings {

@@ -1,134 +1,187 @@
 //! Where a search for a name that resembles another can begin.
 //!
-//! Two names that resemble each other are the same in lower case, or after the `rft.` of one, or once at most one byte
-//! of each is left out. The hashes of these texts lead to the first name that has one of them.
+//! Two names resemble each other if they are the same in lower case, or after the `rft.` of one, or after one edit. For
+//! each of these, both have a key in common, and a map leads from each key to the first name that has it. Names without
+//! a common key differ, and those with one resemble each other, unless two hashes are the same by chance: nobody who
+//! writes names knows the multiplier.
 
-ghost use Rattle.std.specs.Prelude.{◌≡◌, ℕ, ◌%◌, ◌<◌, ◌≤◌, IfOk, drop, fold, length};
+ghost use Rattle.std.specs.Prelude.{◌≡◌, ℕ, ◌+◌, ◌<◌, ◌≤◌, IfOk, OnOk, fold, get_or, length};
 ghost use Rattle.text_model.specs.Texts.{texts_of};
 ghost use Rattle.rule_lint.specs.Private.Starts as spec;
 
+use kbart_rows::Keys;
 use std::alloc::{AllocError, Global};
+use std::collections::HashMap;
+use std::hash::{BuildHasher, Hasher};
 
-/// The number of different hashes for each name, and the number of names for which it grows.
-const HASHES_PER_NAME: usize = 128;
+/// From each key to the first of the names that has it.
+pub(crate) type Firsts = HashMap<u64, usize, Keys>;
 
-const MOST_NAMES: usize = 8192;
+/// A prime that is one more than twice another prime.
+const MODULUS: u64 = 4_294_967_087;
 
-fn next_hash(hash: u64, byte: u8) -> u64
-    ensures { result ≡ spec.next_hash hash byte }
+/// The secret multiplier of hashes. No result depends on it.
+pub(crate) fn multiplier_of(keys: Keys) -> u64 {
+    keys.build_hasher().finish()
+}
+
+fn next_hash(multiplier: u64, hash: u64, next: u64) -> u64
+    ensures { result ≡ spec.next_hash multiplier hash next }
 {
-    (hash % 4_294_967_296) * 31 + byte as u64
+    (hash % MODULUS)
+        .wrapping_mul(multiplier % MODULUS)
+        .wrapping_add(next)
 }
 
 /// The hash of a text, of which the bytes before these have this hash.
-fn hash_on(start: u64, bytes: &[u8]) -> u64
-    ensures { result ≡ fold spec.next_hash start bytes.now }
+fn hash_on(multiplier: u64, start: u64, bytes: &[u8]) -> u64
+    ensures { result ≡ fold (spec.next_hash multiplier) start bytes.now }
 {
     let mut hash = start;
     for byte in bytes {
-        hash = next_hash(hash, *byte);
+        hash = next_hash(multiplier, hash, *byte as u64);
     }
     hash
 }
 
-fn hash_without(name: &[u8], i: usize) -> u64
+fn hash_without(multiplier: u64, name: &[u8], i: usize) -> u64
     requires { i < length name.now }
-    ensures { result ≡ spec.name_hash (spec.without name.now i) }
+    ensures { result ≡ spec.name_hash multiplier (spec.without name.now i) }
 {
     let (before, after) = (&name[..i], &name[i + 1..]);
-    hash_on(hash_on(0, before), after)
+    hash_on(multiplier, hash_on(multiplier, 0, before), after)
 }
 
-fn hash_in_lower_case(name: &[u8]) -> u64
-    ensures { result ≡ spec.name_hash (spec.lower_case name.now) }
+fn hash_in_lower_case(multiplier: u64, name: &[u8]) -> u64
+    ensures { result ≡ spec.name_hash multiplier (spec.lower_case name.now) }
 {
     let mut hash = 0;
     for byte in name {
-        hash = next_hash(hash, byte.to_ascii_lowercase());
+        hash = next_hash(multiplier, hash, byte.to_ascii_lowercase() as u64);
     }
     hash
 }
 
-fn hash_after_prefix(name: &[u8]) -> u64
-    ensures { result ≡ spec.name_hash (drop 4 name.now) }
+/// The key of a hash, of one kind, at a place.
+fn key_at(multiplier: u64, hash: u64, kind: u64, place: usize) -> u64
+    ensures { result ≡ spec.key_at multiplier hash kind place }
 {
-    match name {
-        [_, _, _, _, rest @ ..] => hash_on(0, rest),
-        _ => 0,
+    next_hash(multiplier, next_hash(multiplier, hash, kind), place as u64)
+}
+
+/// The first name that has the key, or one past all names.
+fn first_with(firsts: &Firsts, key: u64) -> usize
+    ensures { result ≡ spec.first_with firsts.now key }
+{
+    firsts.get(&key).copied().unwrap_or(usize::MAX)
+}
+
+/// The name at this place has the key.
+fn mark(firsts: &mut Firsts, place: usize, key: u64) -> Result<(), AllocError>
+    ensures marked { OnOk result (spec.first_with firsts.new key ≤ place) }
+    ensures kept { OnOk result ((k : ℕ) → spec.first_with firsts.new k ≤ spec.first_with firsts.old k) }
+{
+    if first_with(firsts, key) > place {
+        firsts.insert(key, place)?;
     }
+    Ok(())
 }
 
-fn slot(firsts: &[usize], hash: u64) -> usize
-    requires { 0 < length firsts.now }
-    ensures value { result ≡ hash % length firsts.now }
-    ensures within { result < length firsts.now }
+/// The name at this place has the keys of what is left of it without one byte.
+fn mark_without(
+    firsts: &mut Firsts,
+    multiplier: u64,
+    place: usize,
+    name: &[u8],
+    i: usize,
+) -> Result<(), AllocError>
+    requires { i < length name.now }
+    ensures shorter { OnOk result
+        (spec.first_with firsts.new (spec.shorter_key multiplier (spec.without name.now i) i) ≤ place) }
+    ensures exchanged { OnOk result (spec.first_with firsts.new
+        (spec.exchanged_key multiplier (spec.without name.now i) (get_or name.now i 0) i) ≤ place) }
+    ensures kept { OnOk result ((k : ℕ) → spec.first_with firsts.new k ≤ spec.first_with firsts.old k) }
 {
-    (hash % firsts.len() as u64) as usize
+    let hash = hash_without(multiplier, name, i);
+    let with_byte = next_hash(multiplier, hash, name[i] as u64);
+    mark(firsts, place, key_at(multiplier, hash, 2, i))?;
+    mark(firsts, place, key_at(multiplier, with_byte, 3, i))
 }
 
-/// The first name that has the hash, or one before it.
-fn first_with(firsts: &[usize], hash: u64) -> usize
-    requires { 0 < length firsts.now }
-    ensures { result ≡ spec.first_with firsts.now hash }
+fn mark_name(
+    firsts: &mut Firsts,
+    multiplier: u64,
+    place: usize,
+    name: &[u8],
+) -> Result<(), AllocError>
+    ensures marked { OnOk result (spec.IsMarked multiplier firsts.new place name.now) }
+    ensures kept { OnOk result ((k : ℕ) → spec.first_with firsts.new k ≤ spec.first_with firsts.old k) }
 {
-    firsts[slot(firsts, hash)]
-}
-
-/// The name at this place has the hash.
-fn mark(firsts: &mut [usize], place: usize, hash: u64)
-    requires { 0 < length firsts.old }
-    ensures marked { spec.first_with firsts.new hash ≤ place }
-    ensures kept { (h : ℕ) → spec.first_with firsts.new h ≤ spec.first_with firsts.old h }
-    ensures size { length firsts.new ≡ length firsts.old }
-{
-    let slot = slot(firsts, hash);
-    if firsts[slot] > place {
-        firsts[slot] = place;
-    }
-}
-
-fn mark_name(firsts: &mut [usize], place: usize, name: &[u8])
-    requires { 0 < length firsts.old }
-    ensures marked { spec.IsMarked firsts.new place name.now }
-    ensures kept { (h : ℕ) → spec.first_with firsts.new h ≤ spec.first_with firsts.old h }
-    ensures size { length firsts.new ≡ length firsts.old }
-{
-    mark(firsts, place, hash_on(0, name));
-    mark(firsts, place, hash_in_lower_case(name));
-    mark(firsts, place, hash_after_prefix(name));
+    let (whole, lowered) = (
+        hash_on(multiplier, 0, name),
+        hash_in_lower_case(multiplier, name),
+    );
+    mark(firsts, place, key_at(multiplier, whole, 0, 0))?;
+    mark(firsts, place, key_at(multiplier, lowered, 1, 0))?;
     for i in 0..name.len() {
-        mark(firsts, place, hash_without(name, i));
+        mark_without(firsts, multiplier, place, name, i)?;
     }
+    Ok(())
 }
 
-fn mark_names(firsts: &mut [usize], names: &[&str])
-    requires { 0 < length firsts.old }
-    ensures { spec.AreSearchStarts firsts.new (texts_of names.now) }
+fn mark_names(firsts: &mut Firsts, multiplier: u64, names: &[&str]) -> Result<(), AllocError>
+    ensures { OnOk result (spec.AreSearchStarts multiplier firsts.new (texts_of names.now)) }
 {
     for place in 0..names.len() {
-        mark_name(firsts, place, names[place].as_bytes());
+        mark_name(firsts, multiplier, place, names[place].as_bytes())?;
     }
+    Ok(())
 }
 
-/// From each hash to the first of the names that has it, or to one before it.
-pub(crate) fn starts_of(alloc: Global, names: &[&str]) -> Result<Vec<usize>, AllocError>
-    ensures { IfOk result (λ firsts. spec.AreSearchStarts firsts.items (texts_of names.now)) }
+/// From each key to the first of the names that has it.
+pub(crate) fn starts_of(
+    alloc: Global,
+    names: &[&str],
+    keys: Keys,
+    multiplier: u64,
+) -> Result<Firsts, AllocError>
+    ensures { IfOk result (λ firsts. spec.AreSearchStarts multiplier firsts (texts_of names.now)) }
 {
-    let hashes = names.len().min(MOST_NAMES) * HASHES_PER_NAME + 1;
-    let mut firsts = vec![in alloc; usize::MAX; hashes]?;
-    mark_names(firsts.as_mut_slice(), names);
+    let mut firsts = HashMap::with_hasher(alloc, keys);
+    mark_names(&mut firsts, multiplier, names)?;
     Ok(firsts)
 }
 
-/// From which place on a name can resemble this one.
-pub(crate) fn start_of(firsts: &[usize], name: &[u8]) -> usize
-    requires { 0 < length firsts.now }
-    ensures { spec.IsStart firsts.now name.now result }
+/// The first name that has a key of what is left of this one without one byte.
+fn first_without(firsts: &Firsts, multiplier: u64, name: &[u8], i: usize) -> usize
+    requires { i < length name.now }
+    ensures shorter { result ≤ spec.first_with firsts.now (spec.whole_key multiplier (spec.without name.now i)) }
+    ensures replaced { result
+        ≤ spec.first_with firsts.now (spec.shorter_key multiplier (spec.without name.now i) i) }
+    ensures exchanged { result ≤ spec.first_with firsts.now
+        (spec.exchanged_key multiplier (spec.without name.now i) (get_or name.now i 0) (i + 1)) }
 {
-    let whole = first_with(firsts, hash_on(0, name));
-    let mut start = whole.min(first_with(firsts, hash_in_lower_case(name)));
+    let hash = hash_without(multiplier, name, i);
+    let with_byte = next_hash(multiplier, hash, name[i] as u64);
+    first_with(firsts, key_at(multiplier, hash, 0, 0))
+        .min(first_with(firsts, key_at(multiplier, hash, 2, i)))
+        .min(first_with(firsts, key_at(multiplier, with_byte, 3, i + 1)))
+}
+
+/// From which place on a name can resemble this one.
+pub(crate) fn start_of(firsts: &Firsts, multiplier: u64, name: &[u8]) -> usize
+    ensures { spec.IsStart multiplier firsts.now name.now result }
+{
+    let hash = hash_on(multiplier, 0, name);
+    let lowered = hash_in_lower_case(multiplier, name);
+    let prefixed = hash_on(multiplier, hash_on(multiplier, 0, "rft.".as_bytes()), name);
+    let mut start = first_with(firsts, key_at(multiplier, hash, 2, name.len()))
+        .min(first_with(firsts, key_at(multiplier, lowered, 1, 0)))
+        .min(first_with(firsts, key_at(multiplier, prefixed, 0, 0)));
     for i in 0..name.len() {
-        start = start.min(first_with(firsts, hash_without(name, i)));
+        start = start
+            .min(first_with(firsts, key_at(multiplier, hash, 2, i)))
+            .min(first_without(firsts, multiplier, name, i));
     }
     start
 }

@@ -9,11 +9,12 @@ ghost use Rattle.rule_lint.specs.Private.Columns.{AreColumns};
 ghost use Rattle.rule_lint.specs.Private.Starts.{AreSearchStarts};
 
 use crate::columns::Column;
+use crate::starts::Firsts;
 use kbart_rows::Table;
 use rule_parser::Rules;
 
-/// The rules and the table of a target, with the names of the rules' lists, the columns of the table, and those whose
-/// names can be used in a template, and where a search for a similar one among these begins.
+/// The rules and the table of a target, with the names of the rules' lists, the columns of the table, those whose names
+/// can be used in a template, and where a search for a similar one among these columns and lists begins.
 #[derive(Drop)]
 pub(crate) struct Target<'a> {
     pub(crate) rules: &'a Rules,
@@ -21,9 +22,12 @@ pub(crate) struct Target<'a> {
     pub(crate) lists: Vec<&'a str>,
     pub(crate) columns: Vec<Column>,
     pub(crate) template_columns: Vec<&'a str>,
-    pub(crate) starts: Vec<usize>,
+    pub(crate) multiplier: u64,
+    pub(crate) list_starts: Firsts,
+    pub(crate) column_starts: Firsts,
     ghost lists_of_rules: { texts_of lists.items ≡ each_once (list_names rules.now.lists) },
     ghost template_columns_of_table: { texts_of template_columns.items ≡ filter is_name table.now.header },
-    ghost starts_of_columns: { AreSearchStarts starts.items (texts_of template_columns.items) },
+    ghost starts_of_lists: { AreSearchStarts multiplier list_starts (texts_of lists.items) },
+    ghost starts_of_columns: { AreSearchStarts multiplier column_starts (texts_of template_columns.items) },
     ghost columns_of_table: { AreColumns table.now.header table.now.rows columns.items },
 }

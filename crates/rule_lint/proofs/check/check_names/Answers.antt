@@ -1,4 +1,5 @@
-use Rattle.std.proofs.Common.{Bor, ap, ◌∙◌}
+use Rattle.std.proofs.Common.{Bor, ap, arith, ◌∙◌}
+use Rattle.std.proofs.lemmas.Grind.{common_steps}
 use Rattle.std.specs.List.{flat_map}
 use Rattle.std.proofs.lemmas.List.{take_all}
 use Rattle.text_model.specs.Texts.{Text}
@@ -12,3 +13,9 @@ returns c =
     adds_as _ _ _ _
     (ap (flat_map (λ (y : Bor Text). found y.now)) (take_all c.loop-name.name-index c.args.names.now c.loop-name-test.false) ∙ lent found c.args.names.now)
     c.loop-name.invariant
+
+pub loop-name-init : goal.loop-name-init
+loop-name-init c = grind (arith, common_steps)
+
+pub loop-name-preserved : goal.loop-name-preserved
+loop-name-preserved c = grind (arith, common_steps)

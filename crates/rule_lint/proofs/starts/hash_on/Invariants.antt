@@ -5,4 +5,4 @@ use Rattle.rule_lint.specs.Private.Starts.{next_hash}
 use Rattle.rule_lint.proofs.starts.hash_on.Given as goal
 
 abbrev pub invariant-loop-byte : goal.invariant-loop-byte
-invariant-loop-byte l = l.hash ≡ fold next_hash l.start (take l.byte-index l.bytes)
+invariant-loop-byte l = l.hash ≡ fold (next_hash l.multiplier) l.start (take l.byte-index l.bytes)

@@ -1,0 +1,9 @@
+use Rattle.std.proofs.Common.{arith}
+use Rattle.std.proofs.lemmas.Grind.{common_steps}
+use Rattle.rule_lint.proofs.target.Target.add_open.Goals as goal
+
+pub loop-spec-preserved : goal.loop-spec-preserved
+loop-spec-preserved c = grind (arith, common_steps)
+
+pub returns : goal.returns
+returns c = grind (arith, common_steps)
