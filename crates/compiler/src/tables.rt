@@ -84,7 +84,6 @@ fn add_used_literal(
 }
 
 /// The names that lines use, after the existing ones.
-#[tactic(auto, using(crate::proofs::TableGrowth::gathered_entry))]
 pub(crate) fn add_names(
     alloc: Global,
     names: &mut Vec<Name>,
@@ -99,7 +98,6 @@ pub(crate) fn add_names(
 }
 
 /// The literals that lines use, after the existing ones.
-#[tactic(auto, using(crate::proofs::TableGrowth::gathered_entry))]
 pub(crate) fn add_literals(
     alloc: Global,
     literals: &mut Vec<Literal>,

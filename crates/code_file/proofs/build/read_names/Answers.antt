@@ -1,4 +1,5 @@
 use Rattle.std.proofs.Common.{◌∷◌, [], arith, length-append}
+use Rattle.std.proofs.lemmas.Grind.{common_steps}
 use Rattle.code_file.proofs.TableLemmas.{building_next}
 use Rattle.code_file.proofs.build.read_names.Goals as goal
 
@@ -12,3 +13,6 @@ loop-preserved c =
     let same = c.in_ok-name.ensures next.0 next.1 next.2 next.3 in
     rw (c.in_ok-push.ensures.items, same.0, same.1)
     (next.4, omega (arith, c.loop.invariant.1, length-append c.loop.names.items (next.0 ∷ [])))
+
+pub returns : goal.returns
+returns c = grind (arith, common_steps)

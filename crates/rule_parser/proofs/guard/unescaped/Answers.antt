@@ -1,5 +1,6 @@
 -- Each character denotes itself, or is escaped by the backslash before it; any other character makes the text invalid.
-use Rattle.std.proofs.Common.{sym, ◌∙◌}
+use Rattle.std.proofs.Common.{arith, sym, ◌∙◌}
+use Rattle.std.proofs.lemmas.Grind.{common_steps}
 use Rattle.std.specs.String.{string_bytes}
 use Rattle.rule_parser.proofs.EscapeLemmas.{escaped_more, not_escaped, not_escaped_at_end, same_answers, other_answers}
 use Rattle.rule_parser.proofs.guard.unescaped.Goals as goal
@@ -19,3 +20,9 @@ returns-else-c-eq92 c =
 
 pub returns-then-is_escaped : goal.returns-then-is_escaped
 returns-then-is_escaped c = not_escaped_at_end _ (string_bytes c.loop-c.text) _ _ c.if-is_escaped.true c.in-None.ensures.steps.0.0 c.loop-c.invariant
+
+pub loop-c-preserved : goal.loop-c-preserved
+loop-c-preserved c = grind (arith, common_steps)
+
+pub returns : goal.returns
+returns c = grind (arith, common_steps)
