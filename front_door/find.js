@@ -18,6 +18,7 @@ import program from './program.js';
 import query from './query.js';
 import search from './search.js';
 import texts from './text.js';
+import titlePages from './title_pages.js';
 
 // Asks the program, unless the query is empty, and gives the groups and the site to `reply`.
 async function answer(r, q, reply) {
@@ -28,6 +29,7 @@ async function answer(r, q, reply) {
     if (menus.status !== 200) return exchange.sendFault(r, program.faultStatus(menus), site);
     await heads.add(r, site, menus.links, q.titles);
     const groups = menu.groupsOf(menus.links, site);
+    q.offered = await titlePages.offeredTo(r, q, groups, site);
     logLinks(r, q, groups);
     return reply(groups, site);
 }
@@ -87,7 +89,7 @@ async function go(r) {
     q.drop('target');
     return answer(r, q, (groups, site) => {
         if (target !== undefined) {
-            const link = menu.linkTo(q, groups, target, site);
+            const link = menu.linkTo(q, groups, target);
             if (link !== undefined) return follow(r, q, link);
             return after(copies.find(r, q), () => { replyPage(r, q, groups, site); });
         }

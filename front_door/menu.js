@@ -10,7 +10,6 @@ import lists from './lists.js';
 import notices from './notices.js';
 import pages from './pages.js';
 import texts from './text.js';
-import titlePages from './title_pages.js';
 import words from './words.js';
 
 const own = texts.own;
@@ -107,10 +106,10 @@ function addressOf(link, q, site) {
     return pages.addressOf('/go', `target=${encodeURIComponent(link.target)}&${q.args}`, site);
 }
 // The link of a target that the page has, in a group or to the page of the title; undefined if there is none.
-function linkTo(q, groups, target, site) {
+function linkTo(q, groups, target) {
     const isOf = (link) => encodeURIComponent(link.target) === target;
     const shown = shownGroups(groups).map((group) => group.links.find(isOf)).find((link) => link !== undefined);
-    return shown === undefined ? titlePages.pagesOf(q, groups, site).find(isOf) : shown;
+    return shown === undefined ? q.offered.find(isOf) : shown;
 }
 function partHtml(text) { return text ? ` <span>${escape(text)}</span>` : ''; }
 
@@ -158,10 +157,10 @@ function heldIn(q, group, site) {
         return isOfGroup && coverage.mayHave(row, q.first('rft.date').slice(0, 4));
     };
 }
-function noticeHtml(q, groups, hasPage, site) {
+function noticeHtml(q, groups, site) {
     if (!hasNotice(q, groups)) return '';
     const known = knowledgeOf(q, groups, site);
-    const name = hasPage && known === 'number' ? 'page' : known;
+    const name = q.offered.length > 0 && known === 'number' ? 'page' : known;
     const isOnlyCopy = known === 'number' && q.freeCopy !== null;
     const parts = [pages.notice(isOnlyCopy ? 'onlyCopy' : NOTICES[name] || 'incomplete', site)];
     const isHeld = heldIn(q, groups[0], site);
@@ -185,12 +184,12 @@ function listHtml(heading, items) {
 }
 function linksOf(groups) { return groups.reduce((links, group) => links.concat(group.links), []); }
 // The groups that a reader sees, and after that of the full text the pages of the title. Last what is counted of them.
-function listsHtml(q, groups, offered, site) {
+function listsHtml(q, groups, site) {
     const all = copies.placed(shownGroups(groups), groups, q, site);
-    const isByGo = isCounted(q, linksOf(all).concat(offered), site);
+    const isByGo = isCounted(q, linksOf(all).concat(q.offered), site);
     const toHtml = (link) => linkHtml(link, isByGo ? addressOf(link, q, site) : link.url, site);
     const shown = all.map((g) => listHtml(g.label || g.name, g.links.map(toHtml)));
-    const pagesHtml = offered.length > 0 ? [listHtml(word(site, 'titlePages'), offered.map(toHtml))] : NONE;
+    const pagesHtml = q.offered.length > 0 ? [listHtml(word(site, 'titlePages'), q.offered.map(toHtml))] : NONE;
     const place = groups[0].links.length > 0 ? 1 : 0;
     const note = isByGo ? [`<p class="counted">${escape(word(site, 'followedNote'))}</p>`] : NONE;
     return shown.slice(0, place).concat(pagesHtml, shown.slice(place), note);
@@ -241,10 +240,9 @@ function pageOf(q, groups, site) {
     const put = (html) => { if (html !== '') body.push(html); };
     put(foundHtml(q, site));
     notices.linesOf(q, site).forEach(put);
-    const offered = titlePages.pagesOf(q, groups, site);
-    put(noticeHtml(q, groups, offered.length > 0, site));
+    put(noticeHtml(q, groups, site));
     put(maybeHtml(q, site));
-    listsHtml(q, groups, offered, site).forEach(put);
+    listsHtml(q, groups, site).forEach(put);
     if (q.titles.length > 0) q.titles[0].related.forEach((it) => { body.push(relatedHtml(it, site)); });
     put(completeHtml(q, groups, site));
     put(actionsHtml(q, site));
@@ -261,8 +259,8 @@ function dataOf(q, groups, site) {
     if (q.maybe.length > 0) {
         data.maybe = q.maybe.map((it) => ({ title: it.title, numbers: it.standard }));
     }
-    const offered = titlePages.pagesOf(q, groups, site);
-    if (offered.length > 0) data.pages = offered.map((it) => ({ target: it.target, label: it.label, url: it.url }));
+    const offered = q.offered.map((it) => ({ target: it.target, label: it.label, url: it.url }));
+    if (offered.length > 0) data.pages = offered;
     return data;
 }
 

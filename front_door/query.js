@@ -117,6 +117,7 @@ function Query(args) {
     this.titles = NONE;                           // the titles of its numbers
     this.further = NONE;                          // queries with other numbers of these titles
     this.maybe = NONE;                            // the titles that it may mean
+    this.offered = NONE;                          // the pages of its titles, as title_pages.js has them
     this.knowledge = 'nothing';                   // what is certain of it, as knowledgeOf says
     const pieces = piecesOf(withoutBase(args));
     const isEscaped = args.includes(';');

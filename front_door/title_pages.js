@@ -8,6 +8,7 @@ import texts from './text.js';
 import words from './words.js';
 
 const MOST_ROWS = 4;  // whose coverage is shown
+const NONE = [];
 
 // Whether a journal's article is named so well that a target without a link does not have it.
 function isWhole(q) { return q.has('x.issn') && q.has('x.to') && q.has('rft.volume'); }
@@ -45,4 +46,13 @@ function pagesOf(q, groups, site) {
     return found;
 }
 
-export default { pagesOf };
+// The same, and none while a new version is put in use: then the index may be of another version than the process that
+// has replied, and so may have a page of a title that its target does not have.
+async function offeredTo(r, q, groups, site) {
+    const found = pagesOf(q, groups, site);
+    if (found.length === 0) return found;
+    const reply = await r.subrequest('/_before');
+    return reply.status === 204 ? found : NONE;
+}
+
+export default { offeredTo, pagesOf };

@@ -8,8 +8,11 @@ import shutil
 
 from fixtures import needs
 from fixtures.cases import Case
+from fixtures.library import HERE as FIXTURES
 from fixtures.library import Library
+from fixtures.library import ended
 from fixtures.made_titles import issn
+from fixtures.patience import wait_until
 from fixtures.weeks import TITLE
 
 LIST = "js_var $openlink_list {};"
@@ -128,6 +131,39 @@ class IndexWeeks(Case):
             self.expect(
                 "back", (library.run("--back")[0], targets(library, query), pages(library)), (0, ["coastal-law"], [])
             )
+
+    def test_title_pages_while_processes_restart(self) -> None:
+        """While the index is of the new version and the processes are of the one before, no page of a title is
+        offered: it may be of a title that these do not have."""
+        old, new = "rft.issn=3030-0002", "rft.issn=3030-0053"
+        row = TITLE.replace("Papers on Piers", "Papers on Quays").replace("3030-0002", new[-9:])
+        row = row.replace("3030-0010", "").replace("/pp", "/pq").replace("\tpp\t", "\tpq\t")
+
+        def pages(library: Library, number: str) -> list[str]:
+            data = json.loads(library.site.get(f"/find.json?rft.genre=journal&{number}").text)
+            return [page["url"] for page in data.get("pages", [])]
+
+        with Library() as library:
+            rules = library.input.read("coastal-law.rules").decode()
+            library.input.write("coastal-law.rules", rules[: rules.rindex("rule\n")].encode())
+            self.expect("the first week", library.run()[0], 0)
+            found = [pages(library, number) for number in (old, new)]
+            self.expect("its pages", found, [["https://press.example.com/pp"], []])
+            first = library.current()
+            library.input.add_row("coastal-law", row.encode())
+            with open(library.aside("stuck"), "w"):
+                pass
+            page = f"http://127.0.0.1:{library.site.report_port}/health"
+            child = library.begin(restart=f"{FIXTURES}/restart_with_page {library.room} PORT {page}")
+            self.expect("the first restart", wait_until(lambda: os.path.exists(library.aside("statuses"))), True)
+            self.expect("the new version's index is in use", library.current() > first)
+            found = [pages(library, number) for number in (old, new)]
+            os.unlink(library.aside("stuck"))
+            self.expect("pages before the processes are restarted", found, [[], []])
+            status, printed = ended(child)
+            found = [pages(library, number) for number in (old, new)]
+            expected = [["https://press.example.com/pp"], ["https://press.example.com/pq"]]
+            self.expect(f"pages after it: {printed}", (status, found), (0, expected))
 
     def test_abbreviations(self) -> None:
         """The library's own list: it goes forward and back with the version, and a slip is said."""

@@ -4,7 +4,8 @@
     versions/STAMP.new/    a version that is being made; the next run removes it
     current                a link to the version in use, which is moved by a rename
     updated                the time at which an update last ended well, in UTC, whether or not it found anything new
-    before                 only while processes are restarted: a link to the version to go back to, or to `none`
+    before                 only while processes are restarted: a link to the version to go back to, or to `none`. As
+                           long as it exists, the front door offers no pages of titles
     trial/                 files of the front door that tries a version; the next run removes it
     lock                   locked by a run as long as it lives
     lock.users             see library_user.py
