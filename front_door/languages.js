@@ -10,9 +10,9 @@ const MOST_RANGES = 20;
 const MOST_LANGUAGES = 100;
 const TAG = /^[a-z]{2,8}(?:-[a-z0-9]{1,8})*$/i;
 const RANGE = /^(\*|[a-z]{1,8}(?:-[a-z0-9]{1,8})*)\s*(?:;\s*q=(0(?:\.\d{0,3})?|1(?:\.0{0,3})?)\s*)?$/i;
-// Languages and scripts that are read from right to left.
-const LANGUAGES_RTL = ' ar arc ckb dv fa he nqo ps sd syr ug ur yi ';
-const SCRIPTS_RTL = ' arab hebr nkoo syrc thaa ';
+// Languages, by the script that CLDR gives them, and scripts that are read from right to left.
+const LANGUAGES_RTL = ' ar arc azb ckb dv fa glk he ks lrc mzn nqo pnb prs ps sd sdh skr syr ug ur yi ';
+const SCRIPTS_RTL = ' adlm arab hebr nkoo rohg syrc thaa ';
 
 const own = texts.own;
 const is = texts.is;
@@ -99,11 +99,11 @@ function offered(targets, library) {
     return languages.length > 0 ? languages : ['en'];
 }
 
+// A script in the tag decides (`sd-Deva`), else the language.
 function isRightToLeft(language) {
-    if (!language.includes('-')) return LANGUAGES_RTL.includes(' ' + language.toLowerCase() + ' ');
-    const parts = language.toLowerCase().split('-').map((part) => ' ' + part + ' ');
-    return !parts.includes(' latn ') && (LANGUAGES_RTL.includes(parts[0])
-        || parts.slice(1).some((part) => SCRIPTS_RTL.includes(part)));
+    const parts = language.toLowerCase().split('-');
+    const hasScript = parts.length > 1 && is(/^[a-z]{4}$/, parts[1]);
+    return hasScript ? SCRIPTS_RTL.includes(` ${parts[1]} `) : LANGUAGES_RTL.includes(` ${parts[0]} `);
 }
 
 // What a language calls itself.

@@ -6,7 +6,7 @@ const is = texts.is;
 
 // A volume or an issue: letters, a number or a range, letters. What may be before it, in the languages of sources.
 const COUNT = '([a-z]{0,3}\\d+[a-z]{0,3}(?:[-\\/]\\d+[a-z]{0,3})?)';
-const OF_ISSUE = 'nos?|nr|num(?:ber)?|n[\u00b0\u00ba]|iss(?:ue)?|heft';
+const OF_ISSUE = 'nos?|nr|n[u\u00fa]m(?:ber|[e\u00e9]ro)?|n\\.?[\u00b0\u00ba]|iss(?:ue)?|heft|fasc(?:icule|icolo)?';
 const OF_VOLUME = 'vol(?:ume)?s?|bd|band|tom[eo]?|jg|jahrgang';
 const WORD = '(?:(?:' + OF_VOLUME + '|pt|part|' + OF_ISSUE + ')[.:]? ?|[vtnh][.: ] ?)';
 const ISSUE = '(?:(?:' + OF_ISSUE + ')[.:]? ?|[nh][.: ] ?)';
@@ -19,9 +19,10 @@ const LABEL = '(?: ?\\(?((?:no\\. ?)?[a-z]?\\d+[a-z]?(?:[-\\/]\\d+)?|[a-z]|[ivx]
 const OTHER_PART = '(?:special issue|spec(?:ial)?\\.? no|beih(?:eft)?|sonderh(?:eft)?)\\.?(?: ?\\d+)?';
 const PART = '(?:(?:\\d+(?:[-\\/]\\d+)? ?,? ?)?(?:' + OF_SUPPLEMENT + LABEL
     + '|(?:pt|part)\\.? ?[\\da-z]{1,4}|' + OTHER_PART + ')|s\\d+)';
-const SUPPLEMENT = texts.lazy('^(?:(\\d+)[ ,]*\\(?)?' + OF_SUPPLEMENT + LABEL + '\\)?$', 'i');
+const SUPPLEMENT = texts.lazy('^(?:(\\d+(?:[-\\/]\\d+)?)[ ,]*\\(?)?' + OF_SUPPLEMENT + LABEL + '\\)?$', 'i');
 const WITH_PART = texts.lazy('^' + WORD + '?(\\d+) ?[,;:]? ?\\(? ?(' + PART + ') ?\\)?$', 'i');
 const CHINESE = /^\u7b2c? ?(\d+) ?[\u671f\u5377\u53f7\u5dfb\u865f]$/;  // and Japanese
+const CHINESE_BOTH = /^\u7b2c? ?(\d+) ?[\u5377\u5dfb],? ?\u7b2c? ?(\d+) ?[\u671f\u53f7\u865f]$/;
 const LONE_PART = texts.lazy('^(?:pt|part)\\.? ?(\\d+[a-z]?)$', 'i');
 
 // A supplement as PubMed writes it, such as `Suppl 1` and `3 Suppl 1`; a part alone is the number of the issue.
@@ -42,6 +43,7 @@ function volumeIn(text) {
     }
     if (is(WITH_PART(), text)) return [WITH_PART().exec(text)[1], partOf(WITH_PART().exec(text)[2])];
     if (is(SUPPLEMENT(), text)) return [partOf(text)];
+    if (is(CHINESE_BOTH, text)) return CHINESE_BOTH.exec(text).slice(1);
     if (is(CHINESE, text)) return [CHINESE.exec(text)[1]];
     return is(ONE(), text) ? [ONE().exec(text)[1]] : [];
 }

@@ -282,6 +282,12 @@ function testReferences() {
     const pagesIn = (length) => references.partsOf(repeated('a', length - 12) + reference, false).pages;
     expect('references', '500 characters', pagesIn(500), '45-67');
     expect('references', '501 characters', pagesIn(501), '45-6');
+    const yearOf = (before) => references.partsOf('2012 ' + repeated('a', before - 6) + ' v. 12 p. 4', false).year;
+    expect('references', 'a year that begins 14 characters before', yearOf(14), '2012');
+    expect('references', 'a year that begins 15 characters before', yearOf(15), undefined);
+    const nameIn = (dots) => references.partsOf('Tides' + repeated('.', dots) + 'v. 12 p. 4', false).name;
+    expect('references', '32 dots after a name', nameIn(32), 'Tides');
+    expect('references', '33 dots after a name', nameIn(33), 'Tides.');
 }
 function testRetractions() {
     const longest = '(this article has been retracted conference paper see ';

@@ -94,7 +94,7 @@ class Scripts(Case):
         self.check("query", 8)
 
     def test_references(self) -> None:
-        self.check("references")
+        self.check("references", 6)
 
     def test_replies(self) -> None:
         self.check("replies", 10)

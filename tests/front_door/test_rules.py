@@ -45,7 +45,7 @@ class Rules(Case):
             done = subprocess.run([*command, f"{folder}/rules.js"], capture_output=True, encoding="utf-8")
         *cases, count = [json.loads(line) for line in done.stdout.split("\n") if line] or [None]
         self.expect("how it ends", (done.returncode, done.stderr, count), (0, "", len(cases)))
-        self.expect(f"{len(cases)} cases", len(cases) >= 1900)
+        self.expect(f"{len(cases)} cases", len(cases) >= 2600)
         for name, *pair in cases:
             self.expect(name, pair[:1], pair[1:])
 
