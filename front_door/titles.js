@@ -65,7 +65,7 @@ function wordsOf(title) {
     const words = wordsIn(text, isAscii);
     return words.length > 1 && ARTICLES.includes(' ' + words[0] + ' ') ? words.slice(1) : words;
 }
-// Without an article that a catalogue has put behind the title, after a comma.
+// Without an article that a catalogue has put at the end of the title, after a comma.
 function withoutLastArticle(text, isAscii) {
     const at = text.lastIndexOf(',');
     const words = wordsIn(text.slice(at + 1), isAscii);

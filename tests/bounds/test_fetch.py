@@ -21,7 +21,6 @@ from fixtures.provider import reply
 from openlink_update.fetch import downloads
 from openlink_update.fetch import fetch_folder
 from openlink_update.fetch import fetching
-from openlink_update.fetch import hosts
 from openlink_update.fetch import sources
 from openlink_update.fetch import transfers
 from openlink_update.fetch.downloads import Download
@@ -225,16 +224,16 @@ class Times(Case):
 
     def test_names_of_hosts(self) -> None:
         """A name server that does not answer in time, and one that answers too much."""
-        self.expect("seconds", hosts._SECONDS, 10)
-        with mock.patch.object(hosts, "LOOK_UP", "import time; time.sleep(1000)"):
-            lookup = hosts.Lookup("press.example.com")
+        self.expect("seconds", transfers._SECONDS_TO_LOOK_UP, 10)
+        with mock.patch.object(transfers, "LOOK_UP", "import time; time.sleep(1000)"):
+            lookup = transfers.Lookup("press.example.com")
             self.expect("within the time", lookup.has_ended(), False)
-            with mock.patch.object(hosts, "_SECONDS", 0):
+            with mock.patch.object(transfers, "_SECONDS_TO_LOOK_UP", 0):
                 self.expect("after it", lookup.has_ended())
             self.expect("no address", lookup.addresses(), [])
         for count, wanted in ((65_536, 1), (65_537, 0)):
-            with mock.patch.object(hosts, "LOOK_UP", f"import sys; sys.stdout.write('1' * {count})"):
-                lookup = hosts.Lookup("press.example.com")
+            with mock.patch.object(transfers, "LOOK_UP", f"import sys; sys.stdout.write('1' * {count})"):
+                lookup = transfers.Lookup("press.example.com")
                 wait_until(lookup.has_ended)
                 self.expect(f"{count} bytes", len(lookup.addresses()), wanted)
 

@@ -46,7 +46,7 @@ class NamesInCode(ProgramCase):
         self.program.fails(["show", "code"], 3, "code: BadName at 14")
 
     def test_names_that_come_twice(self):
-        """Each of the two is the list that the query has; a text of that name is none."""
+        """Each entry of the name reads the query, which has two values: as a list both, as a text none."""
         names = [("list", "x"), ("list", "x"), ("text", "x"), ("text", "x")]
         for entry in (0, 1):
             loop = f"LIST r0 n{entry}, EACH r1 r0 5, SEP l0, PUT r1 u, NEXT, HALT"

@@ -63,6 +63,7 @@ class Judging(Case):
 
     def test_gone(self) -> None:
         """Numbers that are gone, up to 10 in 100, or as many as the list says; rows alone say nothing."""
+        # The case, the old rows, the new rows, the allowed words, and the reasons that keep the old table.
         cases: list[tuple[str, list[tuple[str, ...]], list[tuple[str, ...]], str, list[str]]] = [
             ("10 of 100", rows(0, 100), rows(10, 100), "", []),
             (

@@ -11,7 +11,7 @@ from fixtures.providers import HOSTS
 from fixtures.providers import NAME
 from fixtures.providers import ProvidersCase
 from openlink_update.fetch import downloads
-from openlink_update.fetch import hosts
+from openlink_update.fetch import transfers
 
 PUBLIC = HOSTS[:4]
 INSIDE = "a redirect that leads into a private network"
@@ -53,16 +53,16 @@ class Stand:
     """For as long as the block lasts, PUBLIC are public, and the name server knows one address of each name."""
 
     def __init__(self, address: str | None = None) -> None:
-        self.kept, self.address = (hosts.is_inner, hosts.LOOK_UP), address
+        self.kept, self.address = (downloads.is_inner, transfers.LOOK_UP), address
 
     def __enter__(self) -> None:
         is_inner = self.kept[0]
-        hosts.is_inner = lambda text: text not in PUBLIC and is_inner(text)
+        downloads.is_inner = lambda text: text not in PUBLIC and is_inner(text)
         if self.address is not None:
-            hosts.LOOK_UP = f"print('{self.address}')"
+            transfers.LOOK_UP = f"print('{self.address}')"
 
     def __exit__(self, *_: object) -> None:
-        hosts.is_inner, hosts.LOOK_UP = self.kept
+        downloads.is_inner, transfers.LOOK_UP = self.kept
 
 
 class Redirects(ProvidersCase):
@@ -83,12 +83,12 @@ class Redirects(ProvidersCase):
             return (done.fault, done.is_whole and folder.read("body") == TABLE), done
 
     def test_addresses(self) -> None:
-        self.expect("inner addresses", [it for it in INNER if not hosts.is_inner(it)], [])
-        self.expect("public addresses", [it for it in OUTER if hosts.is_inner(it)], [])
+        self.expect("inner addresses", [it for it in INNER if not downloads.is_inner(it)], [])
+        self.expect("public addresses", [it for it in OUTER if downloads.is_inner(it)], [])
         self.expect(
             "ports",
             [
-                hosts.place_of(it)
+                transfers.place_of(it)
                 for it in (
                     "https://H.example/",
                     "https://h.example:443",

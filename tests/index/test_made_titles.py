@@ -18,7 +18,7 @@ from openlink_update.index.titles import short_key
 
 NUMBERS = ("print_identifier", "online_identifier")
 Title = list[dict[str, Any]]  # its rows, by the names of columns
-Joined = Callable[[Title, Title, list[Title]], bool]
+Joined = Callable[[Title, Title, list[Title]], bool]  # whether two titles of a group, which has one key, are one
 
 
 def standard(cell: str) -> str:

@@ -32,7 +32,7 @@ COMMANDS = (
 )
 AMONG = ("weekly_run.py", "shown_text.py", "input_files.py", "fetch/sources.py", "versions/library.py")
 LEAST, LEAST_SUBPACKAGES = 55, 9
-MOST_MODULES, MOST_WITH_A_REPLY = 16, 22  # that openlink-fetch loads, its subpackages aside
+MOST_MODULES, MOST_WITH_A_REPLY = 15, 21  # that openlink-fetch loads, its subpackages aside
 FORBIDDEN = ("sys.path", "SourceFileLoader", "spec_from_", "type: ignore", "cast(")
 USERS = ("tests", "benches")  # beside the package: what a test uses is public
 SETTINGS = str(TOP / "pyproject.toml")
@@ -62,7 +62,7 @@ SPOILT = (
     ("outcome.py", "\nSIXTH: int = ''  # type: ignore\n", "words"),
     ("outcome.py", "\nSIXTH = 6\n", "names"),
     ("disk.py", "\nfrom openlink_update.received import limits\n\nprint(limits)\n", "exports"),
-    ("disk.py", "\nfrom openlink_update.fetch.hosts import host_of\n\nprint(host_of)\n", "exports"),
+    ("disk.py", "\nfrom openlink_update.fetch.transfers import host_of\n\nprint(host_of)\n", "exports"),
     ("received/__init__.py", '\n__all__ = ["archives", "headers", "limits", "patterns", "texts"]\n', "exports"),
     ("received/__init__.py", "\n__all__ = []\n", "exports"),
     ("children.py", "\nfrom openlink_update.versions import library\n\nprint(library)\n", "modules"),

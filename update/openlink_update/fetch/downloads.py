@@ -1,7 +1,8 @@
 """The download of a file: several transfers, since redirects are followed here and a failed try is repeated: curl would
-send a header such as X-Key to every host that it is led to. Several downloads are made side by side, with one
-connection to a host at a time."""
+send a header such as X-Key to every host that it is led to. A redirect is judged by the addresses of its host, which
+curl then has to take. Several downloads are made side by side, with one connection to a host at a time."""
 import http.client
+import ipaddress
 import os
 import re
 import time
@@ -9,9 +10,7 @@ import traceback
 from collections.abc import Callable, Generator, Iterable
 from pathlib import Path
 
-from openlink_update.fetch import hosts
-from openlink_update.fetch.hosts import Lookup, host_of, place_of
-from openlink_update.fetch.transfers import PASSING, WRITE_FAILED, Transfer
+from openlink_update.fetch.transfers import PASSING, WRITE_FAILED, Lookup, Transfer, host_of, is_proxied, place_of
 from openlink_update.outcome import Interrupted
 
 _MOST_HOSTS = 4  # at once
@@ -23,6 +22,8 @@ _ADDRESS = re.compile(r"https://[A-Za-z0-9.:\[\]-]+(?:[/?#][!-~]*)?", re.I)
 _REDIRECTS = (301, 302, 303, 307, 308)
 _PASSING_STATUSES = (408, 425, 429, 500, 502, 503, 504)  # another try may end well
 _UNCHANGED = 304
+_GLOBAL = ipaddress.ip_network("2000::/3")
+_TRANSLATED = ipaddress.ip_network("64:ff9b::/96")  # an IPv4 address, in a network that has IPv6 alone
 
 
 def fault_of(error: Exception) -> str:
@@ -31,6 +32,21 @@ def fault_of(error: Exception) -> str:
         return f"{error.filename or 'curl'}: {error.strerror}"
     place = traceback.extract_tb(error.__traceback__)[-1]
     return f"{type(error).__name__} at {os.path.basename(place.filename)}:{place.lineno}"
+
+
+def is_inner(text: str) -> bool:
+    """Whether a text is an address that is private, loopback, link-local or of no use outside."""
+    try:
+        address = ipaddress.ip_address(text.partition("%")[0])
+    except ValueError:
+        return False
+    if isinstance(address, ipaddress.IPv6Address):
+        if address.ipv4_mapped or address in _TRANSLATED:
+            return is_inner(str(ipaddress.IPv4Address(int(address) & 0xFFFFFFFF)))
+        if address.sixtofour:
+            return is_inner(str(address.sixtofour))
+        return not address.is_global or address not in _GLOBAL
+    return not address.is_global or address.is_multicast
 
 
 class Download:
@@ -78,9 +94,9 @@ class Download:
             lookup, self.lookup = self.lookup, None
             self.seconds -= lookup.took()
             self.addresses = lookup.addresses()
-            if any(map(hosts.is_inner, self.addresses)):
+            if any(map(is_inner, self.addresses)):
                 self.fault = "a redirect that leads into a private network"
-            elif not self.addresses and not hosts.is_proxied():
+            elif not self.addresses and not is_proxied():
                 self.fault = "a redirect that leads to a host whose name is unknown"
         return self.lookup is None and (self.is_done() or time.monotonic() >= self.ready_at)
 
@@ -112,7 +128,7 @@ class Download:
             self.is_unchanged = True
         elif reply.status in _REDIRECTS and reply.redirect:
             if self.address == self.first:  # with a proxy, nobody here knows to what it was connected
-                self.may_lead_inside = hosts.is_inner(host_of(self.first) if hosts.is_proxied() else reply.remote)
+                self.may_lead_inside = is_inner(host_of(self.first) if is_proxied() else reply.remote)
             self.follow(reply.redirect)
         else:
             words = http.client.responses.get(reply.status, "")

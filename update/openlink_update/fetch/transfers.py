@@ -1,17 +1,28 @@
-"""One transfer by curl, which gets the address and all else by its standard input, so that no secret is in the
-arguments of a process. It follows no redirect and tries once."""
+"""The processes that a download starts: a lookup of the addresses of a host, and a transfer by curl, which then takes
+one of them, so that no second answer of the name server leads elsewhere. curl gets the address and all else by its
+standard input, so that no secret is in the arguments of a process. It follows no redirect and tries once."""
 import dataclasses
 import os
 import re
 import subprocess
+import sys
 import tempfile
 import time
 from collections.abc import Iterable, Sequence
 from pathlib import Path
+from typing import NamedTuple
+from urllib.parse import urlsplit
 
 from openlink_update import children
-from openlink_update.fetch.hosts import place_of
 
+_PORTS = {"https": 443, "http": 80}
+_PROXIES = ("http_proxy", "https_proxy", "HTTPS_PROXY", "all_proxy", "ALL_PROXY")  # that curl reads
+_SECONDS_TO_LOOK_UP = 10
+_MOST_ADDRESSES = 65536  # bytes of the addresses of a name that are read
+# A process of its own: a name server may take long, and other downloads go on. It reads the name from its input.
+LOOK_UP = """import socket, sys
+found = socket.getaddrinfo(sys.stdin.read(), None, type=socket.SOCK_STREAM)
+print(*dict.fromkeys(it[4][0] for it in found), sep="\\n")"""
 _SECONDS_TO_CONNECT = 10
 _SECONDS_TO_END = 10  # for curl, after its own limit
 WRITE_FAILED, _TIMED_OUT, _NOT_TRUSTED, _TOO_LARGE = 23, 28, 60, 63
@@ -46,6 +57,64 @@ _OPTIONS = (
 _OUTPUT = re.compile(r"(.*)\nend (\d+) (\d+) ([\d.]+) (\d+) (\S*)\n([^\n]*)", re.S)
 _MOST_OUTPUT = 2**20  # bytes of it; headers after a reply's body have no end for curl
 _LENGTH = re.compile(r"[0-9]{1,15}")
+
+
+class _Place(NamedTuple):
+    host: str
+    port: int
+
+
+def host_of(address: str) -> str:
+    """The host of an address, or '' if a server sent an address that has none."""
+    return place_of(address).host
+
+
+def place_of(address: str) -> _Place:
+    """The host and the port of an address; '' and 0 if a server sent an address that has none."""
+    try:
+        parts = urlsplit(address)
+        return _Place(parts.hostname or "", _PORTS.get(parts.scheme, 0) if parts.port is None else parts.port)
+    except ValueError:
+        return _Place("", 0)
+
+
+def is_proxied() -> bool:
+    """Whether curl may reach hosts by a proxy, which looks up their names."""
+    return any(os.environ.get(name) for name in _PROXIES)
+
+
+class Lookup:
+    """The addresses of a host, as they are being looked up."""
+
+    def __init__(self, host: str) -> None:
+        self._started, self._output = time.monotonic(), tempfile.TemporaryFile()
+        self._child = children.start(
+            [sys.executable, "-I", "-S", "-c", LOOK_UP],
+            "/",
+            _MOST_ADDRESSES,
+            stdin=subprocess.PIPE,
+            stdout=self._output,
+            stderr=subprocess.DEVNULL,
+        )
+        children.write(self._child, host.encode())
+
+    def took(self) -> float:
+        return time.monotonic() - self._started
+
+    def has_ended(self) -> bool:
+        if self._child.poll() is None and self.took() > _SECONDS_TO_LOOK_UP:
+            self.stop()
+        return self._child.poll() is not None
+
+    def stop(self) -> None:
+        children.stop(self._child)
+
+    def addresses(self) -> list[str]:
+        """The addresses, once it has ended; none if the name is unknown."""
+        self._output.seek(0)
+        text = self._output.read().decode("ascii", "replace") if self._child.returncode == 0 else ""
+        self._output.close()
+        return text.split()
 
 
 def _quoted(text: str) -> str:

@@ -114,6 +114,7 @@ def _addresses_of(title: Title) -> str:
 
 
 def _text_of(related: Related) -> str:
+    """The cells of the earlier titles, which begin with `<`, and of the later ones, which begin with `>`."""
     return "".join(
         f"\t{sign}{title.numbers()[0]} {title.name}"
         for sign, titles in (("<", related.earlier), (">", related.later))
