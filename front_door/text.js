@@ -53,6 +53,7 @@ function escape(text) {
     }
     return all;
 }
-function isWeb(link) { return is(/^https?:\/\/[\x21-\x7e]+$/i, link); }
+// In njs the flag `i` takes U+212A for a `k`, and `$` is also before a last line end.
+function isWeb(link) { return is(/^[Hh][Tt][Tt][Pp][Ss]?:\/\/./, link) && !is(/[^\x21-\x7e]/, link); }
 
 export default { own, is, isObject, lazy, padded, replaced, clean, escape, isWeb, targetOf };

@@ -13,6 +13,7 @@ import openurl from './openurl.js';
 import plurals from './plurals.js';
 import program from './program.js';
 import references from './references.js';
+import texts from './text.js';
 import staff from './why.js';
 import wording from './words.js';
 import cases from './cases.js';
@@ -268,6 +269,7 @@ function testValues() {
     values.DAYS.forEach((it) => { expect('the days of ' + it[0], dates.daysOf(it[0]).join(' '), it[1]); });
     values.ISSNS.forEach((it) => { expect('the ISSNs in ' + it[0], numbersIn(it[0], numbers.ISSN), it[1]); });
     values.ISBNS.forEach((it) => { expect('the ISBNs in ' + it[0], numbersIn(it[0], numbers.ISBN), it[1]); });
+    values.ADDRESSES.forEach((it) => { expect('the address ' + it[0], texts.isWeb(it[0]), it[1]); });
     values.CHECKED.forEach((it) => { expect('the last digit of ' + it[0], numbers.isRight(it[0]), it[1]); });
     const both = function (key, text, first, second) {
         const q = openurl.queryOf('rft_val_fmt=x&rft.' + key + '=' + encodeURIComponent(text));

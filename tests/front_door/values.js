@@ -81,4 +81,12 @@ const PAGES = [
     ['artnum', '7', '7|'], ['artnum', FORTY, FORTY + '|'], ['artnum', FORTY + '1', '|']
 ];
 
-export default { DATES, DAYS, ISSNS, ISBNS, CHECKED, VOLUMES, PAGES };
+// An address, and whether it is one of the web, in ASCII as headers of replies hold it.
+const ADDRESSES = [
+    ['https://a', true], ['http://a', true], ['HTTPS://a', true], ['HttP://a~!', true], ['https://', false],
+    ['https:/a', false], ['ftp://a', false], [' https://a', false], ['https://a b', false], ['https://a\n', false],
+    ['https://\u00fc', false], ['https://\u212a', false], ['https://\u017f', false], ['http\u017f://a', false],
+    ['javascript:https://a', false], ['', false]
+];
+
+export default { DATES, DAYS, ISSNS, ISBNS, CHECKED, VOLUMES, PAGES, ADDRESSES };
