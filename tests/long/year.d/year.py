@@ -214,9 +214,10 @@ class Year:
                 self.fault("nginx writes to logs that were rotated")
             self.seen, self.kills = Seen(), 0
 
-    def check_compared(self):
-        """Nothing that should be compared was left out."""
+    def check_compared(self, is_whole):
+        """Nothing that should be compared was left out; in a whole year, no slip that the update knows."""
         missing = [name for name in COMPARED if not self.compared[name]]
+        missing += sorted(set(slips.OF_UPDATE.values()) - self.kinds) if is_whole else []
         missing += [kind for kind in KINDS if kind not in self.numbers | {"errors"}]
         if missing:
             self.fault(f"nothing was compared: {', '.join(missing)}")
