@@ -224,8 +224,10 @@ class Reader(threading.Thread):
     def compare(self, kind, target, request, reply, start, end):
         spans = self.allowed.between(start, end)
         is_settled = len(spans) == 1
+        # nginx reads targets.json again once all processes serve the new version.
+        states = [state.named_as(other) for state, _, _ in spans for other, _, _ in spans]
         try:
-            for state, _, _ in spans:
+            for state in states:
                 if target:
                     is_one = is_right_click(target, request, reply, state, is_settled)
                 else:

@@ -1,5 +1,5 @@
 """The right page for a request in a state of the library, worked out from the made rows and not by the program."""
-import calendar, dataclasses, datetime, re
+import calendar, copy, dataclasses, datetime, re
 from urllib.parse import urlencode
 
 # The rules of a provider, as the input has them; EDITION changes with its addresses.
@@ -146,12 +146,18 @@ class State:
 
     def __init__(self, name, day, providers, unnamed=frozenset()):
         self.name, self.day, self.providers, self.unnamed = name, day, providers, unnamed
-        self.rows, self.titles = {}, {}
+        self.rows, self.titles, self.title_of = {}, {}, {}
         for name, held in providers.items():
             for row in held.rows:
-                for number in (row.printed, row.online):
-                    self.rows.setdefault(number, {}).setdefault(name, []).append(row)
-                self.titles[row.title] = row
+                self.rows.setdefault(row.title, {}).setdefault(name, []).append(row)
+                self.titles.setdefault(row.title, row)
+                self.title_of.update({row.printed: row.title, row.online: row.title})
+
+    def named_as(self, other):
+        """The same with the names of another state."""
+        found = copy.copy(self)
+        found.unnamed = other.unnamed
+        return found
 
     def number_of(self, request):
         """The number of a request, or that of its title; None if there is no such title."""
@@ -161,8 +167,8 @@ class State:
         return row.printed if row else None
 
     def rows_of(self, request):
-        """The rows of the request's number, by provider."""
-        return self.rows.get(self.number_of(request), {})
+        """The rows of the title of the request's number, by provider: a row may have another number of the title."""
+        return self.rows.get(self.title_of.get(self.number_of(request)), {})
 
     def pages(self, request):
         """The target, the label and the address of each page of the title that is offered: of targets without a link
