@@ -25,6 +25,7 @@ DATES = (
     "",
 )
 BY_TITLE, BY_STRANGER = 0.1, 0.05  # shares of requests by a title, and for what nobody has
+OF_WEEK = 0.3  # the share of requests for what the week changes, half of them for a title as a whole
 SOURCES = ("", "", "made.example.org", "other-source")
 KINDS = ("/find.json", "/find.json", "/find", "/find", "/go")
 CLICK = "/go?target="  # the kind of a link that a reader follows
@@ -55,8 +56,11 @@ class Allowed:
             return [tuple(it) for it in self.spans if it[1] <= end and (it[2] is None or it[2] >= start)]
 
 
-def request_of(source, titles):
-    """A request for a title that was ever sold, one in ten by its name alone."""
+def request_of(source, titles, changed=()):
+    """A request for a title that was ever sold, one in ten by its name alone, or for one that the week has changed."""
+    if changed and source.random() < OF_WEEK:
+        title, *numbers = source.choice(changed)
+        return Request(source.choice(numbers), source.choice((source.choice(DATES), "")), source=source.choice(SOURCES))
     title, printed, online = source.choice(titles)
     date, sender = source.choice(DATES), source.choice(SOURCES)
     chance = source.random()
@@ -177,10 +181,11 @@ def is_right_click(target, request, reply, state, is_settled):
 
 
 class Reader(threading.Thread):
-    def __init__(self, port, allowed, titles, seed, pause, seen):
-        """`seen` gives what counts the replies of this week."""
+    def __init__(self, port, allowed, titles, seed, pause, seen, changed):
+        """`seen` gives what counts the replies of this week, and `changed` the titles that it changes."""
         super().__init__(daemon=True)
         self.port, self.allowed, self.titles, self.pause, self.seen = port, allowed, titles, pause, seen
+        self.changed = changed
         self.source, self.is_told = random.Random(seed), False
         self.replies, self.longest, self.unanswered, self.slowest = 0, 0.0, 0, 0.0
         self.wrong, self.told = [], 0  # wrong pages, and how many of them have been reported
@@ -190,7 +195,7 @@ class Reader(threading.Thread):
     def run(self):
         while not self.is_told:
             with self.lock:
-                self.ask(request_of(self.source, self.titles))
+                self.ask(request_of(self.source, self.titles, self.changed()))
             time.sleep(self.pause)
 
     def ask(self, request, kind=None):

@@ -327,9 +327,9 @@ KINDS = {
         "online_identifier", wrong, "check digits of online_identifier wrong", 0.5
     ),
     "no first dates": bad_cells("date_first_issue_online", lambda _: "", "no first date in any row"),
-    "first dates to come": bad_cells("date_first_issue_online", lambda _: "2041-05", "first dates after today"),
-    "sessions in addresses": bad_cells("title_url", visited, "session identifiers in addresses"),
-    "the proxy of another library": bad_cells("title_url", proxied, "the proxy of another library in addresses"),
+    "first dates to come": bad_cells("date_first_issue_online", lambda _: "2041-05", "first dates after today", 0.5),
+    "sessions in addresses": bad_cells("title_url", visited, "session identifiers in addresses", 0.5),
+    "the proxy of another library": bad_cells("title_url", proxied, "the proxy of another library in addresses", 0.5),
     "a text in another spelling": bad_cells(
         "coverage_depth", lambda _: "Full Text", "new texts that rules do not compare with", 0.5
     ),
@@ -337,7 +337,7 @@ KINDS = {
     "volumes in words": bad_cells(
         "num_first_vol_online", lambda cell: cell and f"Vol. {cell}", "volumes or issues that are no number"
     ),
-    "damaged letters": bad_cells("publication_title", damaged, "damaged letters in titles"),
+    "damaged letters": bad_cells("publication_title", damaged, "damaged letters in titles", 0.5),
     "titles in capitals": bad_cells("publication_title", str.upper, "titles in capitals"),
     "titles sorted apart": bad_table(
         lambda lines: text(sorted_apart(lines)), "  {file}: numbers known under other titles: "

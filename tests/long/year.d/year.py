@@ -12,7 +12,7 @@ from fixtures.patience import patience, wait_until
 
 MONDAY = datetime.date(2027, 1, 4)
 SECRET = PLAIN + 1  # the provider whose address has a token
-ALLOWED = {PLAIN + 2: "gone up to 100%; came up to 200000%; less than half of the rows"}
+ALLOWED = {PLAIN + 2: "gone up to 100%; came up to 500000%; less than half of the rows"}
 KEY = "s3cr3t/+&token"
 READERS, PAUSE, PROCESSES = 3, 0.04, 3
 ASKED_AFTER = 50  # requests after a run, when only one page is right
@@ -45,6 +45,7 @@ class Year:
             0,
         )  # of this week: replies, and killed workers of nginx
         self.busy, self.kinds = set(), set()  # providers with a slip in the last week; kinds of slips that were made
+        self.changed = []  # titles whose rows the week changes
         self.numbers = set()  # kinds of numbers of openlink-counts that readers knew of
         self.readers, self.allowed, self.state, self.mail = [], None, None, None
         self.seconds = {"fetch": 2.0, "update": 6.0}  # that the last whole runs took
@@ -68,6 +69,11 @@ class Year:
         self.before = {it.name: it.rows for it in self.collection.providers}
         if number:
             self.collection.advance()
+        self.changed = [
+            (row.title, row.printed, row.online)
+            for provider in self.collection.providers
+            for row in sorted(set(provider.rows) ^ set(self.before[provider.name]), key=repr)
+        ]
         self.mail, self.printed = Week(self.collection.providers, self.path), []
         self.mail.mended = frozenset(self.busy)
         for provider in self.collection.providers:
@@ -172,7 +178,7 @@ class Year:
 
     def reader(self, titles, pause):
         port, seed = self.machine.site.port, self.source.random()
-        return Reader(port, self.allowed, titles, seed, pause, lambda: self.seen)
+        return Reader(port, self.allowed, titles, seed, pause, lambda: self.seen, lambda: self.changed)
 
     @contextlib.contextmanager
     def quiet(self):
