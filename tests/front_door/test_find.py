@@ -22,6 +22,7 @@ ERRORS = [
     ("/_menu", "GET", None, 404),
     ("/report.txt", "GET", None, 404),
     ("/_report", "GET", None, 404),
+    ("/_before", "GET", None, 404),
     ("/fault", "GET", None, 404),
     ("/find", "TRACE", None, 405),
     ("/find", "POST", b"a" * 9000, 413),

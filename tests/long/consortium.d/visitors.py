@@ -52,7 +52,7 @@ class Visitor(threading.Thread):
 
     def compare(self, kind, request, reply, states):
         try:
-            if any(is_right(kind, reply, state.links(request), len(states) == 1) for state in states):
+            if any(is_right(kind, request, reply, state, len(states) == 1) for state in states):
                 return
         except (ValueError, LookupError) as fault:
             reply = (*reply, repr(fault))

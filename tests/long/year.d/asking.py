@@ -1,12 +1,13 @@
-"""Readers who ask the front door all the time, and compare each page with the right one of a state that was allowed
-while they waited."""
+"""Readers who ask the front door all the time, follow links of its pages, and compare each reply with the right one of
+a state that was allowed while they waited."""
 import html, http.client, json, random, re, threading, time
+from urllib.parse import parse_qs, urlencode, urlsplit
 from links import FULL, Request
 
 SECONDS = 30  # for a reply
 PAGES = "The page of this title"
 COVERAGE = re.compile(r" <span>[^<]*</span>$")  # which the name of a link has
-HEADING = re.compile(r'<h2>(.*?)</h2>|<ul class="actions">|<li><a href="(http[^"]*)">(.*?)</a>')
+HEADING = re.compile(r'<h2>(.*?)</h2>|<ul class="actions">|<li><a href="((?:http|/go\?)[^"]*)">(.*?)</a>')
 DATES = (
     "1976",
     "1979-12",
@@ -24,6 +25,11 @@ DATES = (
     "",
 )
 BY_TITLE, BY_STRANGER = 0.1, 0.05  # shares of requests by a title, and for what nobody has
+OF_WEEK = 0.3  # the share of requests for what the week changes, half of them for a title as a whole
+SOURCES = ("", "", "made.example.org", "other-source")
+KINDS = ("/find.json", "/find.json", "/find", "/find", "/go")
+CLICK = "/go?target="  # the kind of a link that a reader follows
+FOLLOWED = 0.5  # the share of pages of which a link is followed
 
 
 class Allowed:
@@ -50,29 +56,33 @@ class Allowed:
             return [tuple(it) for it in self.spans if it[1] <= end and (it[2] is None or it[2] >= start)]
 
 
-def request_of(source, titles):
-    """A request for a title that was ever sold, one in ten by its name alone."""
+def request_of(source, titles, changed=()):
+    """A request for a title that was ever sold, one in ten by its name alone, or for one that the week has changed."""
+    if changed and source.random() < OF_WEEK:
+        title, *numbers = source.choice(changed)
+        return Request(source.choice(numbers), source.choice((source.choice(DATES), "")), source=source.choice(SOURCES))
     title, printed, online = source.choice(titles)
-    date = source.choice(DATES)
+    date, sender = source.choice(DATES), source.choice(SOURCES)
     chance = source.random()
     if chance < BY_STRANGER:
-        return Request("1000-000X", date)
+        return Request("1000-000X", date, source=sender)
     number = source.choice((printed, online))
     volume = str(source.randrange(1, 40)) if source.random() < 0.5 else ""
     is_named = chance < BY_STRANGER + BY_TITLE and len(number) == 9
-    return Request(number, date, volume, title if is_named else "")
+    return Request(number, date, volume, title if is_named else "", sender)
 
 
 def json_links(text):
-    """The group, target, label, address and coverage of each link."""
+    """The group, target, label, address and coverage of each link; and the pages of the title."""
     data = json.loads(text)
     if "groups" not in data:
         raise ValueError(text)
-    return [
+    links = [
         (group["name"], link["target"], link["label"], link["url"], link.get("coverage"))
         for group in data["groups"]
         for link in group["links"]
     ]
+    return links, {(page["target"], page["label"], page["url"]) for page in data.get("pages", ())}
 
 
 def page_links(text):
@@ -88,6 +98,12 @@ def page_links(text):
     return found
 
 
+def target_in(address):
+    """The target of a link that leads through /go, or of the address of a provider."""
+    parts = urlsplit(address)
+    return parse_qs(parts.query)["target"][0] if parts.path == "/go" else parts.hostname.partition(".")[0]
+
+
 def coverage_of(row):
     """What JSON says beside the link of a row."""
     if row is None:
@@ -97,7 +113,7 @@ def coverage_of(row):
 
 
 def state_text(request, span, start, end):
-    """A state that was allowed while a reader waited: when, its links, and the rows of the number."""
+    """A state that was allowed while a reader waited: when, its links and pages, and the rows of the number."""
     state, since, until = span
     until = "on" if until is None else f"to {until - end:+.3f} s from the reply"
     rows = {
@@ -108,15 +124,27 @@ def state_text(request, span, start, end):
         [
             f"  right is {state.name}, from {since - start:+.3f} s from the request {until}:",
             str([link[:4] for link in state.links(request)]),
+            f"pages {sorted(state.pages(request))}",
             str(rows),
         ]
     )
 
 
-def is_right(kind, reply, expected, pages, is_settled):
-    """Whether a reply is the one for these links, and has no other pages of the title. Beside a link may be the
-    coverage of another version meanwhile."""
+def address_on_page(target, address, request, is_followed):
+    """Where a link of a page leads: through /go if the site counts what is followed."""
+    return f"/go?{urlencode({'target': target})}&{request.query()}" if is_followed else address
+
+
+def are_right_pages(found, pages, is_settled):
+    """Whether these are the pages of the title, which may be missing while a version is put in use."""
+    return found == pages if is_settled else found <= pages
+
+
+def is_right(kind, request, reply, state, is_settled, is_followed=False):
+    """Whether a reply is the one of a state, and has no other pages of the title. Beside a link may be the coverage of
+    another version meanwhile."""
     status, text, location = reply
+    expected, pages = state.links(request), state.pages(request)
     if kind == "/go":
         full = [link for link in expected if link[0] == FULL]
         if len(full) == 1:
@@ -124,61 +152,105 @@ def is_right(kind, reply, expected, pages, is_settled):
     if status != 200:
         return False
     if kind == "/find.json":
-        links = json_links(text)
-        return [link[:4] for link in links] == [link[:4] for link in expected] and (
-            not is_settled or [it[4] for it in links] == [coverage_of(it[4]) for it in expected]
+        links, found = json_links(text)
+        return (
+            [link[:4] for link in links] == [link[:4] for link in expected]
+            and are_right_pages(found, pages, is_settled)
+            and (not is_settled or [it[4] for it in links] == [coverage_of(it[4]) for it in expected])
         )
     links = page_links(text)
-    if any(group == PAGES and address not in pages for group, _, address in links):
-        return False
-    full = [link for link in links if link[0] != PAGES]
-    return full == [(group, label, address) for group, _, label, address, _ in expected]
+    found = {(label, address) for group, label, address in links if group == PAGES}
+    shown = {(label, address_on_page(name, url, request, is_followed)) for name, label, url in pages}
+    full = [
+        (group, label, address_on_page(name, address, request, is_followed))
+        for group, name, label, address, _ in expected
+    ]
+    return [link for link in links if link[0] != PAGES] == full and are_right_pages(found, shown, is_settled)
+
+
+def is_right_click(target, request, reply, state, is_settled):
+    """Whether a link that a reader follows leads to what the page shows for its target, and otherwise to the page."""
+    status, _, location = reply
+    for link in state.links(request):
+        if link[1] == target:
+            return status == 302 and location == link[3]
+    page = next((url for name, _, url in state.pages(request) if name == target), None)
+    if page and (is_settled or status == 302):
+        return status == 302 and location == page
+    return is_right("/find", request, reply, state, is_settled, True)
 
 
 class Reader(threading.Thread):
-    def __init__(self, port, allowed, titles, seed, pause):
+    def __init__(self, port, allowed, titles, seed, pause, seen, changed):
+        """`seen` gives what counts the replies of this week, and `changed` the titles that it changes."""
         super().__init__(daemon=True)
-        self.port, self.allowed, self.titles, self.pause = port, allowed, titles, pause
+        self.port, self.allowed, self.titles, self.pause, self.seen = port, allowed, titles, pause, seen
+        self.changed = changed
         self.source, self.is_told = random.Random(seed), False
         self.replies, self.longest, self.unanswered, self.slowest = 0, 0.0, 0, 0.0
         self.wrong, self.told = [], 0  # wrong pages, and how many of them have been reported
         self.since = None  # the time of the first of the last requests that had no answer
+        self.lock = threading.Lock()  # which a request has, and what waits for its end
 
     def run(self):
         while not self.is_told:
-            self.ask(request_of(self.source, self.titles))
+            with self.lock:
+                self.ask(request_of(self.source, self.titles, self.changed()))
             time.sleep(self.pause)
 
     def ask(self, request, kind=None):
-        kind = kind or self.source.choice(("/find.json", "/find.json", "/find", "/go"))
+        kind = kind or self.source.choice(KINDS)
+        reply = self.asked(kind, "", request)
+        if kind == "/find" and reply and reply[0] == 200 and self.source.random() < FOLLOWED:
+            links = [address for _, _, address in page_links(reply[1]) if address.startswith(CLICK)]
+            if links:
+                self.asked(CLICK, target_in(self.source.choice(links)), request)
+
+    def asked(self, kind, target, request):
+        """Sends a request, or follows a link to a target, and compares the reply. Returns it, or None."""
         start = time.monotonic()
         try:
-            reply = self.reply(f"{kind}?{request.query()}")
+            reply = self.reply(f"{kind}{target}&{request.query()}" if target else f"{kind}?{request.query()}")
         except (OSError, http.client.HTTPException):
             reply = None
         end = time.monotonic()
         if reply is None or reply[0] == 503:
             self.unanswered += 1
             self.since = self.since or start
-            return
+            self.seen().add_unanswered(reply)
+            return None
         self.replies += 1
         self.slowest = max(self.slowest, end - start)
         if self.since:
             self.longest, self.since = max(self.longest, end - self.since), None
-        self.compare(kind, request, reply, start, end)
+        self.compare(kind, target, request, reply, start, end)
+        return reply
 
-    def compare(self, kind, request, reply, start, end):
+    def compare(self, kind, target, request, reply, start, end):
         spans = self.allowed.between(start, end)
+        is_settled = len(spans) == 1
+        # nginx reads targets.json again once all processes serve the new version.
+        states = [state.named_as(other) for state, _, _ in spans for other, _, _ in spans]
         try:
-            for state, _, _ in spans:
-                if is_right(kind, reply, state.links(request), state.pages(request), len(spans) == 1):
+            for state in states:
+                if target:
+                    is_one = is_right_click(target, request, reply, state, is_settled)
+                else:
+                    is_one = is_right(kind, request, reply, state, is_settled, True)
+                if is_one:
+                    self.seen().add(kind, target, request, reply, state, is_settled)
                     return
         except (ValueError, LookupError) as fault:
             reply = (*reply, repr(fault))
+        self.seen().add(kind, target, request, reply[:3], spans[-1][0], False)
         texts = [state_text(request, span, start, end) for span in spans]
         self.wrong.append(
             "\n".join(
-                [f"{kind}?{request.query()}: {str(reply)[:1500]}", f"  the reply took {end - start:.3f} s", *texts]
+                [
+                    f"{kind}{target} {request.query()}: {str(reply)[:1500]}",
+                    f"  the reply took {end - start:.3f} s",
+                    *texts,
+                ]
             )
         )
 

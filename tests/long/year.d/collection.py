@@ -1,11 +1,14 @@
 """Forty made providers, and their tables week by week. A table is a list of rows; how it becomes the bytes of a file is
 in tables.py."""
-import dataclasses
+import dataclasses, os
 from fixtures.made_titles import Made, isbn, issn
 
 COUNT, HOSTS = 40, 8  # providers, and their hosts; the last provider has the last host for itself
 PLAIN = 36  # from this one on they have plain tables of journals, for slips of their own
 STABLE = 14  # titles that never change, for the probes
+IS_SMALL = bool(os.environ.get("YEAR_SMALL"))
+JOURNALS, BOOKS = (600, 150) if IS_SMALL else (2500, 600)
+ROWS = (45, 80) if IS_SMALL else (50, 400)  # titles of a provider at first, from and to
 DATES = ("1975", "1988-07", "1992-03-15", "2001-11", "2010-02-28", "2015-12-31", "2019", "2024-06-30")
 EMBARGOES = ("", "", "", "P1Y", "P6M", "P30D", "R5Y", "R10Y;P3M", "P18M")
 
@@ -49,8 +52,8 @@ class Collection:
 
     def __init__(self, source, forms, rules):
         self.source, made = source, Made(seed=source.randrange(10**6), vocabulary=3000)
-        self.journals = [self.title(made, number, issn) for number in range(2500)]
-        self.books = [self.title(made, number, isbn) for number in range(600)]
+        self.journals = [self.title(made, number, issn) for number in range(JOURNALS)]
+        self.books = [self.title(made, number, isbn) for number in range(BOOKS)]
         self.stable = self.journals[:STABLE]
         self.providers = []
         for number in range(COUNT):
@@ -71,7 +74,7 @@ class Collection:
         pool = self.books if provider.rules == "books" else self.journals[STABLE:]
         rows = [
             row
-            for title in self.source.sample(pool, self.source.randrange(50, 400))
+            for title in self.source.sample(pool, self.source.randrange(*ROWS))
             for row in self.rows_of(title, f"t{number}")
         ]
         if provider.rules == "books":

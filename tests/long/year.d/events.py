@@ -45,7 +45,8 @@ class Saboteur(threading.Thread):
 
     def __init__(self, year, seed):
         super().__init__(daemon=True)
-        self.machine, self.source, self.is_told, self.kills = year.machine, random.Random(seed), False, 0
+        self.machine, self.source, self.is_told = year.machine, random.Random(seed), False
+        self.kills = self.workers = 0  # processes that were killed, and workers of nginx among them
 
     def run(self):
         while not self.is_told:
@@ -54,6 +55,7 @@ class Saboteur(threading.Thread):
             with contextlib.suppress(OSError, IndexError):
                 os.kill(self.source.choice(victims), signal.SIGKILL)
                 self.kills += 1
+                self.workers += victims is workers
             time.sleep(0.3 + 1.2 * self.source.random())
 
     def __enter__(self):
@@ -73,6 +75,7 @@ def sabotaged_update(year):
         year.allowed.add(state)
         status = year.run("update beside kills", year.machine.begin(), (0, 1, 3, 4))
         year.counts["processes killed"] += saboteur.kills
+        year.kills += saboteur.workers
     wait_until(lambda: all(map(is_open, year.machine.site.ports)))
     if not year.is_unsettled():
         year.settle(state if status in (0, 1) else year.state)

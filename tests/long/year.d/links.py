@@ -1,5 +1,5 @@
 """The right page for a request in a state of the library, worked out from the made rows and not by the program."""
-import calendar, dataclasses, datetime, re
+import calendar, copy, dataclasses, datetime, re
 from urllib.parse import urlencode
 
 # The rules of a provider, as the input has them; EDITION changes with its addresses.
@@ -44,6 +44,7 @@ when given x.isbn
 link https://loans.example.org/?number={x.isbn}
 """
 FULL, LOANS, OTHERS, LOAN = "Full text", "Request a copy", "More", "loan"
+UNDATED = ("days", "volume")  # rules that have no link for a journal without a date
 STEP = re.compile(r"([PR])(\d+)([YMD])")
 
 
@@ -59,6 +60,7 @@ class Held:
     rules: str
     edition: int
     label: str
+    more: int = 0  # further rows, of titles that nobody asks for
 
 
 @dataclasses.dataclass(frozen=True)
@@ -67,10 +69,12 @@ class Request:
     date: str = ""  # a year, a month or a day
     volume: str = ""
     title: str = ""  # in place of the number
+    source: str = ""  # that sends it
 
     def query(self):
         number = {"issn" if len(self.number) == 9 else "isbn": self.number}
         given = {**({"title": self.title} if self.title else number), "date": self.date, "volume": self.volume}
+        given["sid"] = self.source
         return urlencode({name: text for name, text in given.items() if text})
 
 
@@ -132,17 +136,28 @@ def path_of(row, held, request, today):
     return row.id if held.rules == "undated" else None
 
 
+def may_be_open(row, year):
+    """Whether a row covers a part of a year, without an embargo, of which no page says what it closes."""
+    return not row.embargo and (not row.first or row.first[:4] <= year) and (not row.last or year <= row.last[:4])
+
+
 class State:
     """What the library serves: of each provider, since a day, and which of them targets.json does not name."""
 
     def __init__(self, name, day, providers, unnamed=frozenset()):
         self.name, self.day, self.providers, self.unnamed = name, day, providers, unnamed
-        self.rows, self.titles = {}, {}
+        self.rows, self.titles, self.title_of = {}, {}, {}
         for name, held in providers.items():
             for row in held.rows:
-                for number in (row.printed, row.online):
-                    self.rows.setdefault(number, {}).setdefault(name, []).append(row)
-                self.titles[row.title] = row
+                self.rows.setdefault(row.title, {}).setdefault(name, []).append(row)
+                self.titles.setdefault(row.title, row)
+                self.title_of.update({row.printed: row.title, row.online: row.title})
+
+    def named_as(self, other):
+        """The same with the names of another state."""
+        found = copy.copy(self)
+        found.unnamed = other.unnamed
+        return found
 
     def number_of(self, request):
         """The number of a request, or that of its title; None if there is no such title."""
@@ -152,13 +167,26 @@ class State:
         return row.printed if row else None
 
     def rows_of(self, request):
-        """The rows of the request's number, by provider."""
-        return self.rows.get(self.number_of(request), {})
+        """The rows of the title of the request's number, by provider: a row may have another number of the title."""
+        return self.rows.get(self.title_of.get(self.number_of(request)), {})
 
     def pages(self, request):
-        """The addresses in the rows of the request's number."""
-        of_number = self.rows_of(request)
-        return {f"https://{name}.example.com/journals/{row.id}" for name, rows in of_number.items() for row in rows}
+        """The target, the label and the address of each page of the title that is offered: of targets without a link
+        whose rules have none without a date, if they may have the year, and if the request may mean all of the title.
+        """
+        if request.date and request.volume:
+            return set()
+        linked = {link[1] for link in self.links(request)}
+        return {
+            (name, f"The journal at {self.label_of(name)}", f"https://{name}.example.com/journals/{row.id}")
+            for name, rows in self.rows_of(request).items()
+            if name not in linked and self.providers[name].rules in UNDATED
+            for row in rows
+            if not request.date or may_be_open(row, request.date[:4])
+        }
+
+    def label_of(self, name):
+        return name if name in self.unnamed else self.providers[name].label
 
     def links(self, request):
         """The group, target, label, address and row of each link, in the order of the page."""
@@ -171,7 +199,7 @@ class State:
                 path = path_of(row, held, request, self.day)
                 if path is not None:
                     place = (more, OTHERS) if name in self.unnamed else (found, FULL)
-                    label = name if name in self.unnamed else held.label
+                    label = self.label_of(name)
                     place[0].append((place[1], name, label, f"https://{name}.example.com/e{held.edition}/{path}", row))
                     break
         loan = [] if found else [(LOANS, LOAN, "Loan", f"https://loans.example.org/?number={number}", None)]

@@ -1,7 +1,8 @@
 """The library's machine: its folders, the processes under a supervisor, nginx with the front door, the providers'
-server, and runs of update/fetch and update/update on it."""
+server, the logs, and runs of update/fetch, update/update, update/desk and update/counts on it."""
 import json, os, shutil, signal, subprocess, tempfile, threading
 from fixtures import PYTHON
+from fixtures.needs import DEBIANS, PROGRAM
 from fixtures.library import HERE as FIXTURES, FrontDoor, Library
 from fixtures.patience import patience, wait_until
 from fixtures.providers import HOSTS, Providers, sign
@@ -39,6 +40,11 @@ SERVER = """    server {{
     }}
 """
 ROOM, INPUT_ROOM = "512m", "192m"  # of the disks
+WITH_DESK = (DEBIANS, "-B")  # an interpreter with python3-jinja2
+LOGS = ("openlink.log", "openlink-followed.log", "openlink-wanted.log")
+ROTATED = 2  # older files of each log
+FIRST = 120  # seconds for the first version
+COUNTED = tuple(f"js_var $openlink_{name} " for name in ("followed", "log_wanted"))
 
 
 def servers_of(providers):
@@ -139,10 +145,20 @@ class Input:
 
 
 class Door(FrontDoor):
+    def places(self):
+        """With the desk of the library, which the update writes."""
+        desk = ("/etc/openlink/desk/current", self.library.path("desk", "current"))
+        return [desk if old == desk[0] else (old, new) for old, new in super().places()]
+
     def write_registry(self):
         """The update makes the registry, and the input has the targets.json that is in use from the first one on."""
         with open(self.path("openlink/targets.json"), "w") as file:
             file.write(self.library.names)
+
+    def wait_for(self, port):
+        """No process can run before there is a first version, which takes a while."""
+        wait_until(lambda: os.path.lexists(self.library.path("current")), FIRST)
+        super().wait_for(port)
 
     def write_configuration(self):
         super().write_configuration()
@@ -193,7 +209,7 @@ class Machine(Library):
         """Starts a script on the machine's day."""
         environment = {**os.environ, "CURL_CA_BUNDLE": self.authority, "TMPDIR": self.aside("temporary")}
         return subprocess.Popen(
-            [*PYTHON, f"{HERE}/dated.py", f"{self.day}T04:00:00", *words],
+            [*WITH_DESK, f"{HERE}/dated.py", f"{self.day}T04:00:00", *words],
             stdout=subprocess.PIPE,
             stderr=subprocess.STDOUT,
             text=True,
@@ -225,8 +241,64 @@ class Machine(Library):
     def begin_fetch(self, seconds):
         return self.dated("update/fetch", "--input", self.input.folder, "--pause", "0.2", "--seconds", str(seconds))
 
+    def begin_desk(self):
+        """What a timer does every day."""
+        site = self.site.path("openlink.conf")
+        return self.dated("update/desk", "--library", self.folder, "--site", site, "--program", PROGRAM)
+
+    def counts(self):
+        """What openlink-counts says of the logs since they were rotated: its status, and JSON."""
+        words = [*PYTHON, "update/counts", "--format", "json", *map(self.log, LOGS)]
+        done = subprocess.run(words, stdout=subprocess.PIPE, stderr=subprocess.STDOUT, text=True)
+        return done.returncode, done.stdout
+
+    def log(self, name):
+        return self.site.path(f"log/{name}")
+
+    def lines(self):
+        """How many lines each log has."""
+        found = []
+        for name in LOGS:
+            with open(self.log(name), "rb") as file:
+                found.append(sum(1 for _ in file))
+        return tuple(found)
+
+    def rotate(self):
+        """What logrotate does. Returns whether nginx writes to the new files."""
+        for path in map(self.log, LOGS):
+            for number in range(ROTATED, 0, -1):
+                if os.path.exists(f"{path}.{number}"):
+                    os.rename(f"{path}.{number}", f"{path}.{number + 1}")
+            os.rename(path, f"{path}.1")
+            if os.path.exists(f"{path}.{ROTATED + 1}"):
+                os.unlink(f"{path}.{ROTATED + 1}")
+        self.site.nginx.send_signal(signal.SIGUSR1)
+        return wait_until(lambda: all(map(os.path.exists, map(self.log, LOGS))) and not self.writes_to_old_logs())
+
+    def writes_to_old_logs(self):
+        """Whether nginx or a worker of it has a log open that was renamed."""
+        for pid in (self.site.nginx.pid, *self.site.workers()):
+            folder = f"/proc/{pid}/fd"
+            try:
+                paths = [os.readlink(f"{folder}/{name}") for name in os.listdir(folder)]
+            except OSError:
+                continue
+            if any(path.endswith((".log.1", ".log.2")) for path in paths):
+                return True
+        return False
+
+    def desk(self, name):
+        """A file of the desk, as nginx serves it on the machine itself."""
+        reply = self.site.get(f"/desk/{name}", port=self.site.report_port)
+        return reply.text if reply.status == 200 else None
+
+    def desk_table(self, name):
+        """The cells of a table of the desk below its header."""
+        text = self.desk(name)
+        return [line.split("\t") for line in text.splitlines()[1:]] if text else []
+
     def start(self):
-        """The first version, and then nginx with its targets.json."""
+        """The first version, and then nginx with its targets.json, which logs what is followed and asked in vain."""
         thread = threading.Thread(target=self.site.start)
         thread.start()
         result = ended(self.begin())
@@ -235,7 +307,8 @@ class Machine(Library):
             (
                 f"targets from {self.site.path('openlink/targets.json')};",
                 f"targets from {self.path('current')}/targets.json;",
-            )
+            ),
+            *((f"{line}off;", f"{line}on;") for line in COUNTED),
         )
         return result
 

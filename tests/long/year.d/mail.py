@@ -1,6 +1,6 @@
 """What the mail of a week must say, and what it may: its sections, each a line and those after it that begin with
 spaces."""
-import re
+import collections, re
 import slips, tables
 
 TARGET = re.compile(r"(press-\d\d): (.*)")
@@ -11,6 +11,7 @@ CHANGED = re.compile(r"new, \d+ rows?|(rules changed)?(, )?(\d+ rows? added, \d+
 TITLES = re.compile(r"  titles: \d+ came, \d+ gone: changes/press-\d\d\.txt")
 NO_DATE = re.compile(r"no link without a date for (journals|books), such as .*")
 FETCHED = re.compile(r"(new|changed), [\d,]+ bytes")
+NUMBERED = re.compile(r"([\d,]+) of [\d,]+ rows?\b.*\b(?:first|such as)\b.*\S")  # of a slip, with an example
 STAMP = r"\d{8}T\d{6}Z"
 # Lines that come every week, and after a run that was ended or killed.
 USUAL = [
@@ -56,14 +57,18 @@ class Week:
         self.slips, self.explained, self.required = {}, [], []
         self.mended = frozenset()  # targets with a slip in the week before, which may have their older table again
         self.kept_once = set()  # targets of which a run keeps the old table, and a later one of the week does not
+        self.compared = collections.Counter()
 
     def faults(self, text):
         """What the mail does not say, and what it says without a reason."""
         found, said = [], {}
         for section in sections_of(text):
+            self.compared["sections of mails"] += 1
             found += self.faults_of(section, said)
         for name, slip in self.slips.items():
             lines = said.get(name, [])
+            self.compared["lines that mails must have of slips"] += len(slip.says)
+            found += self.faults_of_number(name, slip, lines)
             found += [
                 f"the mail does not say of {name}: {part}"
                 for part in map(self.full(name), slip.says)
@@ -74,6 +79,20 @@ class Week:
             for it in self.required
             if not any(it.search(line) for line in text.splitlines())
         ]
+        return found
+
+    def faults_of_number(self, name, slip, lines):
+        """A slip that harms readers is said with the number of its rows, and an example."""
+        known = [words for words in slips.OF_UPDATE if any(words in part for part in slip.says)]
+        found = []
+        for words in known:
+            self.compared["numbers and examples of slips"] += 1
+            texts = [NUMBERED.search(line.partition(f"{words}: ")[2]) for line in lines if f"{words}: " in line]
+            numbers = [int(it[1].replace(",", "")) for it in texts if it]
+            if not numbers:
+                found.append(f"the mail has no number and no example of {words}: {name}: {lines}")
+            elif slip.counted[:1] == (words,) and slip.counted[1] not in numbers:
+                found.append(f"the mail has another number than {slip.counted[1]} of {words}: {name}: {lines}")
         return found
 
     def full(self, name):

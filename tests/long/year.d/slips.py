@@ -18,6 +18,8 @@ class Slip:
     reply: str = ""  # how the server replies in place of the file
     data: bytes = None  # the file
     rows: tuple = None  # what is served of a file that is used
+    more: int = 0  # rows beside those
+    counted: tuple = ()  # how many rows have what the update calls by these words
 
 
 def cells(provider):
@@ -136,9 +138,8 @@ def dates_of_two_readings(provider, source):
 def too_large(provider, source):
     """The provider's rows and 200,000 more, without titles: two parts."""
     more = [["", issn(number), *[""] * 14, "serial"] for number in range(3_000_000, 3_200_000)]
-    return Slip(
-        USED, (f"  2 parts: {provider.name}, {provider.name}.2",), data=text(cells(provider) + more), rows=provider.rows
-    )
+    data, says = text(cells(provider) + more), (f"  2 parts: {provider.name}, {provider.name}.2",)
+    return Slip(USED, says, data=data, rows=provider.rows, more=len(more))
 
 
 def wrong(number):
@@ -207,8 +208,49 @@ def without_line_end(provider, source):
 
 def bad_cells(column, change, says, share=1.0):
     """A slip in the cells of a column, in a share of the rows."""
-    return bad_table(lambda lines: text(changed(lines, column, change, share)), f"  {{file}}: {says}: ")
 
+    def made(provider, source):
+        lines, place = cells(provider), tables.COLUMNS.index(column)
+        data = changed(lines, column, change, share)
+        count = sum(new[place] not in (old[place], "") for old, new in zip(lines, data))
+        counted = (says, count) if says in COUNTED else ()
+        return Slip(KEPT, (f"  {{file}}: {says}: ",), data=text(data), counted=counted)
+
+    return made
+
+
+# Of these slips each row that is changed is one.
+COUNTED = (
+    "check digits of print_identifier wrong",
+    "check digits of online_identifier wrong",
+    "first dates after today",
+    "session identifiers in addresses",
+    "the proxy of another library in addresses",
+    "damaged letters in titles",
+)
+# The slip of each kind that the update knows, by the words that allow it.
+OF_UPDATE = {
+    "check digits of print_identifier wrong": "check digits of print numbers",
+    "check digits of online_identifier wrong": "check digits of online numbers",
+    "no first date in any row": "no first dates",
+    "first dates after today": "first dates to come",
+    "first dates after the last ones": "dates swapped",
+    "session identifiers in addresses": "sessions in addresses",
+    "the proxy of another library in addresses": "the proxy of another library",
+    "new texts that rules do not compare with": "a text in another spelling",
+    "rules that hold on no row": "rules without rows",
+    "volumes or issues that are no number": "volumes in words",
+    "damaged letters in titles": "damaged letters",
+    "titles in capitals": "titles in capitals",
+    "numbers known under other titles": "titles sorted apart",
+    "abstracts alone": "abstracts alone",
+    "embargoes in notes": "embargoes in notes",
+    "coverage in notes": "coverage in notes",
+    "no line end after the last row": "no line end",
+    "no numbers left in a column": "no online numbers",
+    "the same number in most rows": "one number for all",
+    "rows of a total or a footnote": "a total among the rows",
+}
 
 KINDS = {
     "status 401": reply("401", "401 Unauthorized"),
@@ -285,9 +327,9 @@ KINDS = {
         "online_identifier", wrong, "check digits of online_identifier wrong", 0.5
     ),
     "no first dates": bad_cells("date_first_issue_online", lambda _: "", "no first date in any row"),
-    "first dates to come": bad_cells("date_first_issue_online", lambda _: "2041-05", "first dates after today"),
-    "sessions in addresses": bad_cells("title_url", visited, "session identifiers in addresses"),
-    "the proxy of another library": bad_cells("title_url", proxied, "the proxy of another library in addresses"),
+    "first dates to come": bad_cells("date_first_issue_online", lambda _: "2041-05", "first dates after today", 0.5),
+    "sessions in addresses": bad_cells("title_url", visited, "session identifiers in addresses", 0.5),
+    "the proxy of another library": bad_cells("title_url", proxied, "the proxy of another library in addresses", 0.5),
     "a text in another spelling": bad_cells(
         "coverage_depth", lambda _: "Full Text", "new texts that rules do not compare with", 0.5
     ),
@@ -295,7 +337,7 @@ KINDS = {
     "volumes in words": bad_cells(
         "num_first_vol_online", lambda cell: cell and f"Vol. {cell}", "volumes or issues that are no number"
     ),
-    "damaged letters": bad_cells("publication_title", damaged, "damaged letters in titles"),
+    "damaged letters": bad_cells("publication_title", damaged, "damaged letters in titles", 0.5),
     "titles in capitals": bad_cells("publication_title", str.upper, "titles in capitals"),
     "titles sorted apart": bad_table(
         lambda lines: text(sorted_apart(lines)), "  {file}: numbers known under other titles: "

@@ -1,22 +1,30 @@
 """A library's year: what each week brings, the runs that are made of it, and what must be right after them."""
-import collections, datetime, os, random, re, resource, time
-import links, slips, tables
+import collections, contextlib, datetime, os, random, re, resource, time
+import desk, links, slips, tables
 from openlink_update import children
 from asking import Allowed, Reader, request_of
 from collection import PLAIN, Collection
 from links import Held, State
 from machine import Machine, Vendors, ended, names_of
 from mail import AFTER_A_KILL, Week
-from fixtures.patience import patience
+from seen import KINDS, Seen
+from fixtures.patience import patience, wait_until
 
 MONDAY = datetime.date(2027, 1, 4)
 SECRET = PLAIN + 1  # the provider whose address has a token
-ALLOWED = {PLAIN + 2: "gone up to 100%; came up to 200000%; less than half of the rows"}
+ALLOWED = {PLAIN + 2: "gone up to 100%; came up to 500000%; less than half of the rows"}
 KEY = "s3cr3t/+&token"
 READERS, PAUSE, PROCESSES = 3, 0.04, 3
 ASKED_AFTER = 50  # requests after a run, when only one page is right
 SECONDS = 8  # for a file
-MOST_SHOWN = 20  # wrong pages
+MOST_SHOWN = 20  # wrong pages, and other faults of a kind in a week
+# What every run must have compared.
+COMPARED = (
+    *(f"{kind}: 200" for kind in ("/find", "/find.json", "/go")),
+    *("/go: 302", "a link that was followed: 302", "pages of titles"),
+    *("sections of mails", "lines that mails must have of slips"),
+    *("targets on pages of a week", "targets with their titles", "numbers of openlink-counts and the desk"),
+)
 
 
 class Year:
@@ -29,9 +37,16 @@ class Year:
         self.machine = Machine(PROCESSES, self.vendors.path("authority.pem"), self.names)
         self.before = {}  # the tables of last week
         self.used = {it.name: collections.deque(maxlen=8) for it in self.collection.providers}  # files without a slip
-        self.delivered, self.meant, self.unnamed, self.states = {}, {}, frozenset(), {}
-        self.counts, self.peaks = collections.Counter(), collections.Counter()
+        self.delivered, self.meant, self.more, self.unnamed, self.states = {}, {}, {}, frozenset(), {}
+        self.counts, self.peaks, self.compared = (collections.Counter() for _ in range(3))
+        self.seen, self.desk, self.kills = (
+            Seen(),
+            desk.Counts(),
+            0,
+        )  # of this week: replies, and killed workers of nginx
         self.busy, self.kinds = set(), set()  # providers with a slip in the last week; kinds of slips that were made
+        self.changed = []  # titles whose rows the week changes
+        self.numbers = set()  # kinds of numbers of openlink-counts that readers knew of
         self.readers, self.allowed, self.state, self.mail = [], None, None, None
         self.seconds = {"fetch": 2.0, "update": 6.0}  # that the last whole runs took
 
@@ -54,6 +69,11 @@ class Year:
         self.before = {it.name: it.rows for it in self.collection.providers}
         if number:
             self.collection.advance()
+        self.changed = [
+            (row.title, row.printed, row.online)
+            for provider in self.collection.providers
+            for row in sorted(set(provider.rows) ^ set(self.before[provider.name]), key=repr)
+        ]
         self.mail, self.printed = Week(self.collection.providers, self.path), []
         self.mail.mended = frozenset(self.busy)
         for provider in self.collection.providers:
@@ -120,7 +140,8 @@ class Year:
                 continue
             if not slip or slip.outcome != slips.NOT_FETCHED:
                 self.meant[name] = slip.rows if slip and slip.rows is not None else provider.rows
-            held[name] = Held(self.meant[name], provider.rules, provider.edition, provider.label)
+                self.more[name] = slip.more if slip else 0
+            held[name] = Held(self.meant[name], provider.rules, provider.edition, provider.label, self.more[name])
         return State(f"the files of week {self.number}", self.machine.day, held, self.unnamed)
 
     def settle(self, state):
@@ -140,7 +161,7 @@ class Year:
 
     def ask_after(self):
         """Asks for titles while only one page is right, and above all for those that have just changed."""
-        reader = Reader(self.machine.site.port, self.allowed, (), self.source.random(), 0)
+        reader = self.reader((), 0)
         for _ in range(ASKED_AFTER):
             reader.ask(request_of(self.source, self.titles))
         for provider in self.collection.providers:
@@ -154,6 +175,58 @@ class Year:
         self.readers.append(reader)
         if reader.unanswered:
             self.fault(f"{reader.unanswered} requests without an answer after the run")
+
+    def reader(self, titles, pause):
+        port, seed = self.machine.site.port, self.source.random()
+        return Reader(port, self.allowed, titles, seed, pause, lambda: self.seen, lambda: self.changed)
+
+    @contextlib.contextmanager
+    def quiet(self):
+        """No reader asks for anything."""
+        with contextlib.ExitStack() as stack:
+            for reader in self.readers:
+                stack.enter_context(reader.lock)
+            yield
+
+    def faults_found(self, found):
+        for text in found[:MOST_SHOWN]:
+            self.fault(text)
+
+    def check_week(self, before):
+        """The desk's page of the week after a run, which has written it."""
+        kept = {name for name, slip in self.mail.slips.items() if slip.outcome == slips.KEPT}
+        found, count = desk.faults_of_week(self.machine, self.state, before, kept)
+        self.compared["targets on pages of a week"] += count
+        self.faults_found(found)
+
+    def check_counts(self):
+        """What the logs of the week have, and the desk that is written every day. Then the logs are rotated."""
+        with self.quiet():
+            own = self.seen
+            slack = self.kills * (READERS + 1) + own.without_reply
+            wait_until(lambda: slack or self.machine.lines() == own.lines())
+            status, printed = ended(self.machine.begin_desk())
+            if status != 0 or printed:
+                self.fault(f"openlink-desk ended with status {status}: {printed}")
+            found, count = self.desk.faults(self.machine, own.counts, slack)
+            self.compared["numbers of openlink-counts and the desk"] += count
+            of_titles, count = desk.faults_of_titles(self.machine, self.state)
+            self.compared["targets with their titles"] += count
+            self.faults_found(found)
+            self.faults_found(of_titles)
+            self.compared.update(own.compared)
+            self.numbers |= {kind for kind, _ in own.counts}
+            if not self.machine.rotate():
+                self.fault("nginx writes to logs that were rotated")
+            self.seen, self.kills = Seen(), 0
+
+    def check_compared(self, is_whole):
+        """Nothing that should be compared was left out; in a whole year, no slip that the update knows."""
+        missing = [name for name in COMPARED if not self.compared[name]]
+        missing += sorted(set(slips.OF_UPDATE.values()) - self.kinds) if is_whole else []
+        missing += [kind for kind in KINDS if kind not in self.numbers | {"errors"}]
+        if missing:
+            self.fault(f"nothing was compared: {', '.join(missing)}")
 
     def check_rest(self):
         for text in self.machine.left_over(self.vendors):
@@ -169,6 +242,7 @@ class Year:
             self.fault("a secret in the mail")
         for fault in self.mail.faults(text):
             self.fault(fault)
+        self.compared.update(self.mail.compared)
 
     def is_unsettled(self):
         """Whether a run has ended without going back, so that the next one does so first."""
@@ -215,9 +289,11 @@ class Year:
         state, wanted = self.next_state(), self.status_of_update()
         if "--fetch" in options:
             wanted = max(wanted, int(slips.NOT_FETCHED in self.outcomes()))
+        before = self.state
         self.allowed.add(state)
         self.run("update", self.machine.begin(*options), (wanted,))
         self.settle(state)
+        self.check_week(before)
 
     def refused_update(self, status):
         """A run that puts nothing in use."""
@@ -235,10 +311,7 @@ class Year:
         self.titles = self.collection.journals + self.collection.books
         self.allowed = Allowed(self.state)
         self.settle(self.state)
-        self.readers = [
-            Reader(self.machine.site.port, self.allowed, self.titles, self.source.random(), PAUSE)
-            for _ in range(READERS)
-        ]
+        self.readers = [self.reader(self.titles, PAUSE) for _ in range(READERS)]
         for reader in self.readers:
             reader.start()
         self.end_week()
