@@ -47,6 +47,21 @@ class Logs(Case):
             for count, wanted in ((2**17, 2**17), (2**17 + 1, 2**17)):
                 self.expect(f"{count}", sum(map(len, log_counts.blocks_of(io.BytesIO(b"x" * count)))), wanted)
 
+    def test_held_back(self) -> None:
+        """So much is counted later, so that equal lines are judged once."""
+        forms = LINE.format(MONTH, "a", "{}"), f"{MONTH} target=a{{}} -\n"
+        for form in forms:
+            for count, is_held_back in ((20_000, True), (20_001, False)):
+                counts = log_counts.Counts()
+                counts.add("".join(map(form.format, range(count))).encode())
+                held_back = len(counts._heads) + len(counts._whole_lines)
+                self.expect(f"{form}: {count}", held_back, count if is_held_back else 0)
+        line = LINE.format(MONTH, "a", "b").encode()
+        for more, is_held_back in ((0, True), (1, False)):
+            counts = log_counts.Counts()
+            counts.add(line + b"x" * (2**24 + more - len(line)))
+            self.expect(f"{more} beyond", bool(counts._heads), is_held_back)
+
     def test_months(self) -> None:
         for count, wanted in ((1200, 0), (1201, 1)):
             months = (f"{1000 + number // 12}-{number % 12 + 1:02}" for number in range(count))

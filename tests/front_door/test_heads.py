@@ -77,6 +77,16 @@ class Heads(TitlesCase):
         self.write(tidal_press="# label en: One\n")
         self.expect("the default language", self.shown(GERMAN)[1], "One")
 
+    def test_regions(self) -> None:
+        """Where the reader's language has a region, the label for it counts, then that of the language."""
+        self.site.edit(("js_preload_object words_de ", "js_preload_object words_de_AT "))
+        self.site.write_targets({**self.others, "languages": ["en", "de-AT"]})
+        labels = {"de-AT": "Inn", "de": "Elbe", "": "River", "en": "Thames", "de-CH": "Rhine", "at": "Wrong"}
+        for count, wanted in enumerate(("Inn", "Elbe", "River", "Thames", "tidal-press")):
+            lines = [f"# label{' ' if tag else ''}{tag}: {text}\n" for tag, text in list(labels.items())[count:]]
+            self.write(tidal_press="".join(lines))
+            self.expect(f"{lines}", self.shown({"Accept-Language": "de-AT"})[1], wanted)
+
     def test_named(self) -> None:
         """What targets.json says of a target counts, and nothing else."""
         self.write(tidal_press=HEAD.format("Tidal", "Tiden", "In the library"))

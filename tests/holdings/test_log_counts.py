@@ -123,6 +123,41 @@ class LogCounts(Case):
         halves = [io.BytesIO(data[:100_000]), io.BytesIO(data[100_000:])]
         self.expect("two files", log_counts.counts_of(halves).lines, LEAST + 1)
 
+    def test_other_paths(self) -> None:
+        """They count for nothing. A line that has too few fields, or wrong ones, has another form all the same."""
+        line = "2026-10-01T08:00:00+00:00 200 GET /{} 0.001 found=1/1 targets= from=a"
+        for path in (
+            "finds",
+            "menu.css",
+            "a b",
+            "a from=b",
+            "a  b",
+            "é",
+            "\té",
+            "find b",
+            "go found=1/1 targets=a from=b",
+        ):
+            self.expect(path, (self.unread(line.format(path)), self.unread(f" {line.format(path)} ")), (0, 0))
+        whole = line.format("x")
+        for old, new in (
+            (" 0.001 found=1/1", ""),
+            ("found=1/1 targets=", " "),
+            ("2026-10", "2026-20"),
+            ("2026-10", "202-10"),
+            (" 200", " 600"),
+            (" 200", " 20"),
+            ("from=", "to="),
+            ("from=a", "a"),
+            ("from=a", "from=a b"),
+        ):
+            wrong = whole.replace(old, new)
+            self.expect(wrong, self.unread(wrong), 1)
+
+    def unread(self, line: str) -> int:
+        counts = log_counts.counts_of([io.BytesIO(f"{line}\n".encode())])
+        self.expect(f"{line}: rows", counts.rows(), [])
+        return counts.unread
+
     def test_order(self) -> None:
         log = b"2026-10 target=b -\n2026-10 target=a 2901-0012\n2026-10 target=c -\n2026-10 target=c -\n"
         rows = log_counts.counts_of([io.BytesIO(log)]).rows()

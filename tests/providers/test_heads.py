@@ -87,6 +87,17 @@ class Lines(Case):
             wanted = {"a": ("a", True), "b": ("B", True), "c.x": ("C", False), "d": ("d", False), "e": ("e", False)}
             self.expect("labels and full text", found, wanted)
 
+    def test_exports_of_a_region(self) -> None:
+        """Where the site's language has a region, a label for it counts, then that of the language, then any other's."""
+        labels = {"de-AT": "A", "de": "D", "": "N", "de-CH": "C", "at": "X"}
+        with tempfile.TemporaryDirectory() as folder:
+            (Path(folder) / "targets.json").write_text(json.dumps({"languages": ["de-AT", "en"]}))
+            for count, wanted in enumerate(("A", "D", "N", "a")):
+                lines = [f"# label{' ' if tag else ''}{tag}: {text}" for tag, text in list(labels.items())[count:]]
+                (Path(folder) / "a.rules").write_text("\n".join([*lines, RULE]))
+                names = SiteNames(Path(folder) / "targets.json", [Path(folder) / "a.rules"])
+                self.expect(f"{lines}", names.label("a"), wanted)
+
     def test_file(self) -> None:
         """The file of the index: a line for each target whose rules say something, and none of a code file."""
         with tempfile.TemporaryDirectory() as folder:

@@ -7,6 +7,7 @@
 Older lines of requests lack `targets`. The path of an error that nginx found is /fault. A path with a space is none of
 the front door's. Whoever sends requests chooses sources and numbers, so each kind of name has a greatest number; what
 comes after it is counted together, under OTHERS, and a log of any size takes the same memory."""
+import itertools
 import re
 from collections import Counter, defaultdict
 from collections.abc import Iterable, Iterator, Sequence
@@ -24,7 +25,9 @@ _KINDS = (
     *(SOURCE, SOURCE_WITHOUT, SHOWN, FOLLOWED, FOLLOWED_TITLE, IN_VAIN),
 )
 
-_BLOCK = 2**20  # bytes that are read at once
+_BLOCK = 2**18  # bytes that are read at once
+_MOST_HELD_BACK = 20_000  # heads and lines
+_MOST_BYTES_HELD_BACK = 2**24
 _MOST_LINE = 2**17  # bytes; nginx writes shorter ones
 _MOST_MONTHS = 1200
 _MOST_SOURCES = 10_000  # of a month; only an attack has more
@@ -36,6 +39,7 @@ _MOST_NAME = 100  # bytes of a source or a target
 
 _PROBE = b"info:sid/openlink:probe"
 _REDIRECT = b"302"
+_ANSWERS = frozenset(f"{status}".encode() for status in range(100, 400))
 _PATHS = (b"/find", b"/find.json", b"/go", b"/fault")
 _ISSN_OR_ISBN = rb"\d{4}-\d{3}[\dX]|97[89]\d{10}"
 _MONTH = re.compile(rb"\d{4}-[01]\d")
@@ -47,23 +51,13 @@ _TARGET = re.compile(rb"target=([A-Za-z0-9_.-]{1,100})")
 _NUMBER = re.compile(_ISSN_OR_ISBN)
 _YEAR = re.compile(rb"[12]\d{3}|-")
 
-# Lines of requests as the front door writes them, with the month, whether it is a redirect, how the number of links
-# begins, the targets of a redirect or those that were shown, the status of an error and the source. Then those of other
-# paths and of paths with spaces, and last any other line.
-_REQUEST_LINES = re.compile(
-    rb"^(?:(\d{4}-[01]\d)-..T[!-~]{14} (?:(?:(302)|[123]\d\d) [!-~]+ /(?:find(?:\.json)?|go|fault) [!-~]+ "
-    rb"found=(?:(0/0(?= )|0/(?=\d+ )|\d(?=\d*/\d+ ))[\d/]*"
-    rb"(?: targets=(?(2)([A-Za-z0-9_.,-]*)|([A-Za-z0-9_.,-]*)))?|(?: targets=)?)"
-    rb"|([45]\d\d) [!-~]+ /(?:find(?:\.json)?|go|fault) [!-~]+ found=[!-~]*(?: targets=[!-~]*)?)"
-    rb" from=(?!info:sid/openlink:probe$)([A-Za-z0-9_:./-]{0,100})"
-    rb"|\d{4}-[01]\d-..T[!-~]{14} [1-5]\d\d [!-~]+ (?:(?!/(?:find(?:\.json)?|go|fault) )/[!-~]*|/[!-~]* .*)"
-    rb" [!-~]+ found=[!-~]* targets=[!-~]* from=[!-~]*|(.+))$\n?",
-    re.M,
+_ANSWERED = re.compile(rb"found=(\d+/\d+)(?: targets=([A-Za-z0-9_.,-]*))? from=([A-Za-z0-9_:./-]{0,100})")
+# A line of another path than those above, which counts for nothing. Who looks for other programs makes many of them.
+_OTHER_PATH = re.compile(
+    rb"\d{4}-[01]\d[!-~]* [1-5]\d\d [!-~]+ (?!/(?:find(?:\.json)?|go|fault) )[!-~]+ (?:[!-~]+ ){2}(?:.* )?from=[!-~]*"
 )
-# Lines of links that were followed, with the month, the target and the number; and any other line.
-_FOLLOWED_LINES = re.compile(
-    rb"^(?:(\d{4}-[01]\d) target=([A-Za-z0-9_.-]{1,100}) (" + _ISSN_OR_ISBN + rb"|-)|(.+))$\n?", re.M
-)
+# What a line of a request counts for: the month, the status, the path, and what comes after the seconds.
+_Head = tuple[bytes, bytes, bytes, bytes]
 
 
 class Readable(Protocol):
@@ -94,11 +88,15 @@ class _Names:
 
 
 class Counts:
-    """What was counted; how many lines were read, and how many of them have none of the forms."""
+    """What was counted; how many lines were read, and how many of them have none of the forms, once `end` is called.
+    Lines are held back, so that what many lines have in common is judged once."""
 
     def __init__(self) -> None:
         self.lines = 0
         self.unread = 0
+        self._heads: Counter[_Head] = Counter()
+        self._whole_lines: Counter[bytes] = Counter()  # of fewer than six fields
+        self._bytes = 0  # of the lines that were held back
         self._months: set[bytes] = set()
         self._plain: Counter[tuple[bytes, str, bytes]] = Counter()  # of few names, such as a status
         self._without: Counter[tuple[bytes, bytes]] = Counter()  # sources that _sources names
@@ -110,6 +108,7 @@ class Counts:
 
     def rows(self) -> list[Row]:
         """The table: by month, the kinds in their order, and of each kind the greatest numbers first."""
+        self.end()
         named = (
             (SOURCE, self._sources),
             (SHOWN, self._shown),
@@ -127,44 +126,43 @@ class Counts:
 
     def add(self, block: bytes) -> None:
         """Counts whole lines."""
-        is_short = block[7:8] == b" "  # the forms with a month, which have files of their own
-        lines = (_FOLLOWED_LINES if is_short else _REQUEST_LINES).findall(block)
-        if not lines:
-            return
+        lines = block.removesuffix(b"\n").split(b"\n")
         self.lines += len(lines)
-        columns: tuple[tuple[bytes, ...], ...] = tuple(zip(*lines))
-        for text, number in Counter(filter(None, columns[-1])).items():
-            self._add_fields(text.split(), number)
-        if is_short:
-            for (month, target, isn), number in Counter(zip(*columns[:3])).items():
-                self._add_followed(month, target, isn, number)
+        if block[7:8] == b" ":  # the forms with a month, which have files of their own
+            self._whole_lines.update(lines)
         else:
-            self._add_requests(columns)
+            self._hold_back(list(itertools.filterfalse(_OTHER_PATH.fullmatch, lines)))
+        self._bytes += len(block)
+        if len(self._heads) + len(self._whole_lines) > _MOST_HELD_BACK or self._bytes > _MOST_BYTES_HELD_BACK:
+            self.end()
 
-    def _add_requests(self, columns: Sequence[tuple[bytes, ...]]) -> None:
-        months = Counter(columns[0])
-        del months[b""]
-        if len(months) == 1:
-            self._add_month(*months.popitem(), columns)
-            return
-        by_month: defaultdict[bytes, list[tuple[bytes, ...]]] = defaultdict(list)
-        for line in zip(*columns):
-            by_month[line[0]].append(line)
-        for month in months:
-            self._add_month(month, months[month], tuple(zip(*by_month[month])))
+    def _hold_back(self, lines: list[bytes]) -> None:
+        heads = [(it[0][:7], it[1], it[3], it[5]) for line in lines if len(it := line.split(None, 5)) == 6]
+        self._heads.update(heads)
+        if len(heads) < len(lines):
+            self._whole_lines.update(line for line in lines if len(line.split(None, 5)) < 6)
 
-    def _add_month(self, month: bytes, number: int, columns: Sequence[tuple[bytes, ...]]) -> None:
-        """Counts the requests of a month; lines that are none are among them, with empty cells."""
-        _, _, found, followed, shown, errors, sources, _ = columns
-        if not self._is_counted(month, number):
-            return
-        for error, times in Counter(filter(None, errors)).items():
-            self._plain[month, ERRORS, error] += times
-        for (start, source), times in Counter(zip(found, sources)).items():
-            if start:
-                self._add_request(month, start, source, times)
-        for targets, names in (self._followed, followed), (self._shown, shown):
-            self._add_targets(targets, month, b",".join(filter(None, names)))
+    def end(self) -> None:
+        """Counts what was held back. Of requests, links by source and targets are counted apart: in hostile logs, and
+        in large ones, most heads differ in both."""
+        found: Counter[tuple[bytes, bytes, bytes]] = Counter()
+        targets: Counter[tuple[bool, bytes, bytes]] = Counter()
+        for (month, status, path, rest), number in self._heads.items():
+            it = _ANSWERED.fullmatch(rest) if status in _ANSWERS and path in _PATHS else None
+            if it is None or it[3] == _PROBE or not (month in self._months or _MONTH.fullmatch(month)):
+                self._add_fields([month, status, b"", path, b"", *rest.split()], number)
+            elif self._is_counted(month, number):
+                found[month, it[1], it[3]] += number
+                targets[status == _REDIRECT, month, it[2]] += number
+        for request, number in found.items():
+            self._add_request(*request, number)
+        for (is_redirect, month, names), number in targets.items():
+            self._add_targets(self._followed if is_redirect else self._shown, month, names, number)
+        for line, number in self._whole_lines.items():
+            self._add_fields(line.split(), number)
+        self._heads.clear()
+        self._whole_lines.clear()
+        self._bytes = 0
 
     def _is_counted(self, month: bytes, number: int) -> bool:
         """Whether a month has a place; its lines have another form if it has none."""
@@ -192,7 +190,7 @@ class Counts:
         if found == b"0/0":
             self._plain[month, WITHOUT_LINK, b""] += number
 
-    def _add_targets(self, targets: _Names, month: bytes, names: bytes, number: int = 1) -> None:
+    def _add_targets(self, targets: _Names, month: bytes, names: bytes | None, number: int) -> None:
         if names:
             for name, times in Counter(names.split(b",")).items():
                 targets.add(month, name if len(name) <= _MOST_NAME else OTHERS.encode(), times * number)
@@ -203,7 +201,7 @@ class Counts:
             self._titles.add(month, target + b" " + isn, number)
 
     def _add_fields(self, fields: list[bytes], number: int) -> None:
-        """Counts a line of a form that is rare, or of another one, and all that are the same."""
+        """Counts a line by its fields, and all that have the same."""
         if not fields:
             self.lines -= number
         elif len(fields) == 3 and _MONTH.fullmatch(fields[0]):
@@ -252,6 +250,7 @@ def counts_of(files: Iterable[Readable]) -> Counts:
     for file in files:
         for block in blocks_of(file):
             counts.add(block)
+    counts.end()
     return counts
 
 

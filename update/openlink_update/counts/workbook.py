@@ -1,11 +1,11 @@
 """Writes tables as a spreadsheet (.xlsx): a sheet for each. A text is a text of strangers: it is written as an inline
 string, which no program runs as a formula, and numbers are numbers."""
+import html
 import re
 import zipfile
 from collections.abc import Iterator, Sequence
 from decimal import Decimal
 from typing import BinaryIO
-from xml.sax.saxutils import escape
 
 from openlink_update import shown_text
 from openlink_update.counts.count_tables import Cell, CountTable
@@ -53,7 +53,7 @@ def _frame(tables: Sequence[CountTable]) -> Iterator[tuple[str, str]]:
     yield "_rels/.rels", _relations([("officeDocument", "xl/workbook.xml")])
     yield "xl/_rels/workbook.xml.rels", _relations([("worksheet", f"worksheets/sheet{it}.xml") for it in numbers])
     names = "".join(
-        f'<sheet name="{escape(table.name[:_MOST_NAME])}" sheetId="{number}" r:id="r{number}"/>'
+        f'<sheet name="{_escaped(table.name[:_MOST_NAME])}" sheetId="{number}" r:id="r{number}"/>'
         for number, table in enumerate(tables, 1)
     )
     yield "xl/workbook.xml", f'<workbook xmlns="{_MAIN}" xmlns:r="{_OFFICE}"><sheets>{names}</sheets></workbook>'
@@ -81,5 +81,9 @@ def _cell(value: Cell) -> str:
         return "<c/>"
     if isinstance(value, (int, Decimal)):
         return f"<c><v>{value}</v></c>"
-    text = escape(_NO_XML.sub("?", shown_text.line_of(value, _MOST_CHARACTERS)))
+    text = _escaped(_NO_XML.sub("?", shown_text.line_of(value, _MOST_CHARACTERS)))
     return f'<c t="inlineStr"><is><t xml:space="preserve">{text}</t></is></c>'
+
+
+def _escaped(text: str) -> str:
+    return html.escape(text, quote=False)
