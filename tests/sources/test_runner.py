@@ -56,7 +56,7 @@ CRATES = """
 class Crates(Case):
     def test_a_crate(self):
         self.expect("one", 1, 1)
-    def test_all(self):
+    def test_blocks(self):
         self.expect("one", 1, 1)
 """
 
@@ -146,6 +146,7 @@ NAMES = [
     (["sources.Words", "sources.Sums"], 6),
     (["a_crate"], 1),
     (["unproved"], 2),
+    (["blocks"], 1),
     (["--crates"], 2),
     (["a_crate", "sums", "sources.test_sums.Words"], 4),
     (["-k", "two"], 2),
@@ -165,7 +166,6 @@ WRONG = [
     ["Sums"],
     ["--program", "sums"],
     ["other_crate"],
-    ["all"],
     ["--early", "a_crate"],
     [""],
 ]

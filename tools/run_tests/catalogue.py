@@ -15,7 +15,8 @@ import sys
 # Tests in this package of tests/ need neither proofs nor the program; those of this one compile without proofs.
 EARLY, UNPROVED = "sources", "unproved"
 MODULE = "tools/run_tests/module.py"
-# The module that compiles the tests of crates, and the beginning of its tests: one for each crate, with its name.
+# The module that compiles the tests of crates, and the beginning of its tests. What follows chooses one alone: the name
+# of a crate, or what it is of all crates, such as allocations.
 _OF_CRATES, _OF_A_CRATE = "unproved.test_crates", "Crates.test_"
 # A package whose modules import one of Debian's, which another Python than Debian's may lack.
 WITH_MODULE = {"desk": "jinja2", "properties": "hypothesis"}
@@ -88,7 +89,7 @@ def _methods_of(test: Test, name: str) -> list[str] | None:
     short = module.removeprefix("test_")
     if name in (module, short, ".".join([*folders, short])) or f"{test.name}.".startswith(f"{name}."):
         return []
-    if test.name == _OF_CRATES and os.path.isdir(f"crates/{name}") and f"{_OF_A_CRATE}{name}" in test.methods:
+    if test.name == _OF_CRATES and f"{_OF_A_CRATE}{name}" in test.methods:
         return [f"{_OF_A_CRATE}{name}"]
     for prefix in (test.name, ".".join(folders)):
         rest = name[len(prefix) + 1 :] if name.startswith(f"{prefix}.") else ""
@@ -99,7 +100,7 @@ def _methods_of(test: Test, name: str) -> list[str] | None:
 
 
 def named(tests: list[Test], name: str) -> list[Test]:
-    """The tests that a name chooses: PACKAGE, [PACKAGE.]MODULE, PACKAGE.CLASS[.METHOD], or a crate of tests."""
+    """The tests that a name chooses: PACKAGE, [PACKAGE.]MODULE, PACKAGE.CLASS[.METHOD], or a crate's."""
     found = []
     for test in tests:
         methods = _methods_of(test, name)
