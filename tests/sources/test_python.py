@@ -36,14 +36,15 @@ MOST_MODULES, MOST_WITH_A_REPLY = 15, 21  # that openlink-fetch loads, its subpa
 FORBIDDEN = ("sys.path", "SourceFileLoader", "spec_from_", "type: ignore", "cast(")
 USERS = ("tests", "benches")  # beside the package: what a test uses is public
 SETTINGS = str(TOP / "pyproject.toml")
+# Of this process: for the spoilt copies, mypy reads only what a mistake changes.
+CACHE = tempfile.TemporaryDirectory()
 TOOLS = {
     "mypy": [
         "mypy",
         "--config-file",
         SETTINGS,
-        "--no-incremental",
         "--cache-dir",
-        os.devnull,
+        CACHE.name,
         "--no-error-summary",
         "--scripts-are-modules",
         "--disallow-any-explicit",

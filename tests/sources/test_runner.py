@@ -51,8 +51,14 @@ class A(Case):
             file.write(f"{os.getpid()} {child.pid}\\n")
         time.sleep(1000)
 """
-# What stands in for the toolchain: it says what the folder's file `said` has.
-RT = "#!/bin/sh\ncat said\nexit $(cat status)\n"
+# The module that compiles the tests of crates, a test for each.
+CRATES = """
+class Crates(Case):
+    def test_a_crate(self):
+        self.expect("one", 1, 1)
+    def test_blocks(self):
+        self.expect("one", 1, 1)
+"""
 
 
 class Reports(RunnerCase):
@@ -118,32 +124,6 @@ class Reports(RunnerCase):
         hint = "./test: for the skipped tests, as root: apt-get install nosuch-command other-command"
         self.expect("the end", (status, lines[-2:]), (0, [hint, "0 passed, 0 failed, 2 skipped"]))
 
-    def test_crates(self) -> None:
-        self.write("bin/rt", RT, 0o755)
-        cases = {
-            "good": ("test result: ok. 3 passed; 0 failed; 0 ignored", 0),
-            "bad": ("test result: FAILED. 3 passed; 2 failed", 1),
-            "none": ("nothing", 0),
-            "broken": ("test result: ok. 3 passed; 0 failed", 1),
-        }
-        for name, (said, status) in cases.items():
-            self.write(f"crates/{name}/src/lib.rt", "#[test]\nfn a() {}\n")
-            self.write(f"crates/{name}/said", f"{said}\n")
-            self.write(f"crates/{name}/status", f"{status}\n")
-        status, lines = self.given("--crates")
-        heads = sorted(it for it in lines[:-1] if not it.startswith(" "))
-        self.expect(
-            "the lines",
-            heads,
-            [
-                "bad: failed: 2 failed, 3 tests passed; status 1",
-                "broken: failed: 1 failed, 3 tests passed; status 1",
-                "good: passed: 3 tests",
-                "none: failed: 1 failed; status 0",
-            ],
-        )
-        self.expect("the end", (status, lines[-1]), (1, "9 passed, 4 failed"))
-
     def test_no_program(self) -> None:
         self.write("openlink", "#!/bin/sh\nexit 70\n", 0o755)
         self.write("tests/other/__init__.py", "")
@@ -165,6 +145,9 @@ NAMES = [
     (["sources.test_sums.Sums.test_two"], 1),
     (["sources.Words", "sources.Sums"], 6),
     (["a_crate"], 1),
+    (["unproved"], 2),
+    (["blocks"], 1),
+    (["--crates"], 2),
     (["a_crate", "sums", "sources.test_sums.Words"], 4),
     (["-k", "two"], 2),
     (["-k", "*Words.*one"], 2),
@@ -182,6 +165,8 @@ WRONG = [
     ["source"],
     ["Sums"],
     ["--program", "sums"],
+    ["other_crate"],
+    ["--early", "a_crate"],
     [""],
 ]
 
@@ -191,10 +176,10 @@ class Names(RunnerCase):
         super().setUp()
         self.module("sums", GOOD)
         self.module("more", GOOD)
-        self.write("bin/rt", RT, 0o755)
-        self.write("crates/a_crate/src/lib.rt", "#[test]\nfn a() {}\n")
-        self.write("crates/a_crate/said", "test result: ok. 1 passed; 0 failed\n")
-        self.write("crates/a_crate/status", "0\n")
+        self.write("tests/unproved/__init__.py", "")
+        self.write("tests/unproved/test_crates.py", IMPORTS + CRATES)
+        for name in ("a_crate", "other_crate"):
+            self.write(f"crates/{name}/src/lib.rt", "")
 
     def test_chosen(self) -> None:
         for arguments, count in NAMES:

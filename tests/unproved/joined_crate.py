@@ -47,7 +47,9 @@ def sources_of(crate: str) -> list[Path]:
 
 def crates_of_tests() -> list[str]:
     """The crates that have #[test] functions."""
-    crates = {path.split("/")[1] for path in glob.glob("crates/*/src/**/*.rt", recursive=True) if _TEST.search(read(path))}
+    crates = {
+        path.split("/")[1] for path in glob.glob("crates/*/src/**/*.rt", recursive=True) if _TEST.search(read(path))
+    }
     return sorted(crates)
 
 

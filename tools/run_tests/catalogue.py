@@ -1,4 +1,5 @@
-"""All tests of the repository, and those that the arguments of ./test choose. No module is imported for this."""
+"""All tests of the repository, and those that the arguments of ./test choose: modules of unittest. None is imported for
+this."""
 from __future__ import annotations
 
 import ast
@@ -8,13 +9,15 @@ import functools
 import glob
 import importlib.util
 import os
-import re
 import subprocess
 import sys
 
 # Tests in this package of tests/ need neither proofs nor the program; those of this one compile without proofs.
 EARLY, UNPROVED = "sources", "unproved"
 MODULE = "tools/run_tests/module.py"
+# The module that compiles the tests of crates, and the beginning of its tests. What follows chooses one alone: the name
+# of a crate, or what it is of all crates, such as allocations.
+_OF_CRATES, _OF_A_CRATE = "unproved.test_crates", "Crates.test_"
 # A package whose modules import one of Debian's, which another Python than Debian's may lack.
 WITH_MODULE = {"desk": "jinja2", "properties": "hypothesis"}
 _DEBIANS = "/usr/bin/python3"
@@ -22,13 +25,11 @@ _DEBIANS = "/usr/bin/python3"
 
 @dataclasses.dataclass
 class Test:
-    """A process of its own: a module of unittest, or the #[test] functions of a crate."""
+    """A module of unittest, in a process of its own."""
 
     name: str
-    kind: str  # "module" or "crate"
     command: list[str]
-    folder: str = "."
-    methods: list[str] = dataclasses.field(default_factory=list)  # of a module: CLASS.METHOD
+    methods: list[str] = dataclasses.field(default_factory=list)  # CLASS.METHOD
     chosen: list[str] = dataclasses.field(default_factory=list)  # these alone, or all
     part: tuple[int, int] = (1, 1)  # which of how many processes, that share the tests of a module
 
@@ -42,10 +43,8 @@ class Test:
         return f"{self.name}:{number}/{count}" if count > 1 else self.name
 
     def group(self) -> str:
-        package = self.name.split(".")[0] if self.kind == "module" else ""
-        if package == EARLY:
-            return "--early"
-        return "--crates" if package == UNPROVED or self.kind == "crate" else "--program"
+        package = self.name.split(".")[0]
+        return {EARLY: "--early", UNPROVED: "--crates"}.get(package, "--program")
 
     def halves(self) -> int:
         """What it takes of a processor, in halves: a test that runs the program waits as long as it works."""
@@ -62,7 +61,7 @@ def python_of(package: str) -> str:
     return sys.executable if subprocess.run(words).returncode else _DEBIANS
 
 
-def modules() -> list[Test]:
+def everything() -> list[Test]:
     """The modules tests/PACKAGE/../test_NAME.py."""
     found = []
     for path in sorted(glob.glob("tests/**/test_*.py", recursive=True)):
@@ -73,29 +72,13 @@ def modules() -> list[Test]:
                        for each in it.body if isinstance(each, ast.FunctionDef) and each.name.startswith("test_")]
             name = path[len("tests/") : -len(".py")].replace("/", ".")
             python = python_of(name.split(".")[0])
-            found.append(Test(name, "module", [python, "-B", MODULE], methods=methods))
+            found.append(Test(name, [python, "-B", MODULE], methods))
     return found
-
-
-def crates() -> list[Test]:
-    """The crates that have #[test] functions."""
-    found = set()
-    for path in glob.glob("crates/*/src/**/*.rt", recursive=True):
-        with open(path, encoding="utf-8") as file:
-            if re.search(r"^\s*#\[test\]", file.read(), re.M):
-                found.add(path.split("/")[1])
-    # The usual limit of rt try, 60 seconds for a test, is too short on a busy machine.
-    command = ["rt", "try", "--test", "--seconds", "600"]
-    return [Test(it, "crate", command, f"crates/{it}") for it in sorted(found)]
-
-
-def everything() -> list[Test]:
-    return [*crates(), *modules()]
 
 
 def divided(test: Test, count: int) -> list[Test]:
     """The module as this many processes, of which each runs some of its tests. Where a part is chosen, it stays one."""
-    if test.chosen or test.kind != "module":
+    if test.chosen:
         return [test]
     return [dataclasses.replace(test, part=(number, count)) for number in range(1, count + 1)]
 
@@ -106,6 +89,8 @@ def _methods_of(test: Test, name: str) -> list[str] | None:
     short = module.removeprefix("test_")
     if name in (module, short, ".".join([*folders, short])) or f"{test.name}.".startswith(f"{name}."):
         return []
+    if test.name == _OF_CRATES and f"{_OF_A_CRATE}{name}" in test.methods:
+        return [f"{_OF_A_CRATE}{name}"]
     for prefix in (test.name, ".".join(folders)):
         rest = name[len(prefix) + 1 :] if name.startswith(f"{prefix}.") else ""
         found = [it for it in test.methods if rest and f"{it}.".startswith(f"{rest}.")]
@@ -115,10 +100,10 @@ def _methods_of(test: Test, name: str) -> list[str] | None:
 
 
 def named(tests: list[Test], name: str) -> list[Test]:
-    """The tests that a name chooses: PACKAGE, [PACKAGE.]MODULE, PACKAGE.CLASS[.METHOD], or a crate."""
-    found = [it for it in tests if it.kind != "module" and it.name == name]
+    """The tests that a name chooses: PACKAGE, [PACKAGE.]MODULE, PACKAGE.CLASS[.METHOD], or a crate's."""
+    found = []
     for test in tests:
-        methods = _methods_of(test, name) if test.kind == "module" else None
+        methods = _methods_of(test, name)
         if methods is not None:
             found.append(dataclasses.replace(test, chosen=methods))
     return found
@@ -127,7 +112,7 @@ def named(tests: list[Test], name: str) -> list[Test]:
 def matching(tests: list[Test], words: list[str]) -> list[Test]:
     """The methods whose full names match one of these words, as `-k` of unittest has it."""
     patterns, found = [it if "*" in it else f"*{it}*" for it in words], []
-    for test in [it for it in tests if it.kind == "module"]:
+    for test in tests:
         within = [it for it in test.methods
                   if not test.chosen or any(f"{it}.".startswith(f"{each}.") for each in test.chosen)]
         chosen = [it for it in within
@@ -139,9 +124,9 @@ def matching(tests: list[Test], words: list[str]) -> list[Test]:
 
 def merged(tests: list[Test]) -> list[Test]:
     """Each test once; of a module that was chosen several times, all that was chosen."""
-    found: dict[tuple[str, str], Test] = {}
+    found: dict[str, Test] = {}
     for test in tests:
-        before = found.get((test.kind, test.name))
+        before = found.get(test.name)
         both = [*before.chosen, *test.chosen] if before and before.chosen and test.chosen else []
-        found[test.kind, test.name] = dataclasses.replace(test, chosen=both) if before else test
+        found[test.name] = dataclasses.replace(test, chosen=both) if before else test
     return [*found.values()]

@@ -4,7 +4,6 @@ from __future__ import annotations
 import collections
 import json
 import os
-import re
 import signal
 import tempfile
 import time
@@ -51,10 +50,9 @@ class Run:
     """A test that has been started, with a file for its output."""
 
     def __init__(self, test: Test, folder: str) -> None:
-        self.test, self.log, self.started = test, f"{folder}/{test.kind}.{test.title()}", time.monotonic()
+        self.test, self.log, self.started = test, f"{folder}/{test.title()}", time.monotonic()
         self.told = f"{self.log}.json"
-        more = [self.told, test.what(), *test.chosen] if test.kind == "module" else []
-        self.process = machine.start([*test.command, *more], test.folder, self.log)
+        self.process = machine.start([*test.command, self.told, test.what(), *test.chosen], ".", self.log)
         self.is_late, self.processor = False, 0.0
 
     def seconds(self) -> float:
@@ -69,17 +67,14 @@ class Run:
         self.processor += processor_seconds() - before
         return is_over
 
-    def result(self, lines: list[str]) -> dict[str, Any]:
+    def result(self) -> dict[str, Any]:
         """How many tests passed, failed and were skipped, why, and what else the test says in a line."""
         status = self.process.returncode
         found: dict[str, Any] = {"passed": 0, "failed": 0, "skipped": 0, "reasons": [], "said": ""}
-        if self.test.kind == "module" and os.path.exists(self.told):
+        if os.path.exists(self.told):
             with open(self.told, encoding="utf-8") as file:
                 found.update(json.load(file))
             found["said"] = f", {counted(found['compared'], 'comparison')}"
-        elif self.test.kind == "crate":
-            for passed, failed in re.findall(r"^test result: .*?(\d+) passed; (\d+) failed", "\n".join(lines), re.M):
-                found.update(passed=int(passed), failed=int(failed))
         # Whatever it says of its tests: a status of failure, or not a single test, is a failure.
         if not found["failed"] and (status or not found["passed"] + found["skipped"]):
             found["failed"] = 1
@@ -89,7 +84,7 @@ class Run:
         """Prints how the test ended, and returns its outcomes."""
         with open(self.log, encoding="utf-8", errors="replace") as file:
             lines = file.read().splitlines()
-        result = self.result(lines)
+        result = self.result()
         end = "failed" if result["failed"] else "passed" if result["passed"] else "skipped"
         numbers = [counted(result["passed"], "test") + " passed"] * (end == "failed" and result["passed"] > 0)
         numbers += [counted(result[end], "test")] if end != "failed" else [f"{result['failed']} failed"]
