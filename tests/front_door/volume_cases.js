@@ -89,7 +89,7 @@ const PAGES = [
     ['spage', 'p. iv', 'iv|'], ['spage', 'mild', 'mild|'], ['spage', 'xiiz', 'xiiz|'],
     // digits of other writing, and quotes
     ['spage', '\u0664\u0665', '45|'], ['spage', '\uff14\uff15\uff0d\uff16\uff17', '45|67'], ['spage', '"45"', '45|'],
-    ['spage', '[45]', '45|'], ['spage', '(45-67)', '45|67'],
+    ['spage', '45.5', '45.5|'], ['spage', '[45]', '45|'], ['spage', '(45-67)', '45|67'],
     ['pages', '45-67', '45|'], ['pages', 'pp. 45-67', '45|'], ['pages', 'p. 45', '45|'], ['pages', 'xii-xx', 'xii|'],
     ['pages', 'xii, 45 p.', 'xii|'], ['pages', 'see pages 45-67', '45|'], ['pages', 'n/a', '|'], ['pages', '-', '|'],
     ['pages', 'all', '|'], ['pages', 'e45', 'e45|'], ['pages', 'S45-S50', 'S45|'],
