@@ -48,7 +48,9 @@ MEETING = """
     def setUp(self):
         meeting = os.environ.get("PLANT_MEETING")
         if meeting:
-            Path(meeting, TOP.replace("/", "_")).touch()
+            above = [it for it in Path(TOP).parents if "temporary" in it.parts]
+            is_open = all(os.stat(it).st_mode & 0o5 == 0o5 for it in above)
+            Path(meeting, TOP.replace("/", "_")).write_text(str(is_open))
             end = time.monotonic() + 300
             while len(os.listdir(meeting)) < 2 and time.monotonic() < end:
                 time.sleep(0.01)
@@ -252,7 +254,8 @@ class Planting(Repository):
         process = self.start("tools/plant", path, OPENLINK_JOBS="2", PLANT_MEETING=str(meeting))
         said = process.communicate()[0]
         self.expect_lines("what is planted", said, "5 planted, 5 seen, 0 not seen")
-        self.expect(f"copies, by {said}", len([*meeting.iterdir()]), 2)
+        notes = [it.read_text(encoding="utf-8") for it in meeting.iterdir()]
+        self.expect("copies, which others than root may read", notes, ["True", "True"])
 
     def test_one_process(self) -> None:
         """All tests of a bug run in one process, until one fails."""
