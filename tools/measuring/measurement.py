@@ -49,7 +49,7 @@ class Measurement:
         """Runs a test, and keeps its lines if it passes: a test that fails would say of each bug that it sees it."""
         log = self._folder / "log"
         environment = self._python.environment()
-        end, seconds, _ = processes.run(self._top, [name], log, limit, environment, self._python.python)
+        end, seconds, _ = processes.run(self._top, [name], log, [limit], limit, environment, self._python.python)
         found = {**dict(self._of_python()), **dict(self._of_scripts())}
         if end == "passed":
             self._noted.note(name, seconds, found, [self._texts[path].splitlines() for path in found])

@@ -12,6 +12,7 @@ from collections.abc import Sequence
 from pathlib import Path
 
 _GRACE = 10  # seconds in which a test removes its temporary folders
+_PAUSE = 0.5  # seconds between two looks at a process
 
 
 def names_in(top: Path, name: str) -> list[str]:
@@ -89,21 +90,36 @@ def run(
     top: Path,
     names: Sequence[str],
     log: Path,
+    limits: Sequence[float],
     limit: float,
     more: Mapping[str, str] | None = None,
     python: str = sys.executable,
 ) -> tuple[str, float, list[str]]:
-    """Runs tests in one process until one fails, with its output in a file. Returns "passed", "failed" or "late", its
-    seconds, and the tests that have passed."""
+    """Runs tests in one process until one fails, with its output in a file. Each has a limit of seconds, and so have
+    all together. Returns "passed", "failed", "late" if one was, or "cut" if all were, its seconds, and the tests that
+    have passed."""
     started = time.monotonic()
-    passed = log.with_name(f"{log.name}.passed")
-    passed.write_bytes(b"")
-    words = [python, "-B", str(top / "tools/measuring/one_process.py"), str(passed), *names]
+    place = log.with_name(f"{log.name}.passed")
+    place.write_bytes(b"")
+    words = [python, "-B", str(top / "tools/measuring/one_process.py"), str(place), *names]
     process = _RUNNING.start(words, top, log, more or {})
     try:
-        end = "failed" if process.wait(limit) else "passed"
-    except subprocess.TimeoutExpired:
-        end = "late"
+        end = _wait(process, place, limits, limit)
     finally:
         _RUNNING.end(process)
-    return end, time.monotonic() - started, passed.read_text(encoding="utf-8").split()
+    return end, time.monotonic() - started, place.read_text(encoding="utf-8").split()
+
+
+def _wait(process: subprocess.Popen[bytes], place: Path, limits: Sequence[float], limit: float) -> str:
+    started = begun = time.monotonic()
+    passed = 0
+    while True:
+        try:
+            return "failed" if process.wait(_PAUSE) else "passed"
+        except subprocess.TimeoutExpired:
+            now, before, passed = time.monotonic(), passed, place.read_bytes().count(b"\n")
+        begun = now if passed > before else begun
+        if now - begun > limits[min(passed, len(limits) - 1)]:
+            return "late"
+        if now - started > limit:
+            return "cut"

@@ -19,18 +19,18 @@ _TIMES, _MORE = 4, 60
 
 @dataclasses.dataclass(frozen=True)
 class Seen:
-    """Which test failed for a bug, if one did, how many ran, and whether that one did not end."""
+    """Which test failed for a bug, if one did, how many ran, and how they ended."""
 
     by: str
     ran: int
-    is_late: bool
+    end: str
 
 
 class Tests:
     """The tests, and what is known of them."""
 
     def __init__(self, known: line_map.LineMap, limit: float) -> None:
-        self._known, self._limit = known, limit
+        self._known, self.limit = known, limit
         rows = [line.split("\t") for line in _TABLE.read_text(encoding="utf-8").splitlines()[1:]]
         self._table = [(row[0], row[1].split()) for row in rows]
         self._lock = threading.Lock()
@@ -46,7 +46,7 @@ class Tests:
 
     def of(self, bug: Bug, text: str) -> list[str]:
         """By the map of lines, or by the table where the map has not the file. Those that have seen most bugs of the
-        file are first, then the quickest."""
+        file are first."""
         if self._known.has(bug.path):
             names = self._known.tests(bug.path, bug.number(text), text.splitlines())
         else:
@@ -55,9 +55,10 @@ class Tests:
             left = [name for name in names if name not in self.failing]
             return sorted(left, key=lambda name: -self._saw[bug.path, name])
 
-    def limit(self, names: list[str]) -> float:
-        seconds = [self._known.seconds.get(name, self._limit) for name in names]
-        return min(self._limit, _TIMES * sum(seconds) + _MORE)
+    def limits(self, names: list[str]) -> list[float]:
+        """The limit of each."""
+        seconds = [self._known.seconds.get(name, self.limit) for name in names]
+        return [min(self.limit, _TIMES * it + _MORE) for it in seconds]
 
     def note(self, bug: Bug, name: str) -> None:
         with self._lock:
@@ -66,7 +67,7 @@ class Tests:
     def is_good(self, name: str, copy: Copy) -> bool:
         """Runs a test once without a bug. If it fails then, it would say of each bug that it sees it."""
         if name not in self._good and name not in self.failing:
-            end, _ = copy.end([name], self.limit([name]))
+            end, _ = copy.end([name])
             with self._lock:
                 (self._good if end == "passed" else self.failing).add(name)
         return name in self._good
@@ -79,27 +80,27 @@ class Copy:
         folder.mkdir()
         self._top, self._log, self._tests = copies.make(folder / "copy"), folder / "log", tests
 
-    def end(self, names: list[str], limit: float) -> tuple[str, list[str]]:
+    def end(self, names: list[str]) -> tuple[str, list[str]]:
         """How tests end that run in one process until one fails, and which have passed."""
-        end, _, passed = processes.run(self._top, names, self._log, limit)
+        end, _, passed = processes.run(self._top, names, self._log, self._tests.limits(names), self._tests.limit)
         return end, passed
 
     def failing(self, bug: Bug, text: str) -> Seen:
         """Runs the tests of a bug until one fails, or takes too long. One that fails without it too does not count."""
-        path, ran = self._top / bug.path, 0
+        path, ran, end = self._top / bug.path, 0, "passed"
         names = self._tests.of(bug, text)
         while names:
             path.write_text(bug.applied(text), encoding="utf-8")
             try:
-                end, passed = self.end(names, self._tests.limit(names))
+                end, passed = self.end(names)
             finally:
                 path.write_text(text, encoding="utf-8")
             ran += min(len(names), len(passed) + 1)
-            if end == "passed":
+            if end in ("passed", "cut"):
                 break
             name = names[min(len(passed), len(names) - 1)]
             if self._tests.is_good(name, self):
                 self._tests.note(bug, name)
-                return Seen(name, ran, end == "late")
+                return Seen(name, ran, end)
             names = names[len(passed) + 1 :]
-        return Seen("", ran, False)
+        return Seen("", ran, end)
