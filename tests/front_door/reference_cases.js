@@ -155,6 +155,9 @@ const OF_SOURCES = [
     ['No. 1 Journal 12 (2012), no. 3: 45-67', 'No. 1 Journal|12|3|45-67|2012'],
     ['In 1999 Tides 2012;(401):45-67', 'In 1999 Tides||401|45-67|2012'],
     ['In 1999 Tides 2012;12:45-67', 'In 1999 Tides|12||45-67|2012'],
+    // a page that looks like a year
+    ['Tides 12(3), 2003-2010', 'Tides|12|3|2003-2010|'], ['Tides 12(3), e2003', 'Tides|12|3|e2003|'],
+    ['Tides 12(3), 2003', 'Tides|12|3||2003'], ['Tides 12(3):2003', 'Tides|12|3|2003|'],
     // parts with a word beside those that signs divide
     ['Tides, vol. 12(3)', 'Tides|12|3||'], ['Tides 12, no. 3, coastal issue, pp. 45-67', 'Tides|12|3|45-67|'],
     ['Tides 12:45-67, no. 3', 'Tides|12|3|45-67|'], ['Tides 2012;12, coasts, no. 3, p. 45', 'Tides|12|3|45|2012'],
@@ -180,6 +183,7 @@ const OF_TITLES = [
     ['Ann Tidal Stud 12 Suppl 1:45-67', 'Ann Tidal Stud|12 Suppl 1||45-67|'],
     ['Annals of Tidal Studies, 12, 45-67', 'none'], ['Tides 12:45-67', 'none'], ['Cell 149, 45-67', 'none'],
     ['ApJ, 745, 45', 'none'], ['Tides, 12:3, 45-67', 'Tides|12|3|45-67|'],
+    ['Tides 12, pp. 45-67 (2012)', 'Tides|12||45-67|2012'],
     ['Harbours, Vol. 2', 'none'], ['Henry IV, part 2', 'none'], ['Fahrenheit 451', 'none'], ['1984', 'none'],
     ['Tides 12 (2012)', 'none'], ['Apollo 13', 'none'], ['Nineteen hundred, 1900 (1914)', 'none'],
     ['Genesis 1: 1-12', 'none'], ['Area 51, 12-15', 'none'],
