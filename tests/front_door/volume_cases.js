@@ -79,7 +79,8 @@ const PAGES = [
     ['spage', '45ff', '45|'], ['spage', '45f.', '45|'], ['spage', '45 ff.', '45|'], ['spage', '45+', '45|'],
     ['spage', '45, 67-70', '45|'], ['spage', '45 & 67', '45|'], ['spage', '45; discussion 68', '45|'],
     ['spage', 'e45', 'e45|'], ['spage', 'e45-e67', 'e45|e67'], ['spage', 'S45-S50', 'S45|S50'],
-    ['spage', 'S45-50', 'S45|S50'], ['spage', 'S45-T50', 'S45|T50'], ['spage', 'A1-A12', 'A1|A12'], ['spage', 'CD004567', 'CD004567|'],
+    ['spage', 'S45-50', 'S45|S50'], ['spage', 'S45-T50', 'S45|T50'], ['spage', 'A1-A12', 'A1|A12'],
+    ['spage', 'CD004567', 'CD004567|'],
     ['spage', 'L03605', 'L03605|'], ['spage', '0045', '0045|'], ['spage', '45.e1', '45.e1|'],
     ['spage', '45.e1-45.e5', '45.e1|45.e5'], ['spage', '45A-B', '45A|'], ['spage', '45a', '45a|'],
     // a last page that is written short
@@ -99,7 +100,8 @@ const PAGES = [
     ['artnum', 'e45', 'e45|'], ['artnum', 'Article 45', '45|'], ['artnum', 'Art. e45', 'e45|'],
     ['artnum', 'ARTN 1045', '1045|'], ['artnum', 'article no. 1045', '1045|'], ['artnum', '#45', '45|'],
     ['artnum', 'paper #45', '45|'], ['artnum', 'ID 1045', '1045|'], ['artnum', 'UNSP 1045', '1045|'],
-    ['artnum', '10.1', '10.1|'], ['artnum', 'a/b-1', 'a/b-1|'], ['artnum', 'a/no 5', '|'], ['artnum', 'none', '|'], ['artnum', '45 67', '|'],
+    ['artnum', '10.1', '10.1|'], ['artnum', 'a/b-1', 'a/b-1|'], ['artnum', 'a/no 5', '|'], ['artnum', 'none', '|'],
+    ['artnum', '45 67', '|'],
     ['epage', '67', '|67'], ['epage', 'p. 67', '|67'], ['epage', '45-67', '|67'], ['epage', 'S50', '|S50'],
     ['epage', 'xx', '|xx'], ['epage', '', '|'], ['epage', 'last', '|last']
 ];
