@@ -5,6 +5,8 @@ import contextlib
 import datetime
 import io
 import json
+import subprocess
+import sys
 import tempfile
 import zipfile
 from collections.abc import Callable
@@ -175,6 +177,52 @@ class Sites(Case):
             ):
                 wanted = host + text if text else ""
                 self.expect(host, reason(library_files.check_host, places, host), wanted)
+
+
+class Commands(Case):
+    def setUp(self) -> None:
+        room = tempfile.TemporaryDirectory()
+        self.addCleanup(room.cleanup)
+        self.folder = Path(room.name)
+
+    def run_as_root(self, *words: str) -> tuple[int, list[str]]:
+        """The exit status of a command of update/, and what it says."""
+        done = subprocess.run(
+            [sys.executable, "-B", f"update/{words[0]}", *words[1:]],
+            stdout=subprocess.PIPE,
+            stderr=subprocess.STDOUT,
+            encoding="utf-8",
+            check=False,
+        )
+        return done.returncode, done.stdout.splitlines()
+
+    def test_remains_of_a_library(self) -> None:
+        libraries = self.folder / "etc/openlink"
+        for name in ("north", "north.removed"):
+            (libraries / name).mkdir(parents=True)
+        (libraries / "north/site.conf").write_text("", encoding="utf-8")
+        text = f"{libraries}/north.removed exists, of a library that was removed before: move it away"
+        found = self.run_as_root("library", "--root", str(self.folder), "remove", "north")
+        self.expect("what it says", found, (3, [f"openlink-library: {text}"]))
+        self.expect("the library is there", (libraries / "north/site.conf").exists())
+
+    def test_no_version(self) -> None:
+        site = str(self.folder / "site.conf")
+        for words in (("--walls",), ("--back",)):
+            _, lines = self.run_as_root("update", *words, "--library", str(self.folder), "--site", site)
+            wanted = {"--walls": "there is no version in use", "--back": "there is no version before the one in use"}[
+                words[0]
+            ]
+            self.expect(f"{words}: {lines}", f"openlink-update: {wanted}" in lines)
+
+    def test_a_library_named_desk(self) -> None:
+        (self.folder / "desk").mkdir()
+        for place in (self.folder / "desk/site.conf", self.folder / "site.conf"):
+            place.write_text("", encoding="utf-8")
+        words = ("--library", str(self.folder), "--site", str(self.folder / "site.conf"))
+        _, lines = self.run_as_root("desk", *words)
+        wanted = f"the desk was not written: {self.folder}/desk is a library: give it another name"
+        self.expect(f"{lines}", wanted in lines)
 
 
 class Files(Case):
