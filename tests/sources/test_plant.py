@@ -216,6 +216,9 @@ class Planting(Repository):
         self.expect_lines("a line that has moved", said, "5 planted, 5 seen, 0 not seen")
         said = self.given("tools/plant", f"{path}:6")[1]
         self.expect("tests of the other", said.count(": not seen by 0 tests\n"), 5)
+        self.write("tests/update/test_one.py", OTHER)
+        said = self.given("tools/plant", f"{path}:6")[1]
+        self.expect("a test that was not measured", said.count(": not seen by 1 tests\n"), 5)
 
     def test_a_failing_test(self) -> None:
         """One that fails without a bug would see each."""

@@ -45,12 +45,12 @@ class Tests:
         return []
 
     def of(self, bug: Bug, text: str) -> list[str]:
-        """By the map of lines, or by the table where the map has not the file. Those that have seen most bugs of the
-        file are first."""
+        """Those that run its line by the map, and then those of the table that the map has not, or all of the table if
+        the map has not the file. Those that have seen most bugs of the file are first."""
+        names = self._of_table(bug.path)
         if self._known.has(bug.path):
-            names = self._known.tests(bug.path, bug.number(text), text.splitlines())
-        else:
-            names = self._of_table(bug.path)
+            measured = self._known.tests(bug.path, bug.number(text), text.splitlines())
+            names = measured + [name for name in names if name not in self._known.seconds]
         with self._lock:
             left = [name for name in names if name not in self.failing]
             return sorted(left, key=lambda name: -self._saw[bug.path, name])
