@@ -22,6 +22,7 @@ const YEAR = '([12]\\d{3})';
 const NO_YEAR = '(?![12]\\d{3}(?!\\w))';
 const MONTH = '(?:jan(?:uary)?|feb(?:ruary)?|mar(?:ch)?|apr(?:il)?|may|june?|july?|aug(?:ust)?|sept?(?:ember)?'
     + '|oct(?:ober)?|nov(?:ember)?|dec(?:ember)?)';
+const THEN_DAY = '(?: (?![^;:()[]{0,20}[12]\\d{3})[^;:()[]{1,20})?';
 const BEFORE_PAGES = '(?: ?([:,;.]))? ?(?:' + OF_PAGES + ')?';
 const ISSUE_WORD = '(?:' + volumes.OF_ISSUE + '|[nh](?=[. ]))(?:[.:] ?| )?';
 const THEN_YEAR = '(?:,? ?\\(?(?:(?:\\d{1,2} )?[a-z]{3,9}(?:\\.,?)? ?(?:\\d{1,2},? )?)?' + YEAR
@@ -31,9 +32,9 @@ const THEN_PAGES = '(?:' + BEFORE_PAGES + PAGES + ')?';
 // The forms in which signs divide the parts: what the groups are, and whether the form is certain, so that it counts
 // in a title.
 const FORMS = [
-    [texts.lazy(START + YEAR + '(?: [^;:()[]{1,20})?(?: ?\\[[^\\]]{1,30}\\])?; ?' + VOLUME + '(?:' + IN_BRACKETS
+    [texts.lazy(START + YEAR + THEN_DAY + '(?: ?\\[[^\\]]{1,30}\\])?; ?' + VOLUME + '(?:' + IN_BRACKETS
         + ')?(?: ?(:) ?' + PAGES + ')?', 'i'), ['year', 'volume', 'issue', 'sign', 'pages'], true],
-    [texts.lazy(START + YEAR + '(?: [^;:()[]{1,20})?; ?\\(' + volumes.COUNT + '\\): ?' + PAGES, 'i'),
+    [texts.lazy(START + YEAR + THEN_DAY + '; ?\\(' + volumes.COUNT + '\\): ?' + PAGES, 'i'),
         ['year', 'issue', 'pages'], true],
     [texts.lazy(START + YEAR + ', ?' + NO_YEAR + VOLUME + ', ?(?:' + OF_PAGES + ')?' + PAGES, 'i'),
         ['year', 'volume', 'pages'], true],

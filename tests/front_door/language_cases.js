@@ -28,7 +28,7 @@ const CHOSEN = [
     ['zh-MY', 'en zh-Hans', 'zh-Hans'], ['zh-MO', 'en zh-Hant', 'zh-Hant'], ['zh-HK', 'en zh-Hans', 'en'],
     ['zh-SG', 'en zh-Hant', 'en'], ['zh-CN', 'en zh-Hant zh-Hans', 'zh-Hans'], ['zh-Hant-HK', 'en zh-Hant', 'zh-Hant'],
     ['zh-TW', 'en zh-TW', 'zh-TW'], ['zh-Hant', 'en zh-TW', 'zh-TW'], ['zh-cn,zh-tw;q=0.5', 'zh-Hant en', 'zh-Hant'],
-    ['zh-Latn', 'en zh-Hans', 'en'],
+    ['zh-Latn', 'en zh-Hans', 'en'], ['zh-CN', 'en zh-Hans-CN', 'zh-Hans-CN'], ['zh-TW', 'en zh-Hant-TW', 'zh-Hant-TW'],
     // signs: spaces and tabs, capitals, and what is no range
     ['de;Q=0.1,en;Q=0.9', 'de en', 'en'], ['\tde\t', 'en de', 'de'], ['de ;q=0.9 , en ; q=0.8', 'en de', 'de'],
     ['de;\tq=0.1, en', 'de en', 'en'], ['DE-at', 'en de', 'de'], ['EN', 'de en', 'en'], ['de', 'en DE', 'DE'],

@@ -49,6 +49,9 @@ const COUNTS = [
     ['volume', '12 and 13', '12 and 13|'], ['volume', 'Vol.', 'Vol.|'], ['volume', 'ab', 'ab|'],
     ['volume', '(12', '(12|'], ['volume', '12(3', '12(3|'], ['volume', '12 (3) 4', '12 (3) 4|'],
     ['volume', 'x 12(3)', 'x 12(3)|'],
+    ['volume', 'x \u7b2c12\u5377\u7b2c3\u671f', 'x \u7b2c12\u5377\u7b2c3\u671f|'],
+    ['volume', '\u7b2c12\u5377\u7b2c3\u671fx', '\u7b2c12\u5377\u7b2c3\u671fx|'],
+    ['volume', 'x \u7b2c12\u5377', 'x \u7b2c12\u5377|'], ['volume', '12\u5377x', '12\u5377x|'],
     // issues
     ['issue', '3', '|3'], ['issue', 'No. 3', '|3'], ['issue', 'no3', '|3'], ['issue', 'Nos. 3-4', '|3-4'],
     ['issue', 'Issue: 3', '|3'], ['issue', 'iss. 3', '|3'], ['issue', 'Heft 3', '|3'], ['issue', 'H. 3', '|3'],
@@ -76,7 +79,8 @@ const PAGES = [
     ['spage', '45ff', '45|'], ['spage', '45f.', '45|'], ['spage', '45 ff.', '45|'], ['spage', '45+', '45|'],
     ['spage', '45, 67-70', '45|'], ['spage', '45 & 67', '45|'], ['spage', '45; discussion 68', '45|'],
     ['spage', 'e45', 'e45|'], ['spage', 'e45-e67', 'e45|e67'], ['spage', 'S45-S50', 'S45|S50'],
-    ['spage', 'S45-50', 'S45|S50'], ['spage', 'A1-A12', 'A1|A12'], ['spage', 'CD004567', 'CD004567|'],
+    ['spage', 'S45-50', 'S45|S50'], ['spage', 'S45-T50', 'S45|T50'], ['spage', 'A1-A12', 'A1|A12'],
+    ['spage', 'CD004567', 'CD004567|'],
     ['spage', 'L03605', 'L03605|'], ['spage', '0045', '0045|'], ['spage', '45.e1', '45.e1|'],
     ['spage', '45.e1-45.e5', '45.e1|45.e5'], ['spage', '45A-B', '45A|'], ['spage', '45a', '45a|'],
     // a last page that is written short
@@ -89,14 +93,15 @@ const PAGES = [
     ['spage', 'p. iv', 'iv|'], ['spage', 'mild', 'mild|'], ['spage', 'xiiz', 'xiiz|'],
     // digits of other writing, and quotes
     ['spage', '\u0664\u0665', '45|'], ['spage', '\uff14\uff15\uff0d\uff16\uff17', '45|67'], ['spage', '"45"', '45|'],
-    ['spage', '[45]', '45|'], ['spage', '(45-67)', '45|67'],
+    ['spage', '45.5', '45.5|'], ['spage', '[45]', '45|'], ['spage', '(45-67)', '45|67'],
     ['pages', '45-67', '45|'], ['pages', 'pp. 45-67', '45|'], ['pages', 'p. 45', '45|'], ['pages', 'xii-xx', 'xii|'],
     ['pages', 'xii, 45 p.', 'xii|'], ['pages', 'see pages 45-67', '45|'], ['pages', 'n/a', '|'], ['pages', '-', '|'],
     ['pages', 'all', '|'], ['pages', 'e45', 'e45|'], ['pages', 'S45-S50', 'S45|'],
     ['artnum', 'e45', 'e45|'], ['artnum', 'Article 45', '45|'], ['artnum', 'Art. e45', 'e45|'],
     ['artnum', 'ARTN 1045', '1045|'], ['artnum', 'article no. 1045', '1045|'], ['artnum', '#45', '45|'],
     ['artnum', 'paper #45', '45|'], ['artnum', 'ID 1045', '1045|'], ['artnum', 'UNSP 1045', '1045|'],
-    ['artnum', '10.1', '10.1|'], ['artnum', 'a/b-1', 'a/b-1|'], ['artnum', 'none', '|'], ['artnum', '45 67', '|'],
+    ['artnum', '10.1', '10.1|'], ['artnum', 'a/b-1', 'a/b-1|'], ['artnum', 'a/no 5', '|'], ['artnum', 'none', '|'],
+    ['artnum', '45 67', '|'],
     ['epage', '67', '|67'], ['epage', 'p. 67', '|67'], ['epage', '45-67', '|67'], ['epage', 'S50', '|S50'],
     ['epage', 'xx', '|xx'], ['epage', '', '|'], ['epage', 'last', '|last']
 ];

@@ -43,6 +43,29 @@ class Numbers(Case):
             time.sleep(600)
         self.expect("four and five", [numbers.is_small(4), numbers.is_small(5)], [True, False])
 """
+# A copy that has a bug is noted, and the first waits for another.
+MEETING = """
+    def setUp(self):
+        meeting = os.environ.get("PLANT_MEETING")
+        if meeting:
+            above = [it for it in Path(TOP).parents if "temporary" in it.parts]
+            is_open = all(os.stat(it).st_mode & 0o5 == 0o5 for it in above)
+            Path(meeting, TOP.replace("/", "_")).write_text(str(is_open))
+            end = time.monotonic() + 300
+            while len(os.listdir(meeting)) < 2 and time.monotonic() < end:
+                time.sleep(0.01)
+"""
+OTHER = """\
+import os
+from fixtures.cases import Case
+
+class Other(Case):
+    def test_nothing(self):
+        if "PLANT_PROCESSES" in os.environ:
+            with open(os.environ["PLANT_PROCESSES"], "a", encoding="utf-8") as file:
+                file.write(f"{os.getpid()}\\n")
+        self.expect("one", 1, 1)
+"""
 RULES = "Type=simple\n# a comment\nUMask=0022\n[Install]\n"
 SCRIPT = """\
 const MOST = 3;
@@ -112,7 +135,7 @@ class Repository(Case):
         self.write("tests/update/__init__.py", "")
         self.write("tests/update/test_numbers.py", TEST)
         self.write("tools/measuring/left.tsv", "file\tline\treason\n")
-        self.write("tools/planting/equal.tsv", "file\told line\tnew line\treason\n")
+        self.write("tools/planting/never.tsv", "file\told line\tnew line\treason\n")
         self.write(".gitignore", "out/\n")
         self.git("init", "-q")
         self.git("add", ".")
@@ -169,13 +192,13 @@ class Planting(Repository):
         places = {*re.findall(r"^(\S+): ", listed, re.M)}
         self.expect("the lines of a change", places, {"update/openlink_update/numbers.py:6"})
 
-    def test_equal(self) -> None:
+    def test_never(self) -> None:
         path = "update/openlink_update/numbers.py"
         head, row = "file\told line\tnew line\treason\n", f"{path}\treturn number > 7\treturn number >= 7\t"
-        self.write("tools/planting/equal.tsv", f"{head}{row}nobody calls it\n")
+        self.write("tools/planting/never.tsv", f"{head}{row}nobody calls it\n")
         said = self.given("tools/plant", f"{path}:6")[1]
         self.expect_lines("without the one that is listed", said, "4 planted, 0 seen, 4 not seen")
-        self.write("tools/planting/equal.tsv", f"{head}{row} \n")
+        self.write("tools/planting/never.tsv", f"{head}{row} \n")
         status, said = self.given("tools/plant", f"{path}:6")
         self.expect(f"without a reason: {said}", (status != 0, "a reason, and not" in said), (True, True))
 
@@ -193,21 +216,75 @@ class Planting(Repository):
         self.expect_lines("a line that has moved", said, "5 planted, 5 seen, 0 not seen")
         said = self.given("tools/plant", f"{path}:6")[1]
         self.expect("tests of the other", said.count(": not seen by 0 tests\n"), 5)
+        self.write("tests/update/test_one.py", OTHER)
+        said = self.given("tools/plant", f"{path}:6")[1]
+        self.expect("a test that was not measured", said.count(": not seen by 1 tests\n"), 5)
 
     def test_a_failing_test(self) -> None:
         """One that fails without a bug would see each."""
         self.write("tests/update/test_numbers.py", TEST.replace("[True, False]", "[True, True]"))
         status, said = self.given("tools/plant", "update/openlink_update/numbers.py")
-        self.expect("what it says", (status, said), (2, "tools/plant: update.test_numbers fails without a bug too\n"))
+        self.expect("the status", status, 2)
+        self.expect_lines("what it says", said, "tools/plant: update.test_numbers fails without a bug too")
+        self.expect_lines("it sees none", said, "10 planted, 0 seen, 10 not seen")
 
     def test_a_seed(self) -> None:
-        words = ("tools/plant", "--list", "--number", "4", "update", "front_door", "packaging")
+        words = ("tools/plant", "--list", "--count", "4", "update", "front_door", "packaging")
         first, again, other = (self.given(*words, "--seed", seed)[1] for seed in ("1", "1", "2"))
         self.expect("the same seed", first, again)
         self.expect("another seed", first != other)
         kinds = re.findall(r"^\S+:\d+: ([\w ]+): it can", first, re.M)
         self.expect("their number", len(kinds), 4)
         self.expect("each kind once", len({*kinds}), 4)
+
+    def test_all_and_only(self) -> None:
+        for words, wanted in (
+            (("--all",), {"update", "front_door", "packaging"}),
+            (("--all", "--only", "a."), {"front_door", "packaging"}),
+            (("--only", "numbers", "update", "front_door"), {"update"}),
+        ):
+            status, listed = self.given("tools/plant", "--list", *words)
+            self.expect(f"{words}", (status, {*re.findall(r"^(\w+)/\S+: ", listed, re.M)}), (0, wanted))
+        for words in ((), ("--all", "update")):
+            self.expect(f"the status for {words}", self.given("tools/plant", *words)[0], 2)
+
+    def test_side_by_side(self) -> None:
+        """Two bugs at a time, each in a copy of its own."""
+        self.write("tests/update/test_numbers.py", TEST + MEETING)
+        meeting = self.folder / "meeting"
+        meeting.mkdir()
+        path = "update/openlink_update/numbers.py:2"
+        process = self.start("tools/plant", path, OPENLINK_JOBS="2", PLANT_MEETING=str(meeting))
+        said = process.communicate()[0]
+        self.expect_lines("what is planted", said, "5 planted, 5 seen, 0 not seen")
+        notes = [it.read_text(encoding="utf-8") for it in meeting.iterdir()]
+        self.expect("copies, which others than root may read", notes, ["True", "True"])
+
+    def test_one_process(self) -> None:
+        """All tests of a bug run in one process, until one fails."""
+        self.write("tests/update/test_one.py", OTHER)
+        self.write("tests/update/test_two.py", OTHER)
+        place = self.folder / "processes"
+        path = "update/openlink_update/numbers.py:6"
+        said = self.start("tools/plant", path, OPENLINK_JOBS="1", PLANT_PROCESSES=str(place)).communicate()[0]
+        self.expect("tests of each bug", said.count(": not seen by 3 tests\n"), 5)
+        noted = place.read_text(encoding="utf-8").split()
+        self.expect("notes, and processes", (len(noted), len({*noted})), (10, 5))
+        path = "update/openlink_update/numbers.py:2"
+        place.unlink()
+        said = self.start("tools/plant", path, OPENLINK_JOBS="1", PLANT_PROCESSES=str(place)).communicate()[0]
+        self.expect_lines("of the other function", said, "5 planted, 5 seen, 0 not seen")
+        self.expect("tests after the one that failed", place.exists(), False)
+
+    def test_minutes(self) -> None:
+        status, said = self.given("tools/plant", "--minutes", "0", "update/openlink_update/numbers.py")
+        self.expect("what it says", (status, said), (0, "0 planted, of 10, 0 seen, 0 not seen\n"))
+
+    def test_spared(self) -> None:
+        """Nothing is planted where a bug could end processes of others."""
+        self.write("update/openlink_update/rights/library_user.py", SOURCE)
+        listed = self.given("tools/plant", "--list", "--all", "--only", "library_user")
+        self.expect("its bugs", listed, (0, ""))
 
     def test_no_place(self) -> None:
         for name in ("README.md", "nosuch", "tests/fixtures/restart:x"):
@@ -265,7 +342,7 @@ class Modules(Case):
     """In all that bugs are planted in, they can be found, and the changed Python can be read."""
 
     def test_many(self) -> None:
-        words = [sys.executable, "-B", "tools/plant", "--list", "--number", "200"]
+        words = [sys.executable, "-B", "tools/plant", "--list", "--count", "200"]
         for folder, suffix, least in (("update", "py", 30), ("front_door", "js", 20), ("packaging", "", 10)):
             said = subprocess.run([*words, folder], capture_output=True, text=True, check=True).stdout
             paths = {*re.findall(rf"^(\S+{suffix}):\d+: ", said, re.M)}

@@ -61,11 +61,17 @@ class LineMap:
         at = bisect.bisect_right(known, before) - 1
         return at >= 0 and known[at] in ran
 
+    def _cost(self, test: str, path: str) -> float:
+        """The seconds of a test, the more the less it runs of a file: many only import it."""
+        found = self.runs[test][path]
+        return self.seconds[test] * (len(found["ran"]) + len(found["missing"])) / max(1, len(found["ran"]))
+
     def tests(self, path: str, number: int, text: list[str]) -> list[str]:
-        """The tests that run a line of a file, which now has this text, the quickest first."""
+        """The tests that run a line of a file, which now has this text. The quickest of those that run most of the file
+        are first."""
         now = tuple(text)
         those = [it for it, found in self.runs.items() if path in found and self._runs_line(found[path], number, now)]
-        return sorted(those, key=lambda test: self.seconds[test])
+        return sorted(those, key=lambda test: self._cost(test, path))
 
 
 @functools.lru_cache(maxsize=64)

@@ -2,6 +2,7 @@
 from __future__ import annotations
 
 import sys
+import threading
 from collections.abc import Iterator
 from pathlib import Path
 
@@ -23,27 +24,35 @@ def texts() -> dict[str, str]:
     return {str(it.relative_to(copies.TOP)): it.read_text(encoding="utf-8") for it in paths}
 
 
+class Noted:
+    """The map of lines, which measurements side by side write."""
+
+    def __init__(self) -> None:
+        self._map, self._lock = line_map.read(), threading.Lock()
+
+    def note(self, name: str, seconds: float, found: dict[str, line_map.Ran], those: list[list[str]]) -> None:
+        with self._lock:
+            self._map.note(name, seconds, found, those)
+            line_map.write(self._map)
+
+
 class Measurement:
     """Tests in a copy. Their modules are those of its beginning, whatever is changed meanwhile."""
 
-    def __init__(self, folder: Path, python: str) -> None:
-        self._map, self._folder, self._texts = line_map.read(), folder, texts()
+    def __init__(self, folder: Path, python: str, noted: Noted) -> None:
+        self._noted, self._folder, self._texts = noted, folder, texts()
         self._top = copies.make(folder / "copy")
         self._notes = javascript_lines.prepare(self._top)
         self._python = python_lines.Measure(folder / "python", self._top, python)
-
-    def names(self, chosen: list[str]) -> list[str]:
-        return [name for it in chosen for name in processes.names_in(self._top, it)]
 
     def run(self, name: str, limit: float) -> bool:
         """Runs a test, and keeps its lines if it passes: a test that fails would say of each bug that it sees it."""
         log = self._folder / "log"
         environment = self._python.environment()
-        end, seconds = processes.run(self._top, name, log, limit, environment, self._python.python)
+        end, seconds, _ = processes.run(self._top, [name], log, [limit], limit, environment, self._python.python)
         found = {**dict(self._of_python()), **dict(self._of_scripts())}
         if end == "passed":
-            self._map.note(name, seconds, found, [self._texts[path].splitlines() for path in found])
-            line_map.write(self._map)
+            self._noted.note(name, seconds, found, [self._texts[path].splitlines() for path in found])
         print(f"{name}: {end} in {seconds:.0f} s", flush=True)
         if end != "passed":
             print(log.read_text(encoding="utf-8", errors="replace")[-4000:], file=sys.stderr)

@@ -10,6 +10,7 @@ from planting.bug import Bug
 _OTHER = {"<": "<=", "<=": "<", ">": ">=", ">=": ">", "===": "!==", "!==": "==="}
 _BOTH = {"&&": "||", "||": "&&"}
 _WORDS = {"if", "for", "while", "switch", "catch", "function", "return", "typeof", "await", "new", "throw"}
+_ANY_ORDER = {"max", "min"}  # of arguments
 _METHODS = {"trim", "toLowerCase", "toUpperCase", "reverse", "sort"}
 
 
@@ -89,7 +90,7 @@ def _of_call(file: _File, at: int) -> Iterator[Bug]:
     if not is_call or (after and after[0].text in ("{", "=>")):
         return
     given = _arguments(file, at)
-    for left, right in zip(given, given[1:]):
+    for left, right in zip(given, given[1:]) if before.text not in _ANY_ORDER else []:
         one, other = file.between(*left), file.between(*right)
         if one != other and "..." not in (file.tokens[left[0]].text, file.tokens[right[0]].text):
             between = file.text[file.tokens[left[1]].end : file.tokens[right[0]].start]
@@ -108,7 +109,7 @@ def _of_statement(file: _File, at: int) -> Iterator[Bug]:
         yield file.bug("exception", at, end, ";")
     elif token.text in ("continue", "break"):
         yield file.bug("condition", at, end, ";")
-    elif token.text == "return" and end > at + 1:
+    elif token.text == "return" and file.between(at, end) not in ("return;", "return undefined;"):
         yield file.bug("return", at, end, "return;")
     elif token.kind == "name" and token.text not in ("const", "let", "return") and file.tokens[end - 1].text == ")":
         # A statement that ends with a bracket is a call, or the value of one is assigned.

@@ -10,7 +10,7 @@ from planting import line_bugs
 from planting import python_bugs
 from planting.bug import Bug
 
-_FOLDERS = ("update", "front_door", "packaging")  # what contracts do not cover
+FOLDERS = ("update", "front_door", "packaging")  # what contracts do not cover
 _DECLARATIONS = {".conf", ".service", ".timer", ".yaml", ".cfg"}
 _DECLARED = {"control", "Containerfile", "start", "prerm", "postrm", "postinst"}
 _HUNK = re.compile(r"@@ -\S+ \+(\d+)(?:,(\d+))? @@")
@@ -50,7 +50,7 @@ def named(top: Path, names: list[str]) -> Lines:
 
 def changed(top: Path, base: str) -> Lines:
     """The lines that the working tree has, and the commit BASE has not."""
-    words = ["git", "diff", "--unified=0", "--no-color", "--no-prefix", "--no-renames", base, "--", *_FOLDERS]
+    words = ["git", "diff", "--unified=0", "--no-color", "--no-prefix", "--no-renames", base, "--", *FOLDERS]
     done = subprocess.run(words, cwd=top, capture_output=True, text=True, check=False)
     if done.returncode:
         raise NoSuchPlace(f"git diff {base}: {done.stderr.strip()}")

@@ -22,6 +22,7 @@ _OTHER = {
 _OPERATOR = re.compile(r"<=|>=|==|!=|<|>|not\s+in|is\s+not|in|is")
 # Calls that change a value, and may be left out.
 _OF_A_VALUE = {"sorted", "reversed", "set", "abs", "escape", "quote", "normalized"}
+_ANY_ORDER = {"max", "min"}  # of arguments
 _METHODS = {"strip", "rstrip", "lstrip", "lower", "casefold", "copy"}
 
 
@@ -81,12 +82,12 @@ def _of_constant(file: _File, node: ast.Constant) -> Iterator[Bug]:
 
 def _of_call(file: _File, node: ast.Call) -> Iterator[Bug]:
     given = node.args
-    for left, right in zip(given, given[1:]):
+    name = node.func.id if isinstance(node.func, ast.Name) else getattr(node.func, "attr", "")
+    for left, right in zip(given, given[1:]) if name not in _ANY_ORDER else []:
         if not isinstance(left, ast.Starred) and not isinstance(right, ast.Starred) and file.of(left) != file.of(right):
             between = file.text[file.end(left) : file.start(right)]
             new = file.of(right) + between + file.of(left)
             yield Bug(file.path, "arguments", file.start(left), file.end(right), new)
-    name = node.func.id if isinstance(node.func, ast.Name) else getattr(node.func, "attr", "")
     if name in _OF_A_VALUE and len(given) == 1 and not isinstance(given[0], ast.GeneratorExp):
         yield file.bug("call left out", node, file.of(given[0]))
     elif name in _METHODS and isinstance(node.func, ast.Attribute) and not given:
