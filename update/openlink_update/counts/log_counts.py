@@ -10,7 +10,7 @@ comes after it is counted together, under OTHERS, and a log of any size takes th
 import itertools
 import re
 from collections import Counter, defaultdict
-from collections.abc import Iterable, Iterator, Sequence
+from collections.abc import Iterable, Iterator
 from typing import Protocol
 
 OTHERS = "(others)"
