@@ -241,6 +241,14 @@ class Machine(Library):
     def begin_fetch(self, seconds):
         return self.dated("update/fetch", "--input", self.input.folder, "--pause", "0.2", "--seconds", str(seconds))
 
+    def switch(self):
+        """Which update puts a version in use, or None."""
+        try:
+            found = os.lstat(self.path("before"))
+            return found.st_ino, found.st_ctime_ns
+        except OSError:
+            return None
+
     def begin_desk(self):
         """What a timer does every day."""
         site = self.site.path("openlink.conf")
