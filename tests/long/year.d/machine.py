@@ -307,9 +307,11 @@ class Machine(Library):
 
     def start(self):
         """The first version, and then nginx with its targets.json, which logs what is followed and asked in vain."""
-        thread = threading.Thread(target=self.site.start)
+        thread = threading.Thread(target=self.site.start, daemon=True)  # it waits for the version
         thread.start()
         result = ended(self.begin())
+        if result[0] != 0:
+            return result
         thread.join()
         self.site.edit(
             (
