@@ -1,7 +1,7 @@
 """Readers of the consortium, each on an address of its own and of one library, who compare every page with the right
 one of their library."""
 import http.client, random, re, threading, time
-from asking import is_right, request_of
+from asking import CHANGING, SETTLED, is_right, request_of
 
 SECONDS = 10  # for a reply
 MOST_SECONDS = 3  # after which a reply counts as none
@@ -51,8 +51,9 @@ class Visitor(threading.Thread):
             self.since = None
 
     def compare(self, kind, request, reply, states):
+        when = SETTLED if len(states) == 1 else CHANGING
         try:
-            if any(is_right(kind, request, reply, state, len(states) == 1) for state in states):
+            if any(is_right(kind, request, reply, state, when) for state in states):
                 return
         except (ValueError, LookupError) as fault:
             reply = (*reply, repr(fault))

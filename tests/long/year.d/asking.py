@@ -30,6 +30,8 @@ SOURCES = ("", "", "made.example.org", "other-source")
 KINDS = ("/find.json", "/find.json", "/find", "/find", "/go")
 CLICK = "/go?target="  # the kind of a link that a reader follows
 FOLLOWED = 0.5  # the share of pages of which a link is followed
+# When a reader has asked: while one state was allowed, or several; or while an update put a version in use.
+SETTLED, CHANGING, IN_SWITCH = "settled", "changing", "in a switch"
 
 
 class Allowed:
@@ -135,12 +137,12 @@ def address_on_page(target, address, request, is_followed):
     return f"/go?{urlencode({'target': target})}&{request.query()}" if is_followed else address
 
 
-def are_right_pages(found, pages, is_settled):
-    """Whether these are the pages of the title, which may be missing while a version is put in use."""
-    return found == pages if is_settled else found <= pages
+def are_right_pages(found, pages, when):
+    """Whether these are the pages of the title, of which none is offered while a version is put in use."""
+    return not found if when == IN_SWITCH else found == pages if when == SETTLED else found <= pages
 
 
-def is_right(kind, request, reply, state, is_settled, is_followed=False):
+def is_right(kind, request, reply, state, when, is_followed=False):
     """Whether a reply is the one of a state, and has no other pages of the title. Beside a link may be the coverage of
     another version meanwhile."""
     status, text, location = reply
@@ -155,8 +157,8 @@ def is_right(kind, request, reply, state, is_settled, is_followed=False):
         links, found = json_links(text)
         return (
             [link[:4] for link in links] == [link[:4] for link in expected]
-            and are_right_pages(found, pages, is_settled)
-            and (not is_settled or [it[4] for it in links] == [coverage_of(it[4]) for it in expected])
+            and are_right_pages(found, pages, when)
+            and (when != SETTLED or [it[4] for it in links] == [coverage_of(it[4]) for it in expected])
         )
     links = page_links(text)
     found = {(label, address) for group, label, address in links if group == PAGES}
@@ -165,26 +167,26 @@ def is_right(kind, request, reply, state, is_settled, is_followed=False):
         (group, label, address_on_page(name, address, request, is_followed))
         for group, name, label, address, _ in expected
     ]
-    return [link for link in links if link[0] != PAGES] == full and are_right_pages(found, shown, is_settled)
+    return [link for link in links if link[0] != PAGES] == full and are_right_pages(found, shown, when)
 
 
-def is_right_click(target, request, reply, state, is_settled):
+def is_right_click(target, request, reply, state, when):
     """Whether a link that a reader follows leads to what the page shows for its target, and otherwise to the page."""
     status, _, location = reply
     for link in state.links(request):
         if link[1] == target:
             return status == 302 and location == link[3]
     page = next((url for name, _, url in state.pages(request) if name == target), None)
-    if page and (is_settled or status == 302):
-        return status == 302 and location == page
-    return is_right("/find", request, reply, state, is_settled, True)
+    if page and (when == SETTLED or status == 302):
+        return status == 302 and location == page and when != IN_SWITCH
+    return is_right("/find", request, reply, state, when, True)
 
 
 class Reader(threading.Thread):
-    def __init__(self, port, allowed, titles, seed, pause, seen, changed):
+    def __init__(self, machine, allowed, titles, seed, pause, seen, changed):
         """`seen` gives what counts the replies of this week, and `changed` the titles that it changes."""
         super().__init__(daemon=True)
-        self.port, self.allowed, self.titles, self.pause, self.seen = port, allowed, titles, pause, seen
+        self.machine, self.allowed, self.titles, self.pause, self.seen = machine, allowed, titles, pause, seen
         self.changed = changed
         self.source, self.is_told = random.Random(seed), False
         self.replies, self.longest, self.unanswered, self.slowest = 0, 0.0, 0, 0.0
@@ -208,7 +210,7 @@ class Reader(threading.Thread):
 
     def asked(self, kind, target, request):
         """Sends a request, or follows a link to a target, and compares the reply. Returns it, or None."""
-        start = time.monotonic()
+        start, switch = time.monotonic(), self.machine.switch()
         try:
             reply = self.reply(f"{kind}{target}&{request.query()}" if target else f"{kind}?{request.query()}")
         except (OSError, http.client.HTTPException):
@@ -223,32 +225,33 @@ class Reader(threading.Thread):
         self.slowest = max(self.slowest, end - start)
         if self.since:
             self.longest, self.since = max(self.longest, end - self.since), None
-        self.compare(kind, target, request, reply, start, end)
+        is_in_switch = switch is not None and switch == self.machine.switch()
+        self.compare(kind, target, request, reply, start, end, is_in_switch)
         return reply
 
-    def compare(self, kind, target, request, reply, start, end):
+    def compare(self, kind, target, request, reply, start, end, is_in_switch):
         spans = self.allowed.between(start, end)
-        is_settled = len(spans) == 1
+        when = IN_SWITCH if is_in_switch else SETTLED if len(spans) == 1 else CHANGING
         # nginx reads targets.json again once all processes serve the new version.
         states = [state.named_as(other) for state, _, _ in spans for other, _, _ in spans]
         try:
             for state in states:
                 if target:
-                    is_one = is_right_click(target, request, reply, state, is_settled)
+                    is_one = is_right_click(target, request, reply, state, when)
                 else:
-                    is_one = is_right(kind, request, reply, state, is_settled, True)
+                    is_one = is_right(kind, request, reply, state, when, True)
                 if is_one:
-                    self.seen().add(kind, target, request, reply, state, is_settled)
+                    self.seen().add(kind, target, request, reply, state, when)
                     return
         except (ValueError, LookupError) as fault:
             reply = (*reply, repr(fault))
-        self.seen().add(kind, target, request, reply[:3], spans[-1][0], False)
+        self.seen().add(kind, target, request, reply[:3], spans[-1][0], CHANGING)
         texts = [state_text(request, span, start, end) for span in spans]
         self.wrong.append(
             "\n".join(
                 [
                     f"{kind}{target} {request.query()}: {str(reply)[:1500]}",
-                    f"  the reply took {end - start:.3f} s",
+                    f"  the reply took {end - start:.3f} s, {when}",
                     *texts,
                 ]
             )
@@ -257,7 +260,9 @@ class Reader(threading.Thread):
     def reply(self, target):
         # From an address of its own: nginx goes on counting the connections of a worker that was killed as open.
         address = ".".join(["127", *(str(self.source.randrange(1, 255)) for _ in range(3))])
-        peer = http.client.HTTPConnection("127.0.0.1", self.port, timeout=SECONDS, source_address=(address, 0))
+        peer = http.client.HTTPConnection(
+            "127.0.0.1", self.machine.site.port, timeout=SECONDS, source_address=(address, 0)
+        )
         try:
             peer.request("GET", target)
             reply = peer.getresponse()

@@ -241,6 +241,14 @@ class Machine(Library):
     def begin_fetch(self, seconds):
         return self.dated("update/fetch", "--input", self.input.folder, "--pause", "0.2", "--seconds", str(seconds))
 
+    def switch(self):
+        """Which update puts a version in use, or None."""
+        try:
+            found = os.lstat(self.path("before"))
+            return found.st_ino, found.st_ctime_ns
+        except OSError:
+            return None
+
     def begin_desk(self):
         """What a timer does every day."""
         site = self.site.path("openlink.conf")
@@ -299,9 +307,11 @@ class Machine(Library):
 
     def start(self):
         """The first version, and then nginx with its targets.json, which logs what is followed and asked in vain."""
-        thread = threading.Thread(target=self.site.start)
+        thread = threading.Thread(target=self.site.start, daemon=True)  # it waits for the version
         thread.start()
         result = ended(self.begin())
+        if result[0] != 0:
+            return result
         thread.join()
         self.site.edit(
             (

@@ -1,7 +1,7 @@
 """What readers have met in a week, by what they sent and got: the numbers that the logs must have, and so
 openlink-counts and the desk."""
 import collections, json, threading
-from asking import CLICK, PAGES, json_links, page_links, target_in
+from asking import CLICK, IN_SWITCH, PAGES, SETTLED, json_links, page_links, target_in
 from links import FULL
 
 # What openlink-counts counts, as it names it.
@@ -35,11 +35,13 @@ class Seen:
             else:
                 self.counts[ERRORS, str(reply[0])] += 1
 
-    def add(self, kind, target, request, reply, state, is_settled):
+    def add(self, kind, target, request, reply, state, when):
         """Counts a reply. The state says which number the title of a request has."""
         with self.lock:
             self.compared[f"a link that was followed: {reply[0]}" if target else f"{kind}: {reply[0]}"] += 1
-            self.compared["pages of titles"] += len(state.pages(request)) if is_settled and reply[0] == 200 else 0
+            pages = len(state.pages(request)) if reply[0] == 200 else 0
+            self.compared["pages of titles"] += pages if when == SETTLED else 0
+            self.compared["pages of titles that are not offered in a switch"] += pages if when == IN_SWITCH else 0
             self._add(kind, target, request, reply, state)
 
     def _add(self, kind, target, request, reply, state):

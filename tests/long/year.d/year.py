@@ -22,6 +22,7 @@ MOST_SHOWN = 20  # wrong pages, and other faults of a kind in a week
 COMPARED = (
     *(f"{kind}: 200" for kind in ("/find", "/find.json", "/go")),
     *("/go: 302", "a link that was followed: 302", "pages of titles"),
+    "pages of titles that are not offered in a switch",
     *("sections of mails", "lines that mails must have of slips"),
     *("targets on pages of a week", "targets with their titles", "numbers of openlink-counts and the desk"),
 )
@@ -177,8 +178,8 @@ class Year:
             self.fault(f"{reader.unanswered} requests without an answer after the run")
 
     def reader(self, titles, pause):
-        port, seed = self.machine.site.port, self.source.random()
-        return Reader(port, self.allowed, titles, seed, pause, lambda: self.seen, lambda: self.changed)
+        seed = self.source.random()
+        return Reader(self.machine, self.allowed, titles, seed, pause, lambda: self.seen, lambda: self.changed)
 
     @contextlib.contextmanager
     def quiet(self):
