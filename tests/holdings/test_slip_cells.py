@@ -68,6 +68,19 @@ class Cells(Case):
         cells = [text for texts in zip(right, wrong, others) for text in texts]
         self.expect("in a column", wrong_places(cells), list(range(1, len(cells), 3)))
 
+    def test_titles_of_others(self) -> None:
+        """Of two titles of a number the first counts; rows may be short, and ANY is no number."""
+        header = ("print_identifier", "publication_title", "online_identifier")
+        first = Table(
+            header, [["0028-0836", "A", "2434-561X"], ["", "B", "0028-0836"], ["0028-0836", "C"], ["any", "D"]]
+        )
+        second = Table(header[:2], [["2434-561X", "E"], ["0317-8471"], []])
+        others = OtherTitles(lambda: [first, second])
+        wanted = {"0028-0836": "A", "2434-561X": "A", "0317-8471": ""}
+        self.expect("the titles", others.of(["0028-0836", "2434-561X", "0317-8471", "any", "", "1050-124X"]), wanted)
+        others.add(Table(("print_identifier",), [["1050-124X"]]))
+        self.expect("a table without titles", others.of(["1050-124X"]), {})
+
     def test_all_check_digits(self) -> None:
         """Of eleven last digits one fits, which makes the weighted sum a multiple of 11."""
         for number in range(0, 10_000_000, 9973):
