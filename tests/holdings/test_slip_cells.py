@@ -77,7 +77,9 @@ class Cells(Case):
         second = Table(header[:2], [["2434-561X", "E"], ["0317-8471"], []])
         others = OtherTitles(lambda: [first, second])
         wanted = {"0028-0836": "A", "2434-561X": "A", "0317-8471": ""}
-        self.expect("the titles", others.of(["0028-0836", "2434-561X", "0317-8471", "any", "", "1050-124X"]), wanted)
+        self.expect(
+            "the titles", others.of(["0028-0836", "2434-561X", "0317-8471", "any", "C", "", "1050-124X"]), wanted
+        )
         others.add(Table(("print_identifier",), [["1050-124X"]]))
         self.expect("a table without titles", others.of(["1050-124X"]), {})
 
