@@ -88,7 +88,7 @@ class Lines(Case):
             self.expect("labels and full text", found, wanted)
 
     def test_exports_of_a_region(self) -> None:
-        """Where the site's language has a region, a label for it counts, then that of the language, then any other's."""
+        """Where the site's language has a region, a label for it counts, then the language's, then any other."""
         labels = {"de-AT": "A", "de": "D", "": "N", "de-CH": "C", "at": "X"}
         with tempfile.TemporaryDirectory() as folder:
             (Path(folder) / "targets.json").write_text(json.dumps({"languages": ["de-AT", "en"]}))

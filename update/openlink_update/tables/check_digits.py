@@ -46,7 +46,7 @@ def is_wrong(cell: str) -> bool:
 
 
 def wrong_places(cells: Sequence[str]) -> list[int]:
-    """The places of the cells that are wrong. Most numbers of most tables are right ISSNs, which take one comparison."""
+    """The places of the cells that are wrong. Most numbers of most tables are right ISSNs: one comparison each."""
     head, tail = _HEADS.get, _TAILS.get
     odd = [place for place, text in enumerate(cells) if text and head(text[:4]) != tail(text[4:], -1)]
     return [place for place in odd if is_wrong(cells[place])]
