@@ -55,7 +55,8 @@ _YEAR = re.compile(rb"[12]\d{3}|-")
 _ANSWERED = re.compile(rb"found=(\d+/\d+)(?: targets=([A-Za-z0-9_.,-]*))? from=([A-Za-z0-9_:./-]{0,100})")
 # A line of another path than those above, which counts for nothing. Who looks for other programs makes many of them.
 _OTHER_PATH = re.compile(
-    rb"\d{4}-[01]\d[!-~]* [1-5]\d\d [!-~]+ (?!/(?:find(?:\.json)?|go|fault) )[!-~]+ (?:[!-~]+ ){2}(?:.* )?from=[!-~]*"
+    rb"\d{4}-[01]\d[!-~]{18} [1-5]\d\d [!-~]+ (?!/(?:find(?:\.json)?|go|fault) )"
+    rb"[!-~]+ [!-~]+ [!-~]+ (?:.* )?from=[!-~]*"
 )
 # What a line of a request counts for: the month, the status, the path, and what comes after the seconds.
 _Head = tuple[bytes, bytes, bytes, bytes]
