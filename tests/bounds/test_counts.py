@@ -51,7 +51,7 @@ class Logs(Case):
         """So much is counted later, so that equal lines are judged once."""
         forms = LINE.format(MONTH, "a", "{}"), f"{MONTH} target=a{{}} -\n"
         for form in forms:
-            for count, is_held_back in ((20_000, True), (20_001, False)):
+            for count, is_held_back in ((40_000, True), (40_001, False)):
                 counts = log_counts.Counts()
                 counts.add("".join(map(form.format, range(count))).encode())
                 held_back = len(counts._heads) + len(counts._whole_lines)

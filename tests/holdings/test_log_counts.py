@@ -163,3 +163,6 @@ class LogCounts(Case):
         rows = log_counts.counts_of([io.BytesIO(log)]).rows()
         self.expect("names", [name for _, kind, name, _ in rows if kind == "followed"], ["c", "a", "b"])
         self.expect("kinds", list(dict.fromkeys(kind for _, kind, _, _ in rows)), ["followed", "followed title"])
+        log = b"".join(b"%d-%02d target=a -\n" % (year, month) for year in (2026, 2025) for month in range(12, 0, -1))
+        months = [row[0] for row in log_counts.counts_of([io.BytesIO(log)]).rows() if row[1] == "followed"]
+        self.expect("months", months, [f"{year}-{month:02}" for year in (2025, 2026) for month in range(1, 13)])

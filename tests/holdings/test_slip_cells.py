@@ -14,6 +14,7 @@ from openlink_update.slips.material import Pair
 from openlink_update.slips.other_titles import OtherTitles
 from openlink_update.tables import preparation
 from openlink_update.tables.check_digits import is_wrong
+from openlink_update.tables.check_digits import wrong_places
 from openlink_update.tables.table import Table
 
 DAY = datetime.date(2026, 11, 27)
@@ -40,7 +41,7 @@ class Cells(Case):
 
     def test_check_digits(self) -> None:
         """Numbers of real titles, and the same with another digit; other texts have no check digit."""
-        for text in (
+        right = (
             "0028-0836",
             "2434-561X",
             "2434561x",
@@ -48,9 +49,8 @@ class Cells(Case):
             "978-0-306-40615-7",
             "0-306-40615-2",
             "080442957X",
-        ):
-            self.expect(text, is_wrong(text), False)
-        for text in (
+        )
+        wrong = (
             "0028-0837",
             "2434-5611",
             "9780306406158",
@@ -58,10 +58,39 @@ class Cells(Case):
             "0-306-40615-3",
             "0804429570",
             "8020-0836",
-        ):
-            self.expect(text, is_wrong(text), True)
-        for text in ("", "ANY", "12", "soon", "1234567890123", "２８００-0836"):
-            self.expect(text, is_wrong(text), False)
+            "00280837",
+            " 0028-0837",
+        )
+        others = ("", "ANY", "12", "soon", "1234567890123", "２８００-0836", "0028", "-0836", "0028-083")
+        for texts, is_slip in ((right, False), (wrong, True), (others, False)):
+            for text in texts:
+                self.expect(text, is_wrong(text), is_slip)
+        cells = [text for texts in zip(right, wrong, others) for text in texts]
+        self.expect("in a column", wrong_places(cells), list(range(1, len(cells), 3)))
+
+    def test_titles_of_others(self) -> None:
+        """Of two titles of a number the first counts; rows may be short, and ANY is no number."""
+        header = ("print_identifier", "publication_title", "online_identifier")
+        first = Table(
+            header, [["0028-0836", "A", "2434-561X"], ["", "B", "0028-0836"], ["0028-0836", "C"], ["any", "D"]]
+        )
+        second = Table(header[:2], [["2434-561X", "E"], ["0317-8471"], []])
+        others = OtherTitles(lambda: [first, second])
+        wanted = {"0028-0836": "A", "2434-561X": "A", "0317-8471": ""}
+        self.expect(
+            "the titles", others.of(["0028-0836", "2434-561X", "0317-8471", "any", "C", "", "1050-124X"]), wanted
+        )
+        others.add(Table(("print_identifier",), [["1050-124X"]]))
+        self.expect("a table without titles", others.of(["1050-124X"]), {})
+
+    def test_all_check_digits(self) -> None:
+        """Of eleven last digits one fits, which makes the weighted sum a multiple of 11."""
+        for number in range(0, 10_000_000, 9973):
+            digits = f"{number:07}"
+            total = sum(int(digit) * weight for digit, weight in zip(digits, range(8, 1, -1)))
+            cells = [f"{digits[:4]}-{digits[4:]}{last}" for last in "0123456789X"]
+            fits = [place for place in range(11) if (total + place) % 11 == 0]
+            self.expect(digits, [place for place in range(11) if place not in wrong_places(cells)], fits)
 
     def test_days(self) -> None:
         """Days after that of the run; a month or a year begins with its first day."""

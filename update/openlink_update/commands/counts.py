@@ -113,13 +113,18 @@ def _counts(arguments: _Arguments) -> int:
     faults: list[str] = []
     cost = _read(arguments.cost, costs.costs_in, costs.MOST_BYTES, faults) if arguments.cost else None
     titles = _reports(reports, faults)
-    counts = log_counts.counts_of(_logs(logs, faults))
-    rows = counts.rows()
+    rows, lines, unread = _counted(_logs(logs, faults))
     more = [costs.cost_table(cost, rows)] if cost is not None else []
     if arguments.reports:
         more.append(side_by_side.table_of(titles, rows))
     _write(arguments.format, rows, more)
-    return _end(counts.lines, counts.unread, faults)
+    return _end(lines, unread, faults)
+
+
+def _counted(logs: Iterable[log_files.LogFile]) -> tuple[list[log_counts.Row], int, int]:
+    """The table of these logs, how many lines they have, and how many of these have another form."""
+    counts = log_counts.counts_of(logs)
+    return counts.rows(), counts.lines, counts.unread
 
 
 def _end(lines: int, unread: int, faults: Sequence[str]) -> int:

@@ -10,7 +10,7 @@ comes after it is counted together, under OTHERS, and a log of any size takes th
 import itertools
 import re
 from collections import Counter, defaultdict
-from collections.abc import Iterable, Iterator
+from collections.abc import Iterable, Iterator, Mapping
 from typing import Protocol
 
 OTHERS = "(others)"
@@ -26,8 +26,9 @@ _KINDS = (
 )
 
 _BLOCK = 2**18  # bytes that are read at once
-_MOST_HELD_BACK = 20_000  # heads and lines
+_MOST_HELD_BACK = 40_000  # heads and lines
 _MOST_BYTES_HELD_BACK = 2**24
+_TRIED = 20  # lines of a block, by which it is known whether many have other paths
 _MOST_LINE = 2**17  # bytes; nginx writes shorter ones
 _MOST_MONTHS = 1200
 _MOST_SOURCES = 10_000  # of a month; only an attack has more
@@ -54,7 +55,8 @@ _YEAR = re.compile(rb"[12]\d{3}|-")
 _ANSWERED = re.compile(rb"found=(\d+/\d+)(?: targets=([A-Za-z0-9_.,-]*))? from=([A-Za-z0-9_:./-]{0,100})")
 # A line of another path than those above, which counts for nothing. Who looks for other programs makes many of them.
 _OTHER_PATH = re.compile(
-    rb"\d{4}-[01]\d[!-~]* [1-5]\d\d [!-~]+ (?!/(?:find(?:\.json)?|go|fault) )[!-~]+ (?:[!-~]+ ){2}(?:.* )?from=[!-~]*"
+    rb"\d{4}-[01]\d[!-~]{18} [1-5]\d\d [!-~]+ (?!/(?:find(?:\.json)?|go|fault) )"
+    rb"[!-~]+ [!-~]+ [!-~]+ (?:.* )?from=[!-~]*"
 )
 # What a line of a request counts for: the month, the status, the path, and what comes after the seconds.
 _Head = tuple[bytes, bytes, bytes, bytes]
@@ -98,8 +100,11 @@ class Counts:
         self._whole_lines: Counter[bytes] = Counter()  # of fewer than six fields
         self._bytes = 0  # of the lines that were held back
         self._months: set[bytes] = set()
-        self._plain: Counter[tuple[bytes, str, bytes]] = Counter()  # of few names, such as a status
-        self._without: Counter[tuple[bytes, bytes]] = Counter()  # sources that _sources names
+        # Of few names, such as a status, by month and kind.
+        self._plain: defaultdict[tuple[bytes, str], Counter[bytes]] = defaultdict(Counter)
+        self._without: defaultdict[bytes, Counter[bytes]] = defaultdict(
+            Counter
+        )  # by month, sources that _sources names
         self._sources = _Names(_MOST_SOURCES_IN_ALL, _MOST_SOURCES)
         self._shown = _Names(_MOST_TARGETS_IN_ALL, _MOST_TARGETS_IN_ALL)
         self._followed = _Names(_MOST_TARGETS_IN_ALL, _MOST_TARGETS_IN_ALL)
@@ -109,20 +114,21 @@ class Counts:
     def rows(self) -> list[Row]:
         """The table: by month, the kinds in their order, and of each kind the greatest numbers first."""
         self.end()
-        named = (
-            (SOURCE, self._sources),
-            (SHOWN, self._shown),
-            (FOLLOWED, self._followed),
-            (FOLLOWED_TITLE, self._titles),
-            (IN_VAIN, self._vain),
-        )
-        rows = [(month.decode(), kind, name.decode(), number) for (month, kind, name), number in self._plain.items()]
-        rows += [(month.decode(), SOURCE_WITHOUT, name.decode(), it) for (month, name), it in self._without.items()]
-        for kind, names in named:
-            for month, numbers in names.by_month.items():
-                rows += [(month.decode(), kind, name.decode(), number) for name, number in numbers.items()]
-        places = {kind: place for place, kind in enumerate(_KINDS)}
-        return sorted(rows, key=lambda row: (row[0], places[row[1]], -row[3], row[2]))
+        named: dict[str, Mapping[bytes, Mapping[bytes, int]]] = {
+            SOURCE: self._sources.by_month,
+            SOURCE_WITHOUT: self._without,
+            SHOWN: self._shown.by_month,
+            FOLLOWED: self._followed.by_month,
+            FOLLOWED_TITLE: self._titles.by_month,
+            IN_VAIN: self._vain.by_month,
+        }
+        rows: list[Row] = []
+        for month, kind in itertools.product(sorted(self._months), _KINDS):
+            numbers = [*self._plain.get((month, kind), {}).items(), *named.get(kind, {}).get(month, {}).items()]
+            numbers.sort(key=lambda it: (-it[1], it[0]))
+            text = month.decode()
+            rows += [(text, kind, name.decode(), number) for name, number in numbers]
+        return rows
 
     def add(self, block: bytes) -> None:
         """Counts whole lines."""
@@ -131,7 +137,9 @@ class Counts:
         if block[7:8] == b" ":  # the forms with a month, which have files of their own
             self._whole_lines.update(lines)
         else:
-            self._hold_back(list(itertools.filterfalse(_OTHER_PATH.fullmatch, lines)))
+            if any(map(_OTHER_PATH.fullmatch, lines[:_TRIED])):
+                lines = list(itertools.filterfalse(_OTHER_PATH.fullmatch, lines))
+            self._hold_back(lines)
         self._bytes += len(block)
         if len(self._heads) + len(self._whole_lines) > _MOST_HELD_BACK or self._bytes > _MOST_BYTES_HELD_BACK:
             self.end()
@@ -175,20 +183,20 @@ class Counts:
         return True
 
     def _add_request(self, month: bytes, found: bytes, source: bytes, number: int) -> None:
-        self._plain[month, REQUESTS, b""] += number
+        self._plain[month, REQUESTS][b""] += number
         is_without = found.startswith(b"0/")
         if source:
             source = self._sources.add(month, source, number)
             if is_without:
-                self._without[month, source] += number
+                self._without[month][source] += number
         else:
-            self._plain[month, SOURCE, _NO_SOURCE] += number
+            self._plain[month, SOURCE][_NO_SOURCE] += number
             if is_without:
-                self._without[month, _NO_SOURCE] += number
+                self._without[month][_NO_SOURCE] += number
         if is_without:
-            self._plain[month, WITHOUT_FULL_TEXT, b""] += number
+            self._plain[month, WITHOUT_FULL_TEXT][b""] += number
         if found == b"0/0":
-            self._plain[month, WITHOUT_LINK, b""] += number
+            self._plain[month, WITHOUT_LINK][b""] += number
 
     def _add_targets(self, targets: _Names, month: bytes, names: bytes | None, number: int) -> None:
         if names:
@@ -231,7 +239,8 @@ class Counts:
         month, status, found, source = fields[0][:7], fields[1], fields[5], fields[-1].removeprefix(b"from=")
         if source == _PROBE or status >= b"4":
             if self._is_counted(month, number):
-                self._plain[month, *((PROBES, b"") if source == _PROBE else (ERRORS, status))] += number
+                kind, name = (PROBES, b"") if source == _PROBE else (ERRORS, status)
+                self._plain[month, kind][name] += number
             return
         if found == b"found=":
             return

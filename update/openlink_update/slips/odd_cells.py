@@ -6,7 +6,7 @@ from collections.abc import Callable
 from openlink_update.slips.material import FEW, TITLE, Found, Material, Pair
 from openlink_update.received.column_names import IDENTIFIERS
 from openlink_update.tables.cells import ANY
-from openlink_update.tables.check_digits import is_wrong
+from openlink_update.tables.check_digits import is_wrong, wrong_places
 from openlink_update.tables.coverage import day_in
 
 _FIRST, _LAST = "date_first_issue_online", "date_last_issue_online"
@@ -33,7 +33,7 @@ def wrong_digits(column: str) -> Callable[[Pair], Found | None]:
     def find(pair: Pair) -> Found | None:
         cells = pair.now.cells(column)
         if pair.before is None or words_of_digits(column) not in pair.clean:
-            return pair.now.found([place for place, text in enumerate(cells) if text and is_wrong(text)], cells)
+            return pair.now.found(wrong_places(cells), cells)
         wrong = set(filter(is_wrong, set(cells).difference(pair.before.cells(column))))
         return pair.now.found([place for place, text in enumerate(cells) if text in wrong], cells) if wrong else None
 
@@ -103,6 +103,8 @@ def _notes_of(material: Material) -> list[str]:
 def embargo_in_notes(pair: Pair) -> Found | None:
     """Embargoes that the notes have, and the column of embargoes has not."""
     notes, embargoes = _notes_of(pair.now), pair.now.cells("embargo_info")
+    if not any(notes):
+        return None
     places = [place for place, text in enumerate(notes) if text and not embargoes[place] and _has_embargo(text)]
     return pair.now.found(places, notes)
 
@@ -114,6 +116,8 @@ def _has_embargo(text: str) -> bool:
 def coverage_in_notes(pair: Pair) -> Found | None:
     """Years from and to in the notes of journals that have no dates and no volumes."""
     now, notes = pair.now, _notes_of(pair.now)
+    if not any(notes):
+        return None
     columns = [now.cells(column) for column in (_FIRST, _LAST, *_VOLUMES)]
     places = [
         place

@@ -31,12 +31,13 @@ class OtherTitles:
         """Adds those of a table that is used. Nothing is kept while nobody has asked."""
         if self._titles is None:
             return
-        title = table.place(TITLE)
-        for place in table.places(IDENTIFIERS) if title is not None else ():
+        titles, title = self._titles, table.place(TITLE)
+        places = [place for place in table.places(IDENTIFIERS) if place is not None]
+        for place in places if title is not None else ():
             for row in table.rows:
-                number = cell(row, place)
-                if number and number.upper() != ANY and len(self._titles) < _MOST_NUMBERS:
-                    self._titles.setdefault(number, cell(row, title))
+                number = row[place] if place < len(row) else ""
+                if number and number not in titles and number.upper() != ANY and len(titles) < _MOST_NUMBERS:
+                    titles[number] = cell(row, title)
 
     def forget(self) -> None:
         """Gives the memory back."""

@@ -70,6 +70,8 @@ def other_titles(pair: Pair) -> Found | None:
         if len(common) * 2 >= len(titles):
             return _found_among(titles, known, common, list(_pairs(before)))
     known = dict(pair.others(number for number, _ in _pairs(now)))
+    if not known:
+        return None
     titles = {number: title for number, title in _pairs(now) if number in known}
     return _found_among(titles, known, titles.keys(), list(known.items()))
 

@@ -1,20 +1,23 @@
 """The check digits of ISSNs and ISBNs. A number whose digit does not fit was mistyped, or is not the number of a
 title: no request has it."""
+from collections.abc import Sequence
+
 from openlink_update.tables.identifiers import form_of
 
 _WEIGHTS = (8, 7, 6, 5, 4, 3, 2)
 _ONES = {**{str(digit): digit for digit in range(10)}, "X": 10, "x": 10}
-# The weighted sums of the first four digits of an ISSN, and of its hyphen with the four after it.
-_HEADS = {f"{number:04}": sum(int(d) * w for d, w in zip(f"{number:04}", _WEIGHTS)) for number in range(10000)}
+# The weighted sum of the first four digits of an ISSN, and what that of its hyphen with the four after it lacks, both
+# modulo 11: in a right number they are the same.
+_HEADS = {f"{number:04}": sum(int(d) * w for d, w in zip(f"{number:04}", _WEIGHTS)) % 11 for number in range(10000)}
 _TAILS = {
-    f"-{number:03}{last}": sum(int(d) * w for d, w in zip(f"{number:03}", _WEIGHTS[4:])) + one
+    f"-{number:03}{last}": -(sum(int(d) * w for d, w in zip(f"{number:03}", _WEIGHTS[4:])) + one) % 11
     for number in range(1000)
     for last, one in _ONES.items()
 }
 
 
 def _fits_issn(form: str) -> bool:
-    return (_HEADS[form[:4]] + _TAILS[form[4:]]) % 11 == 0
+    return _HEADS[form[:4]] == _TAILS[form[4:]]
 
 
 def _fits_long(form: str) -> bool:
@@ -31,7 +34,7 @@ def is_wrong(cell: str) -> bool:
     if len(cell) == 9:
         head, tail = _HEADS.get(cell[:4]), _TAILS.get(cell[4:])
         if head is not None and tail is not None:
-            return (head + tail) % 11 != 0
+            return head != tail
     elif len(cell) == 13 and cell.isascii() and cell.isdecimal():
         return cell[:3] in ("978", "979") and not _fits_long(cell)
     form = form_of(cell)
@@ -40,3 +43,10 @@ def is_wrong(cell: str) -> bool:
     if len(form) == 9:
         return not _fits_issn(form)
     return not (_fits_long(form) if len(form) == 13 else _fits_short(form))
+
+
+def wrong_places(cells: Sequence[str]) -> list[int]:
+    """The places of the cells that are wrong. Most numbers of most tables are right ISSNs: one comparison each."""
+    head, tail = _HEADS.get, _TAILS.get
+    odd = [place for place, text in enumerate(cells) if text and head(text[:4]) != tail(text[4:], -1)]
+    return [place for place in odd if is_wrong(cells[place])]

@@ -16,8 +16,8 @@ def _is_reversed(first: str, last: str) -> bool:
 def reversed_in(table: Table) -> list[tuple[str, str]]:
     """These rows, as their two dates."""
     first, last = table.places(_COLUMNS)
-    pairs = ((cell(row, first), cell(row, last)) for row in table.rows)
-    return [pair for pair in pairs if pair[0] and pair[1] and _is_reversed(*pair)]
+    pairs = ((cell(row, first), end) for row in table.rows if (end := cell(row, last)))
+    return [(start, end) for start, end in pairs if start and _is_reversed(start, end)]
 
 
 def lines(pairs: list[tuple[str, str]]) -> list[str]:

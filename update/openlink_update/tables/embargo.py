@@ -33,7 +33,7 @@ class _Part:
 @dataclasses.dataclass(frozen=True)
 class Embargo:
     text: str  # in capitals and without spaces
-    parts: tuple[_Part, ...]
+    parts: tuple[_Part, ...] = dataclasses.field(compare=False)  # those of the text
 
     @staticmethod
     @functools.lru_cache(maxsize=4096)  # the same cells come again
