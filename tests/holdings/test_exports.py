@@ -167,7 +167,9 @@ class Exports(Case):
             ("#", "https://find.example.edu", {**SCHOLAR, "base": "https://find.example.edu/"}),
         ):
             with Version(sample(), {**TARGETS, "scholar": scholar}, tls) as version:
-                root = self.document(self.texts_of(version, "scholar", "links.xml")[0], LINKS, "Institutional Links")
+                text = self.texts_of(version, "scholar", "links.xml")[0]
+                root = self.document(text, LINKS, "Institutional Links")
+            self.expect("empty lines", [it for it in text.splitlines() if not it.strip()], [])
             found = [(it.tag, it.text) for it in root if it.tag not in ("openurl_option", "electronic_holdings")]
             self.expect(
                 f"links to {base}",

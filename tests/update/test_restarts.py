@@ -8,6 +8,7 @@ from fixtures import needs
 from fixtures.cases import Case
 from fixtures.library import Library
 from openlink_update.commands import update
+from openlink_update.outcome import DEVICE
 from openlink_update.outcome import Failure
 
 OLD_ONE = "it has the targets of another version"
@@ -57,6 +58,14 @@ class Restarts(Case):
                 printed,
                 f"openlink-update: the process at port {port} does not answer within 1 seconds: {OLD_ONE}",
             )
+
+
+class Failing(Case):
+    def test_error_of_the_system(self) -> None:
+        """One that nothing expects, such as a full disk, has the status of the device."""
+        fault = OSError(28, "No space left on device", "/var/lib/openlink/lock")
+        with mock.patch.object(update, "_run", side_effect=fault):
+            self.expect("the status", update.main([]), DEVICE)
 
 
 class AfterAKill(Case):
