@@ -257,7 +257,6 @@ class Costs(CountsCase):
             status, _, said = self.text("--cost", costs, *self.logs)
             self.expect(text[:20], (status, said), (3, f"openlink-counts: costs: {wanted}\n"))
 
-
     def test_years(self) -> None:
         """A link counts for the year in which it was followed."""
         log = self.write("years", "2025-12 target=a -\n2026-01 target=a -\n2026-01 target=a -\n")
