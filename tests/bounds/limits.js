@@ -9,6 +9,7 @@ import contact from './contact.js';
 import copies from './copies.js';
 import door from './find.js';
 import folding from './fold.js';
+import form from './form.js';
 import identifying from './identifiers.js';
 import index from './index.js';
 import languages from './languages.js';
@@ -387,6 +388,13 @@ function testMenu() {
         expect('menu', '32 links of ' + it[0] + ' bytes', text.includes('"/go?target=t31&amp;atitle='), it[1]);
     });
 }
+function testForm() {
+    [30, 31].forEach((length) => {
+        const text = form.formHtml(openurl.queryOf('genre=' + repeated('a', length)), languages.siteIn({}, ''));
+        const found = /name="genre" value="(.*)"/.exec(text);
+        expect('form', 'a genre of ' + length + ' characters', found && found[1], repeated('a', 30));
+    });
+}
 function testBrowser() {
     const r = { headersIn: { Host: 'e.org' }, variables: { scheme: 'https' } };
     [16, 17].forEach((length) => {
@@ -421,6 +429,7 @@ testLists();
 testTitlePages();
 testPages();
 testMenu();
+testForm();
 testBrowser();
 async function testAll() {
     await testCompletion();

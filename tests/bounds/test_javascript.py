@@ -57,6 +57,9 @@ class Scripts(Case):
     def test_find(self) -> None:
         self.check("find")
 
+    def test_form(self) -> None:
+        self.check("form")
+
     def test_identifiers(self) -> None:
         self.check("identifiers", 7)
 

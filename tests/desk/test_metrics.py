@@ -2,8 +2,11 @@
 metrics that exist."""
 from __future__ import annotations
 
+import os
 import re
+import time
 from pathlib import Path
+from unittest import mock
 
 from desk.made_desk import HOSTILE
 from desk.made_desk import record
@@ -47,6 +50,14 @@ class Metrics(Case):
             'openlink_month_errors{status="503"} 2',
         ):
             self.expect(line, lines.count(line), 1)
+
+    def test_time_of_a_run(self) -> None:
+        """The stamp of a record is of UTC, whatever the time zone of the machine."""
+        self.addCleanup(time.tzset)
+        with mock.patch.dict(os.environ, TZ="XXX-9"):
+            time.tzset()
+            text = metrics.text_of([record()], [], None, [], "2026-11")
+        self.expect("the time", "openlink_run_timestamp_seconds 1795838400" in text.splitlines())
 
     def test_nothing_known(self) -> None:
         self.expect(

@@ -313,6 +313,8 @@ const PASTED = [
     ['an ISBN with its word after a title', 'btitle=Harbours+(ISBN+978-1-234-56010-2)',
         'rft.isbn=9781234560102 rft.btitle=Harbours rft_val_fmt=B x.isbn=9781234560102', ''],
     ['an ISBN of ten digits', 'title=0198534531', 'rft.isbn=9780198534532 rft_val_fmt=B x.isbn=9780198534532', ''],
+    ['an ISBN of ten digits in parentheses', 'title=(0198534531)',
+        'rft.isbn=9780198534532 rft_val_fmt=B x.isbn=9780198534532', ''],
     ['both', 'rft_val_fmt=x&rft.atitle=Silt+https://doi.org/10.5555/abc,+PMID+7',
         'rft.atitle=Silt x.doi=10.5555/abc rft_id=info:doi/10.5555/abc rft_id=info:pmid/7 x.pmid=7', 'rft_val_fmt=x'],
     ['arXiv', 'rft_val_fmt=x&rft.atitle=arXiv:2101.00001v2', 'rft_id=info:doi/10.48550/arXiv.2101.00001'

@@ -100,6 +100,12 @@ class Browsers(SiteCase):
         )
         self.expect("its language", found["Language"], "de")
 
+    def test_request_without_a_host(self) -> None:
+        """As HTTP/1.0 allows: the name of the site is the one that nginx has for it."""
+        text = self.site.send(b"GET /opensearch.xml HTTP/1.0\r\n\r\n").decode()
+        template = re.findall(r'type="text/html" template="([^"]*)"', text)
+        self.expect("its address", template, ["http://links.library.example.org/find?title={searchTerms}"])
+
     def test_base_of_the_site(self) -> None:
         data = json.loads(self.site.read("openlink/targets.json"))
         data["scholar"]["base"] = "https://resolver.example.org/"

@@ -141,6 +141,8 @@ class Languages(SiteCase):
         of_words = [name for name, it in directions if it == "auto"]
         self.expect("fields of words", of_words, ["title", "atitle", "au"])
         self.expect("fields from left to right", len([name for name, it in directions if it == "ltr"]), 6)
+        names = re.findall("<bdi>AggregateNet</bdi>", self.reply_in("ar", "/journals/s/1").text)
+        self.expect("names of targets in a list from right to left", len(names) > 0)
         data = json.loads(self.reply_in("uk-UA", f"/find.json?{ARTICLE}").text)
         self.expect("JSON in Ukrainian", [it["name"] for it in data["groups"]][:1], ["Full text"])
 

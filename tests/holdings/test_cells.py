@@ -1,11 +1,16 @@
 """Cells of vendors that have one reading, and those that have two, which stay."""
 from __future__ import annotations
 
+from unittest import mock
+
 from fixtures.cases import Case
 from fixtures.spreadsheet_files import archive_of
 from openlink_update.outcome import Refused
+from openlink_update.tables import cells
+from openlink_update.tables import dropped_rows
 from openlink_update.tables import embargo_words
 from openlink_update.tables import preparation
+from openlink_update.tables.table import Table
 
 HEAD = "publication_title\tprint_identifier\tonline_identifier\tdate_first_issue_online\ttitle_url"
 EMBARGOES = {
@@ -179,3 +184,20 @@ class Zips(Case):
             except Refused as refusal:
                 got = refusal.reasons[0].replace("file 0", "file")
             self.expect(name, got, wanted)
+
+
+class Rows(Case):
+    def test_rows_with_one_hash(self) -> None:
+        """Of equal rows the first stays, and of others with its hash too."""
+        rows = [["a", "1"], ["b", "2"], ["b", "2"], ["a", "1"], ["c", "3"], ["c", "3"]]
+        with mock.patch.object(cells, "hash", lambda _: 1, create=True):
+            left, lines = cells._without_repetitions([], rows)
+        self.expect("rows", left, [["a", "1"], ["b", "2"], ["c", "3"]])
+        self.expect("what is said", lines, ["the same as an earlier row, left out: 3 rows"])
+
+    def test_any(self) -> None:
+        """The word for all requests counts with spaces and hyphens too, as in the program."""
+        rows = [["a", "ANY"], ["b", "a-n-y"], ["c", "an y"], ["d", "any1"]]
+        left, dropped = dropped_rows.separate(Table(["publication_title", "print_identifier"], rows))
+        self.expect("rows", [row[0] for row in left.rows], ["a", "b", "c"])
+        self.expect("dropped", [row[1] for row in dropped], ["d"])

@@ -136,6 +136,8 @@ WRONG_COSTS = [
     ("\udcff\t2026\t1\n", "not UTF-8"),
 ]
 _MAIN = "{http://schemas.openxmlformats.org/spreadsheetml/2006/main}"
+_OF_PACKAGES = "{http://schemas.openxmlformats.org/package/2006/content-types}"
+_KIND = "application/vnd.openxmlformats-officedocument.spreadsheetml"
 
 
 def sheets_of(data: bytes) -> dict[str, list[list[str | int | float | None]]]:
@@ -146,6 +148,10 @@ def sheets_of(data: bytes) -> dict[str, list[list[str | int | float | None]]]:
         texts = [archive.read(f"xl/worksheets/sheet{number}.xml") for number in range(1, len(names) + 1)]
         for part in archive.namelist():
             ElementTree.fromstring(archive.read(part))
+        types = ElementTree.fromstring(archive.read("[Content_Types].xml")).iter(f"{_OF_PACKAGES}Override")
+        found = {it.get("PartName"): it.get("ContentType") for it in types}
+    sheets = {f"/xl/worksheets/sheet{number}.xml": f"{_KIND}.worksheet+xml" for number in range(1, len(names) + 1)}
+    assert found == {"/xl/workbook.xml": f"{_KIND}.sheet.main+xml", **sheets}, found
     return {name: rows_of(text) for name, text in zip(names, texts)}
 
 
@@ -250,7 +256,6 @@ class Costs(CountsCase):
             costs = self.write("costs", text)
             status, _, said = self.text("--cost", costs, *self.logs)
             self.expect(text[:20], (status, said), (3, f"openlink-counts: costs: {wanted}\n"))
-
 
     def test_years(self) -> None:
         """A link counts for the year in which it was followed."""

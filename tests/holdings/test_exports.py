@@ -160,6 +160,14 @@ class Exports(Case):
             )
             self.expect("no links without names", os.listdir(version.path("scholar")), ["holdings-1.xml"])
 
+    def test_links_without_keywords(self) -> None:
+        """What the site does not say is left out, without an empty line."""
+        scholar = {name: value for name, value in SCHOLAR.items() if name != "keywords"}
+        with Version(sample(), {**TARGETS, "scholar": scholar}, "#") as version:
+            text = self.texts_of(version, "scholar", "links.xml")[0]
+        self.expect("keywords", ("<contact>" in text, "keywords" in text), (True, False))
+        self.expect("empty lines", [it for it in text.splitlines() if not it.strip()], [])
+
     def test_scholar_links(self) -> None:
         for tls, base, scholar in (
             ("#", "http://links.library.example.org", SCHOLAR),

@@ -1,4 +1,4 @@
-"""The list of targets: how many it may have."""
+"""The list of targets: how many it may have, and which file a path with * means."""
 from __future__ import annotations
 
 import tempfile
@@ -7,6 +7,7 @@ from pathlib import Path
 from fixtures.cases import Case
 from openlink_update.input_files import InputFolder
 from openlink_update.outcome import Failure
+from openlink_update.received import patterns
 from openlink_update.versions import target_list
 
 
@@ -30,3 +31,14 @@ class TargetList(Case):
         for count in (0, 257):
             refused = f"targets.tsv: {count} targets, and 1 to 256 are possible"
             self.expect(f"{count} targets", read(count), refused)
+
+
+class Newest(Case):
+    def test_names(self) -> None:
+        """By the date in its name, then by its name, whatever the folder."""
+        for paths in (
+            ("b/x1_2026-01-01.txt", "a/x2_2026-01-01.txt"),
+            ("b/x9_2025-12-31.txt", "a/x2_2026-01-01.txt"),
+            ("a/x2_2026-01-01.txt", "0/x2_2026-01-01.txt"),
+        ):
+            self.expect(str(paths), patterns.newest(paths), "a/x2_2026-01-01.txt")

@@ -1,6 +1,7 @@
 """Hostile tables: the index stays small, and takes no time or memory that grows faster than the tables."""
 from __future__ import annotations
 
+import array
 import os
 import subprocess
 import tempfile
@@ -104,6 +105,13 @@ class Limits(Case):
             [len(places[word[:3]][word]) for word in known[-1][1][-1].key.split(" ")],
             [2] * 6,
         )
+
+    def test_bytes_of_a_line(self) -> None:
+        """A line takes no more than was reckoned before its file was filled."""
+        for places in (range(100, 400), range(95, 105)):
+            line = word_sets._Line(b"word", array.array("I", places), False)
+            reckoned = word_sets._bytes_of(line, 1000)
+            self.expect(f"{len(places)} places", len(word_sets._data_of([line], 1000)) <= reckoned)
 
     def test_memory_of_random_words(self) -> None:
         """Titles of 82 words that no other title has take little more memory than their table, as honest ones do."""

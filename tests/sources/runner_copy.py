@@ -79,12 +79,13 @@ class RunnerCase(Case):
     def module(self, name: str, text: str) -> None:
         self.write(f"tests/sources/test_{name}.py", IMPORTS + text)
 
-    def start(self, *arguments: str) -> subprocess.Popen[str]:
-        """Starts the runner. What a shell starts in the background ignores an interrupt; the runner does not here."""
+    def start(self, *arguments: str, **more: str) -> subprocess.Popen[str]:
+        """Starts the runner, with more variables. What a shell starts in the background ignores an interrupt; the
+        runner does not here."""
         path = f"{self.top}/bin:{os.environ['PATH']}"
         how: dict[str, Any] = {
             "cwd": self.top,
-            "env": {**os.environ, "PATH": path, "OPENLINK_JOBS": "4"},
+            "env": {**os.environ, "PATH": path, "OPENLINK_JOBS": "4", **more},
             "stdout": subprocess.PIPE,
             "stderr": subprocess.STDOUT,
             "encoding": "utf-8",
@@ -92,8 +93,8 @@ class RunnerCase(Case):
         }
         return subprocess.Popen([sys.executable, "-B", "test", *arguments], **how)
 
-    def given(self, *arguments: str) -> tuple[int, list[str]]:
+    def given(self, *arguments: str, **more: str) -> tuple[int, list[str]]:
         """The status, and the lines without seconds."""
-        process = self.start(*arguments)
+        process = self.start(*arguments, **more)
         printed = process.communicate()[0]
         return process.returncode, re.sub(r" in \d+ s, \d+ of a processor:", ":", printed).splitlines()

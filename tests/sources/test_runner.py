@@ -82,6 +82,26 @@ class Reports(RunnerCase):
         self.expect("both", sorted(found), ["sleeps", "works"])
         self.expect("one that sleeps, and one that works", int(found["sleeps"]) < int(found["works"]))
 
+    def test_bytecode(self) -> None:
+        """Of what many tests load, in a folder of the run; none in the repository."""
+        text = """
+class A(Case):
+    def test_a(self):
+        with open("kept", "w") as file:
+            file.write(sys.pycache_prefix)
+        loaded = sys.modules[Case.__module__]
+        self.expect("loaded", loaded.__cached__.startswith(sys.pycache_prefix) and os.path.exists(loaded.__cached__))
+        mode = os.stat(sys.pycache_prefix).st_mode
+        self.expect("others read it", mode & 0o055, 0o055)
+"""
+        self.module("loads", text)
+        lines = self.given(PYTHONPYCACHEPREFIX="")[1]
+        self.expect(f"the end: {lines}", lines[-1], "1 passed, 0 failed")
+        with open(f"{self.top}/kept", encoding="utf-8") as file:
+            self.expect("after the run", os.path.exists(file.read()), False)
+        found = [place for place, folders, _ in os.walk(self.top) if "__pycache__" in folders]
+        self.expect("in the repository", found, [])
+
     def test_a_module_in_parts(self) -> None:
         """Each test runs in one of the processes."""
         self.module("sums", GOOD)

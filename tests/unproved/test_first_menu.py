@@ -1,4 +1,5 @@
-"""The first command of README.md prints what stands there, and the menu of each other request of examples/menu."""
+"""The first command of README.md prints what it shows. Of a program that ends otherwise, here a stand-in, its script says
+what the program said, and that it did not run to its end."""
 from __future__ import annotations
 
 import os
@@ -12,6 +13,14 @@ from fixtures.patience import patience
 from program.test_readme import TRY, read
 
 SECONDS = 300
+# What stands in for the toolchain: it says what `rt try` says around an error of the program.
+RT = """#!/bin/sh
+echo "$*" >"$SAID_TO_RT"
+echo 'warning: something else' >&2
+echo 'openlink: query: WrongVersion' >&2
+echo "run=$HOW status=3 runners=1 proved=no" >&2
+exit 3
+"""
 
 
 def run(*arguments: str, **environment: str) -> tuple[int, str, str]:
@@ -38,14 +47,26 @@ class FirstMenu(Case):
             self.expect("the stored menu", out, file.read())
         self.expect("it says that nothing is proved", said.endswith("this proves nothing\n") and said.count("\n") == 1)
 
-    @needs.toolchain()
     def test_an_error(self) -> None:
-        status, out, said = run("ctx_ver=other")
-        self.expect(
-            "a request of another version",
-            (status, out, said.splitlines()[1:]),
-            (3, "", ["openlink: query: WrongVersion"]),
-        )
+        with tempfile.TemporaryDirectory() as folder:
+            path, given = f"{folder}/rt", f"{folder}/arguments"
+            with open(path, "w", encoding="utf-8") as file:
+                file.write(RT)
+            os.chmod(path, 0o755)
+            how = {"PATH": f"{folder}:{os.environ['PATH']}", "SAID_TO_RT": given}
+            status, out, said = run("ctx_ver=other", HOW="ended", **how)
+            with open(given, encoding="utf-8") as file:
+                words = file.read().split()
+            self.expect(
+                "a request of another version",
+                (status, out, said.splitlines()[1:]),
+                (3, "", ["openlink: query: WrongVersion"]),
+            )
+            wanted = ["--", "resolve", "examples/menu/registry.tsv", "ctx_ver=other"]
+            self.expect("what runs", (words[0], words[-4:]), ("try", wanted))
+            status, out, said = run("ctx_ver=other", HOW="killed", **how)
+            self.expect("one that is killed", (status, out), (70, ""))
+            self.expect("why", said.splitlines()[-1], f"{TRY}: the program did not run to its end")
 
     def test_without_the_toolchain(self) -> None:
         with tempfile.TemporaryDirectory() as folder:

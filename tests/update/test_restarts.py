@@ -2,10 +2,14 @@
 from __future__ import annotations
 
 import os
+from unittest import mock
 
 from fixtures import needs
 from fixtures.cases import Case
 from fixtures.library import Library
+from openlink_update.commands import update
+from openlink_update.outcome import DEVICE
+from openlink_update.outcome import Failure
 
 OLD_ONE = "it has the targets of another version"
 
@@ -54,3 +58,24 @@ class Restarts(Case):
                 printed,
                 f"openlink-update: the process at port {port} does not answer within 1 seconds: {OLD_ONE}",
             )
+
+
+class Failing(Case):
+    def test_error_of_the_system(self) -> None:
+        """One that nothing expects, such as a full disk, has the status of the device."""
+        fault = OSError(28, "No space left on device", "/var/lib/openlink/lock")
+        with mock.patch.object(update, "_run", side_effect=fault):
+            self.expect("the status", update.main([]), DEVICE)
+
+
+class AfterAKill(Case):
+    def test_order(self) -> None:
+        """A run that was killed may have left a process that is being restarted. So the next one waits for all before
+        it goes back."""
+        run = mock.Mock()
+        run.library.is_unsettled.return_value = True
+        run.go_back.side_effect = Failure("here the test ends it")
+        with self.assertRaises(Failure):
+            update._work(run, mock.Mock(dry_run=False))
+        calls = [name for name, _, _ in run.mock_calls]
+        self.expect("what it does", calls, ["library.is_unsettled", "processes.wait_for_all", "go_back"])

@@ -20,7 +20,7 @@ MODULE = "tools/run_tests/module.py"
 _OF_CRATES, _OF_A_CRATE = "unproved.test_crates", "Crates.test_"
 # A package whose modules import one of Debian's, which another Python than Debian's may lack.
 WITH_MODULE = {"desk": "jinja2", "properties": "hypothesis"}
-_DEBIANS = "/usr/bin/python3"
+DEBIANS = "/usr/bin/python3"
 
 
 @dataclasses.dataclass
@@ -55,10 +55,10 @@ class Test:
 def python_of(package: str) -> str:
     """The Python that runs a package of tests: this one, unless only Debian's has the module that it imports."""
     module = WITH_MODULE.get(package)
-    if module is None or importlib.util.find_spec(module) or not os.path.exists(_DEBIANS):
+    if module is None or importlib.util.find_spec(module) or not os.path.exists(DEBIANS):
         return sys.executable
-    words = [_DEBIANS, "-c", f"import importlib.util, sys; sys.exit(importlib.util.find_spec({module!r}) is None)"]
-    return sys.executable if subprocess.run(words).returncode else _DEBIANS
+    words = [DEBIANS, "-c", f"import importlib.util, sys; sys.exit(importlib.util.find_spec({module!r}) is None)"]
+    return sys.executable if subprocess.run(words).returncode else DEBIANS
 
 
 def everything() -> list[Test]:
