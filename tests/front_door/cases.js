@@ -422,6 +422,12 @@ const REFERENCES = [
     ['a German source', DC + 'Meer+12+(2003),+H.+3,+S.+101-118', 'rft.jtitle=Meer rft.volume=12 rft.issue=3'
         + ' rft.pages=101-118 rft.date=2003 x.from=20030101 x.to=20031231 rft.spage=101'],
     ['a source with an ISSN', DC + 'Tides,+ISSN+2901-0012', 'rft.issn=2901-0012 rft.jtitle=Tides x.issn=2901-0012'],
+    ['a source that is a number of arXiv', DC + 'arXiv:2101.00001', 'rft_id=info:doi/10.48550/arXiv.2101.00001'
+        + ' x.doi=10.48550/arXiv.2101.00001'],
+    ['a source that is a number of arXiv, read again', DC + 'arXiv:2101.00001'
+        + '&rft_id=info:doi/10.48550/arXiv.2101.00001', 'x.doi=10.48550/arXiv.2101.00001'],
+    ['a source with a DOI', DC + 'Tides+12(3):45-67,+doi:10.5555/abc', 'rft.jtitle=Tides rft.volume=12 rft.issue=3'
+        + ' rft.pages=45-67 x.doi=10.5555/abc rft_id=info:doi/10.5555/abc rft.spage=45'],
     ['a title with signs', 'title=Tides+2003;12(3):101-118', 'rft.volume=12 rft.issue=3 rft.pages=101-118 rft.date=2003'
         + ' rft.jtitle=Tides rft_val_fmt=J x.from=20030101 x.to=20031231 rft.spage=101'],
     ['a title with words', 'rft_val_fmt=x&jtitle=Tides,+vol.+12,+no.+3,+2003,+pp.+101-18', 'rft.jtitle=Tides'
