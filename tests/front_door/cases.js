@@ -87,7 +87,8 @@ const IDENTIFIERS = [
     ['a number that the request has', 'rft_val_fmt=x&rft.issn=2901-0012&rft_id=urn:ISSN:2908-0142', 'x.issn=2901-0012'],
     ['no colon', 'rft_val_fmt=x&id=DOI+10.5555/a&pmid=PMID+7',
         'x.doi=10.5555/a rft_id=info:doi/10.5555/a rft_id=info:pmid/7 x.pmid=7'],
-    ['others', 'rft_val_fmt=x&id=oai:arXiv.org:1&rft_id=https://e.org/10.5555/a', '']
+    ['others', 'rft_val_fmt=x&id=oai:arXiv.org:1&rft_id=https://e.org/10.5555/a', ''],
+    ['a letter before it', 'rft_val_fmt=x&id=x10.5555/abc&id=(x10.5555/abc)&rft_id=y10.5555/abc', '']
 ];
 
 const NUMBERS = [
