@@ -34,6 +34,7 @@ class Row:
 class File:
     data: bytes
     rows: list[Row]
+    written: list[Row]  # in the file, the first perhaps once more at its end
 
 
 def _numbers() -> Any:
@@ -93,9 +94,10 @@ def files() -> Any:
         for number, (cells, numbers) in enumerate(made):
             mark = f"row{number}."
             rows.append(Row(mark, (f"{cells[0]}x{mark}", *cells[1:]), numbers))
-        written = [row.cells for row in [*rows, *rows[:1] * repeated]]
-        text = "a line above\n" * above + _written([spelling.format(it) for it in COLUMNS], written, separator, end)
-        return File(text.encode(encoding, "ignore"), rows)
+        written = [*rows, *rows[:1] * repeated]
+        lines = [row.cells for row in written]
+        text = "a line above\n" * above + _written([spelling.format(it) for it in COLUMNS], lines, separator, end)
+        return File(text.encode(encoding, "ignore"), rows, written)
 
     return st.builds(
         file,
