@@ -173,13 +173,13 @@ class Preparation(Case):
     def test_last_rows(self) -> None:
         """Rows at the end without a number and a third cell are left out, though one is the only row of the file; with
         a third cell they are dropped and listed."""
-        header = "publication_title\tprint_identifier\ttitle_url\tnotes\n"
+        header = "publication_title\tprint_identifier\tdate_first_issue_online\ttitle_url\tnotes\n"
         left_out = 'below the table, left out: 1 row, the first "Tides https://x.example.org/"'
         for row, dropped, said in (
-            ("Tides\t\thttps://x.example.org/\t\n", [], left_out),
+            ("Tides\t\t\thttps://x.example.org/\t\n", [], left_out),
             (
-                "Tides\t\thttps://x.example.org/\tn\n",
-                [["no identifier", "Tides", "", "https://x.example.org/", "n"]],
+                "Tides\t\t\thttps://x.example.org/\tn\n",
+                [["no identifier", "Tides", "", "", "https://x.example.org/", "n"]],
                 "dropped: 1 row",
             ),
         ):
