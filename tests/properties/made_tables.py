@@ -74,7 +74,7 @@ def _rows() -> Any:
 
 
 def _written(header: list[str], rows: list[tuple[str, ...]], separator: str, end: str) -> str:
-    """The text of a table; cells with tabs have none of them."""
+    """The text of a table; cells with tabs have none of them. A CR is in quotes if lines end with one, or none."""
     if separator == "\t":
         lines = [
             "\t".join(" ".join(cell.split("\t")).replace("\n", " ").replace("\r", " ") for cell in row)
@@ -82,7 +82,8 @@ def _written(header: list[str], rows: list[tuple[str, ...]], separator: str, end
         ]
         return end.join([*lines, ""])
     out = io.StringIO()
-    csv.writer(out, delimiter=separator, lineterminator=end).writerows([header, *rows])
+    cells = [[cell if "\r" in end else cell.replace("\r", " ") for cell in row] for row in [tuple(header), *rows]]
+    csv.writer(out, delimiter=separator, lineterminator=end).writerows(cells)
     return out.getvalue()
 
 
