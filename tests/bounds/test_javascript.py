@@ -91,7 +91,7 @@ class Scripts(Case):
         self.check("pages", 4)
 
     def test_query(self) -> None:
-        self.check("query", 8)
+        self.check("query", 10)
 
     def test_references(self) -> None:
         self.check("references", 6)
