@@ -219,6 +219,9 @@ class Planting(Repository):
         self.write("tests/update/test_one.py", OTHER)
         said = self.given("tools/plant", f"{path}:6")[1]
         self.expect("a test that was not measured", said.count(": not seen by 1 tests\n"), 5)
+        for number, count in ((2, 5), (6, 0)):
+            listed = self.given("tools/plant", "--list", "--measured", f"{path}:{number}")[1]
+            self.expect(f"measured bugs of line {number}", listed.count(": it can be planted\n"), count)
 
     def test_the_map_of_a_script(self) -> None:
         """Its statements are noted. What is outside of its functions runs in each test that runs anything of it."""

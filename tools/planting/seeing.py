@@ -30,10 +30,11 @@ class Seen:
 class Tests:
     """The tests, and what is known of them."""
 
-    def __init__(self, known: line_map.LineMap, limit: float) -> None:
+    def __init__(self, known: line_map.LineMap, limit: float, has_others: bool = True) -> None:
+        """Those that were measured, and others if `has_others`."""
         self._known, self.limit = known, limit
         rows = [line.split("\t") for line in _TABLE.read_text(encoding="utf-8").splitlines()[1:]]
-        self._table = [(row[0], row[1].split()) for row in rows]
+        self._table = [(row[0], row[1].split()) for row in rows if has_others]
         self._lock = threading.Lock()
         self._saw: collections.Counter[tuple[str, str]] = collections.Counter()
         self._good: set[str] = set()
