@@ -88,6 +88,9 @@ const IDENTIFIERS = [
     ['no colon', 'rft_val_fmt=x&id=DOI+10.5555/a&pmid=PMID+7',
         'x.doi=10.5555/a rft_id=info:doi/10.5555/a rft_id=info:pmid/7 x.pmid=7'],
     ['others', 'rft_val_fmt=x&id=oai:arXiv.org:1&rft_id=https://e.org/10.5555/a', ''],
+    ['no number', 'rft_val_fmt=x&id=K%C3%BCste', ''],
+    ['an address after a word', 'rft_val_fmt=x&id=pmid:https://pubmed.ncbi.nlm.nih.gov/7/',
+        'x.pmid=7 rft_id=info:pmid/7'],
     ['a letter before it', 'rft_val_fmt=x&id=x10.5555/abc&id=(x10.5555/abc)&rft_id=y10.5555/abc', '']
 ];
 
@@ -318,6 +321,8 @@ const PASTED = [
         'rft.atitle=Silt x.doi=10.5555/abc rft_id=info:doi/10.5555/abc rft_id=info:pmid/7 x.pmid=7', 'rft_val_fmt=x'],
     ['arXiv', 'rft_val_fmt=x&rft.atitle=arXiv:2101.00001v2', 'rft_id=info:doi/10.48550/arXiv.2101.00001'
         + ' x.doi=10.48550/arXiv.2101.00001', 'rft_val_fmt=x'],
+    ['a DOI before a title', 'rft_val_fmt=x&rft.atitle=doi:10.5555/abc,+Silt',
+        'rft.atitle=Silt x.doi=10.5555/abc rft_id=info:doi/10.5555/abc', 'rft_val_fmt=x'],
     ['arXiv with a class after a title', 'rft_val_fmt=x&rft.atitle=Silt+arXiv:2101.00001+[cs.LG]', 'rft.atitle=Silt'
         + ' rft_id=info:doi/10.48550/arXiv.2101.00001 x.doi=10.48550/arXiv.2101.00001', 'rft_val_fmt=x'],
     ['a title that is a year', 'title=1984', 'rft.jtitle=1984 rft_val_fmt=J'],
