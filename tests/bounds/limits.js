@@ -308,6 +308,8 @@ function testLatex() {
     expect('latex', '2001 characters', latex.plain('{' + repeated('a', 1999) + '}').length, 2001);
 }
 function testLog() {
+    expect('log', 'a source without a host', log.sourceOf(new query.Query('rfr_id=info:sid/')), '');
+    expect('log', 'no source', log.sourceOf(new query.Query('a=b')), '');
     [60, 61].forEach((length) => {
         const q = new query.Query('rfr_id=info:sid/' + repeated('a', length));
         expect('log', 'a source of ' + length + ' characters', log.sourceOf(q), 'info:sid/' + repeated('a', 60));

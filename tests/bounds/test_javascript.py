@@ -73,7 +73,7 @@ class Scripts(Case):
         self.check("menu", 6)
 
     def test_log(self) -> None:
-        self.check("log")
+        self.check("log", 4)
 
     def test_lookup(self) -> None:
         self.check("lookup")
