@@ -175,7 +175,7 @@ class Preparation(Case):
         a third cell they are dropped and listed."""
         header = "publication_title\tprint_identifier\tdate_first_issue_online\ttitle_url\tnotes\n"
         left_out = 'below the table, left out: 1 row, the first "Tides https://x.example.org/"'
-        for row, dropped, said in (
+        for line, dropped, said in (
             ("Tides\t\t\thttps://x.example.org/\t\n", [], left_out),
             (
                 "Tides\t\t\thttps://x.example.org/\tn\n",
@@ -183,8 +183,8 @@ class Preparation(Case):
                 "dropped: 1 row",
             ),
         ):
-            prepared = preparation.prepare([("file", (header + row).encode())])
-            self.expect(f"{row!r}", (prepared.table.rows, prepared.dropped, prepared.lines), ([], dropped, [said]))
+            prepared = preparation.prepare([("file", (header + line).encode())])
+            self.expect(f"{line!r}", (prepared.table.rows, prepared.dropped, prepared.lines), ([], dropped, [said]))
 
     def test_refused_files(self) -> None:
         for name, (came, reason) in REFUSED.items():
