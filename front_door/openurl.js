@@ -107,13 +107,20 @@ const MOST_SOURCES = 6;
 function isName(source) {
     return is(/[a-z\u00c0-\uffff]{2}/i, source.replace(/issn/i, '')) && !is(/^https?:/i, source);
 }
+// An identifier in a source is no part of its name. An ISBN stays, since it is that of a book around the cited one.
+function withoutIdentifiers(q, source) {
+    const it = identifying.pastedIn(source);
+    if (it === null || it.found.some((one) => one[0] === 'rft.isbn')) return source;
+    q.pasted = q.pasted.concat(it.found.filter((one) => isNew(q, one)));
+    return it.rest;
+}
 function dublinCore(q) {
     if (!isCore(q)) return;
     q.copy('rft.creator', 'rft.au');
     const type = q.first('rft.type').trim().toLowerCase();
     if (own(KINDS, type)) q.copy('rft.type', 'rft.genre');
     const sources = q.all('rft.source').slice(0, MOST_SOURCES)
-        .map((source) => texts.clean(numbers.plain(source, MOST_SOURCE)));
+        .map((source) => withoutIdentifiers(q, texts.clean(numbers.plain(source, MOST_SOURCE))));
     const issn = numbers.numbersIn(sources, numbers.ISSN, 1)[0];
     if (issn && !q.has('rft.issn')) q.add('rft.issn', issn);
     const known = sources.map((source) => references.partsOf(source, false));

@@ -269,6 +269,11 @@ function testQuery() {
     const sent = (length) => openurl.requestText(new query.Query('a=' + repeated('x', length - 6) + '&b=1'));
     expect('query', '12000 bytes', sent(12000).length, 12000);
     expect('query', '12001 bytes', sent(12001).length, 11997);
+    [[11979, 12000], [11980, 18]].forEach((it) => {
+        const q = new query.Query('issn=2901-0012&a=' + repeated('x', it[0]));
+        q.copy('issn', 'rft.issn');
+        expect('query', it[0] + ' bytes after a copied pair', openurl.requestText(q).length, it[1]);
+    });
     [20, 21].forEach((most) => {
         const q = new query.Query(repeated('rft.au=Li&', most));
         expect('query', most + ' values of a key', q.all('rft.au').length, 20);
@@ -304,6 +309,8 @@ function testLatex() {
     expect('latex', '2001 characters', latex.plain('{' + repeated('a', 1999) + '}').length, 2001);
 }
 function testLog() {
+    expect('log', 'a source without a host', log.sourceOf(new query.Query('rfr_id=info:sid/')), '');
+    expect('log', 'no source', log.sourceOf(new query.Query('a=b')), '');
     [60, 61].forEach((length) => {
         const q = new query.Query('rfr_id=info:sid/' + repeated('a', length));
         expect('log', 'a source of ' + length + ' characters', log.sourceOf(q), 'info:sid/' + repeated('a', 60));

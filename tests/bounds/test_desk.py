@@ -87,6 +87,9 @@ class Weeks(Case):
         def by_month(count: int) -> year._Year:
             return of(*((month(it), "requests", "", 1) for it in range(count)))
 
+        mixed = of(*(("2026-" + it, "requests", "", 1) for it in ("03", "01", "12", "02")))
+        order = ["2026-01", "2026-02", "2026-03", "2026-12"]
+        self.expect("months in any order", [it.name for it in mixed.last.months], order)
         self.expect(
             "months", [(len(by_month(it).last.months), len(by_month(it).years)) for it in (12, 13)], [(12, 0), (12, 1)]
         )

@@ -59,6 +59,19 @@ class Files(Case):
 
 
 class OfTitles(Case):
+    def test_years(self) -> None:
+        """The first and the last year of all rows, if each has one."""
+        for entries, wanted in (
+            ("t 0 2003-05-01 2010-12", "2003 2010"),
+            ("t 0 2003-05 2010;u 1 1999 2004-02-28", "1999 2010"),
+            ("t 0 2003 2010;u 1 - 2004", "- 2010"),
+            ("t 0 2003;u 1 1999 2004", "1999 -"),
+            ("t 0", "- -"),
+        ):
+            title = Title("Tides")
+            title.add("29010012", 1, True, entries)
+            self.expect(entries, title.years(), wanted)
+
     def test_characters(self) -> None:
         """The first 500 of a title count, in its key, in that without its subtitle, and with umlauts."""
         text = "a" * 499

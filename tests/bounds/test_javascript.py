@@ -76,7 +76,7 @@ class Scripts(Case):
         self.check("menu", 6)
 
     def test_log(self) -> None:
-        self.check("log")
+        self.check("log", 4)
 
     def test_lookup(self) -> None:
         self.check("lookup")
@@ -94,7 +94,7 @@ class Scripts(Case):
         self.check("pages", 4)
 
     def test_query(self) -> None:
-        self.check("query", 8)
+        self.check("query", 10)
 
     def test_references(self) -> None:
         self.check("references", 6)

@@ -82,6 +82,8 @@ class Rows(Case):
             text = f'<row/><row><c r="{place}"><v>1</v></c></row>'
             part = f'<worksheet xmlns="{MAIN}"><sheetData>{text}</sheetData></worksheet>'.encode()
             self.expect(place, reason(xml_parts.read, [part], workbooks._Rows(Sheet(), [], [])), wanted)
+        for count, wanted in ((500, ""), (501, "row 7 has 501 cells, and a table may have 500 columns")):
+            self.expect(f"{count} cells", reason(Sheet().add, ["x"] * count, 7), wanted)
 
     def test_rows(self) -> None:
         says = "it has 2,000,001 rows, and a table may have 2,000,000: is it a table of holdings?"

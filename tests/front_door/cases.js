@@ -87,7 +87,11 @@ const IDENTIFIERS = [
     ['a number that the request has', 'rft_val_fmt=x&rft.issn=2901-0012&rft_id=urn:ISSN:2908-0142', 'x.issn=2901-0012'],
     ['no colon', 'rft_val_fmt=x&id=DOI+10.5555/a&pmid=PMID+7',
         'x.doi=10.5555/a rft_id=info:doi/10.5555/a rft_id=info:pmid/7 x.pmid=7'],
-    ['others', 'rft_val_fmt=x&id=oai:arXiv.org:1&rft_id=https://e.org/10.5555/a', '']
+    ['others', 'rft_val_fmt=x&id=oai:arXiv.org:1&rft_id=https://e.org/10.5555/a', ''],
+    ['no number', 'rft_val_fmt=x&id=K%C3%BCste', ''],
+    ['an address after a word', 'rft_val_fmt=x&id=pmid:https://pubmed.ncbi.nlm.nih.gov/7/',
+        'x.pmid=7 rft_id=info:pmid/7'],
+    ['a letter before it', 'rft_val_fmt=x&id=x10.5555/abc&id=(x10.5555/abc)&rft_id=y10.5555/abc', '']
 ];
 
 const NUMBERS = [
@@ -319,6 +323,10 @@ const PASTED = [
         'rft.atitle=Silt x.doi=10.5555/abc rft_id=info:doi/10.5555/abc rft_id=info:pmid/7 x.pmid=7', 'rft_val_fmt=x'],
     ['arXiv', 'rft_val_fmt=x&rft.atitle=arXiv:2101.00001v2', 'rft_id=info:doi/10.48550/arXiv.2101.00001'
         + ' x.doi=10.48550/arXiv.2101.00001', 'rft_val_fmt=x'],
+    ['a DOI before a title', 'rft_val_fmt=x&rft.atitle=doi:10.5555/abc,+Silt',
+        'rft.atitle=Silt x.doi=10.5555/abc rft_id=info:doi/10.5555/abc', 'rft_val_fmt=x'],
+    ['arXiv with a class after a title', 'rft_val_fmt=x&rft.atitle=Silt+arXiv:2101.00001+[cs.LG]', 'rft.atitle=Silt'
+        + ' rft_id=info:doi/10.48550/arXiv.2101.00001 x.doi=10.48550/arXiv.2101.00001', 'rft_val_fmt=x'],
     ['a title that is a year', 'title=1984', 'rft.jtitle=1984 rft_val_fmt=J'],
     ['a title that is a number', 'title=12345678', 'rft.jtitle=12345678 rft_val_fmt=J'],
     ['ten digits that are no ISBN', 'title=1234567890', 'rft.jtitle=1234567890 rft_val_fmt=J'],
@@ -424,6 +432,12 @@ const REFERENCES = [
     ['a German source', DC + 'Meer+12+(2003),+H.+3,+S.+101-118', 'rft.jtitle=Meer rft.volume=12 rft.issue=3'
         + ' rft.pages=101-118 rft.date=2003 x.from=20030101 x.to=20031231 rft.spage=101'],
     ['a source with an ISSN', DC + 'Tides,+ISSN+2901-0012', 'rft.issn=2901-0012 rft.jtitle=Tides x.issn=2901-0012'],
+    ['a source that is a number of arXiv', DC + 'arXiv:2101.00001', 'rft_id=info:doi/10.48550/arXiv.2101.00001'
+        + ' x.doi=10.48550/arXiv.2101.00001'],
+    ['a source that is a number of arXiv, read again', DC + 'arXiv:2101.00001'
+        + '&rft_id=info:doi/10.48550/arXiv.2101.00001', 'x.doi=10.48550/arXiv.2101.00001'],
+    ['a source with a DOI', DC + 'Tides+12(3):45-67,+doi:10.5555/abc', 'rft.jtitle=Tides rft.volume=12 rft.issue=3'
+        + ' rft.pages=45-67 x.doi=10.5555/abc rft_id=info:doi/10.5555/abc rft.spage=45'],
     ['a title with signs', 'title=Tides+2003;12(3):101-118', 'rft.volume=12 rft.issue=3 rft.pages=101-118 rft.date=2003'
         + ' rft.jtitle=Tides rft_val_fmt=J x.from=20030101 x.to=20031231 rft.spage=101'],
     ['a title with words', 'rft_val_fmt=x&jtitle=Tides,+vol.+12,+no.+3,+2003,+pp.+101-18', 'rft.jtitle=Tides'

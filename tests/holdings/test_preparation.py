@@ -170,6 +170,22 @@ class Preparation(Case):
             ["dates in the standard's form: 2 cells", "dates cut to their year: 1 cell"],
         )
 
+    def test_last_rows(self) -> None:
+        """Rows at the end without a number and a third cell are left out, though one is the only row of the file; with
+        a third cell they are dropped and listed."""
+        header = "publication_title\tprint_identifier\tdate_first_issue_online\ttitle_url\tnotes\n"
+        left_out = 'below the table, left out: 1 row, the first "Tides https://x.example.org/"'
+        for line, dropped, said in (
+            ("Tides\t\t\thttps://x.example.org/\t\n", [], left_out),
+            (
+                "Tides\t\t\thttps://x.example.org/\tn\n",
+                [["no identifier", "Tides", "", "", "https://x.example.org/", "n"]],
+                "dropped: 1 row",
+            ),
+        ):
+            prepared = preparation.prepare([("file", (header + line).encode())])
+            self.expect(f"{line!r}", (prepared.table.rows, prepared.dropped, prepared.lines), ([], dropped, [said]))
+
     def test_refused_files(self) -> None:
         for name, (came, reason) in REFUSED.items():
             self.expect(name, prepare(came), [f"file 1: {reason}"])

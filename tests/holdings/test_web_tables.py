@@ -64,6 +64,8 @@ class Tables(Case):
             ("entities", "<td>Tides &amp; Piers&nbsp;&#8211; &lt;x&gt;", "Tides & Piers – <x>"),
             ("a character with many digits", f"<td>a&#{'9' * 5000};", f"a&#{'9' * 5000};"),
             ("a comment", "<td>Ti<!-- <td>x --->des", "Tides"),
+            ("a condition of a browser", "<td>Ti<![if !vml]>des<![endif]>", "Tides"),
+            ("an instruction", "<td>Ti<?xml x?>des", "Tides"),
             ("a script", "<td>Ti<script>if (a < b) { '</td>' }</script>des", "Tides"),
             ("a sign in quotes", "<td title='a > b'>Tides", "Tides"),
             ("a lone sign", "<td>1 < 2", "1 < 2"),

@@ -34,6 +34,7 @@ class Row:
 class File:
     data: bytes
     rows: list[Row]
+    written: list[Row]  # in the file, the first perhaps once more at its end
 
 
 def _numbers() -> Any:
@@ -73,7 +74,7 @@ def _rows() -> Any:
 
 
 def _written(header: list[str], rows: list[tuple[str, ...]], separator: str, end: str) -> str:
-    """The text of a table; cells with tabs have none of them."""
+    """The text of a table; cells with tabs have none of them. A CR is in quotes if lines end with one, or none."""
     if separator == "\t":
         lines = [
             "\t".join(" ".join(cell.split("\t")).replace("\n", " ").replace("\r", " ") for cell in row)
@@ -81,7 +82,8 @@ def _written(header: list[str], rows: list[tuple[str, ...]], separator: str, end
         ]
         return end.join([*lines, ""])
     out = io.StringIO()
-    csv.writer(out, delimiter=separator, lineterminator=end).writerows([header, *rows])
+    cells = [[cell if "\r" in end else cell.replace("\r", " ") for cell in row] for row in [tuple(header), *rows]]
+    csv.writer(out, delimiter=separator, lineterminator=end).writerows(cells)
     return out.getvalue()
 
 
@@ -93,9 +95,10 @@ def files() -> Any:
         for number, (cells, numbers) in enumerate(made):
             mark = f"row{number}."
             rows.append(Row(mark, (f"{cells[0]}x{mark}", *cells[1:]), numbers))
-        written = [row.cells for row in [*rows, *rows[:1] * repeated]]
-        text = "a line above\n" * above + _written([spelling.format(it) for it in COLUMNS], written, separator, end)
-        return File(text.encode(encoding, "ignore"), rows)
+        written = [*rows, *rows[:1] * repeated]
+        lines = [row.cells for row in written]
+        text = "a line above\n" * above + _written([spelling.format(it) for it in COLUMNS], lines, separator, end)
+        return File(text.encode(encoding, "ignore"), rows, written)
 
     return st.builds(
         file,

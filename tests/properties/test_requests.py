@@ -24,7 +24,7 @@ COLUMNS = """publication_title print_identifier online_identifier date_first_iss
 ADDED = {"x.issn", "x.eissn", "x.isbn", "x.from", "x.to", "x.doi", "x.pmid", "x.pmc", "x.oclc"}
 ROWS = {"rft.issn", "rft.eissn", "rft.isbn"}  # the keys that find rows, of which ANY takes the place
 NUMBERS = {"rft.issn", "rft.eissn", "rft.isbn", "issn", "eissn", "isbn"}
-MOST_BYTES, USUAL = 12_000, 3_000
+MOST_BYTES, MOST_PAIRS, USUAL = 12_000, 300, 3_000
 VALUES = r"""2901-0012 29010012 2901-001X 0000-0000 9781234560102 0306406152 ANY a-n-y 12 53(2) Vol.+53 136+Suppl+1 Pt+8
     101-118 2344-55 e123 S12-20 xii-xx 12,+13 p.+101 N.PAG ARTN+e0123456 2901-0012 2013 2013-08 2013/8/1 25/12/2013
     1/2/2013 Aug+2013 Winter+2012/2013 2012;12(3):45-67 12(3),+45-67 Storm+surges Tides+%26+Storms Tides+&+Storms
@@ -107,7 +107,11 @@ class Requests(PropertyCase):
 
     def test_twice_is_once(self) -> None:
         """Of a request of that many pairs that some are left out, the second reading leaves out others."""
-        usual = [(args, *it[:2]) for args, it in zip(self.requests, self.read) if len(args) < USUAL]
+        usual = [
+            (args, *it[:2])
+            for args, it in zip(self.requests, self.read)
+            if len(args) < USUAL and it[0].count("&") < MOST_PAIRS
+        ]
         faults = [it for it in usual if sorted(it[1].split("&")) != sorted(it[2].split("&"))]
         self.expect_none("read twice", faults)
         self.expect(f"{len(usual)} are not long", len(usual) > len(self.requests) // 2)

@@ -1,6 +1,7 @@
 """The preparation of tables: twice is once, and nothing of a file is lost."""
 from __future__ import annotations
 
+import re
 from typing import Any
 
 from fixtures import needs
@@ -13,6 +14,7 @@ from properties import made_tables
 from properties.property_case import PropertyCase
 from properties.property_case import strategies as st
 
+_BELOW = re.compile(r"^below the table, left out: (\d+) rows?,")
 IDENTIFIERS = ("print_identifier", "online_identifier")
 
 
@@ -41,15 +43,20 @@ class Tables(PropertyCase):
         self.hold(made_tables.files(), holds)
 
     def test_each_row_is_served_or_listed(self) -> None:
-        """A row that is the same as an earlier one is in the table once."""
+        """A row that is the same as an earlier one is in the table once. The last rows, if they have neither a number
+        nor a third cell, count as what is written below a table, and the number of them is said."""
 
         def holds(file: Any) -> None:
             it = prepared(file.data)
             assert it.count == len(it.table.rows) + len(it.dropped), (it.count, it.table.rows, it.dropped)
             lines = ["\t".join(row) for row in [*it.table.rows, *it.dropped]]
+            end = len(file.written) - sum(int(number) for line in it.lines for number in _BELOW.findall(line))
+            for row in file.written[end:]:
+                assert not row.numbers and sum(bool(cell.strip()) for cell in row.cells) <= 2, (row, it.lines)
+            kept = {row.mark for row in file.written[:end]}
             for row in file.rows:
-                assert sum(row.mark in line for line in lines) == 1, (row, lines)
-            assert len(lines) == len(file.rows), lines
+                assert sum(row.mark in line for line in lines) == (row.mark in kept), (row, lines, it.lines)
+            assert len(lines) == len(kept), (lines, it.lines)
 
         self.hold(made_tables.files(), holds)
 

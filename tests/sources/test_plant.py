@@ -219,6 +219,25 @@ class Planting(Repository):
         self.write("tests/update/test_one.py", OTHER)
         said = self.given("tools/plant", f"{path}:6")[1]
         self.expect("a test that was not measured", said.count(": not seen by 1 tests\n"), 5)
+        for number, count in ((2, 5), (6, 0)):
+            listed = self.given("tools/plant", "--list", "--measured", f"{path}:{number}")[1]
+            self.expect(f"measured bugs of line {number}", listed.count(": it can be planted\n"), count)
+
+    def test_the_map_of_a_script(self) -> None:
+        """Its statements are noted. What is outside of its functions runs in each test that runs anything of it."""
+        path = "front_door/e.js"
+        self.write(path, SCRIPT)
+        ran = {"text": "before", "ran": ["5#4"], "missing": ["3#0", "3#1", "4#2", "4#3"]}
+        found = {
+            "seconds": {"update.test_numbers": 1},
+            "runs": {"update.test_numbers": {path: ran}},
+            "texts": {"before": SCRIPT.splitlines()},
+        }
+        self.write("tools/out/lines.json", json.dumps(found))
+        for number, count in ((1, 1), (3, 0), (5, 1)):
+            said = self.given("tools/plant", f"{path}:{number}")[1]
+            found_tests = {*re.findall(r": not seen by (\d+) tests$", said, re.M)}
+            self.expect(f"line {number}: {said}", found_tests, {str(count)})
 
     def test_a_failing_test(self) -> None:
         """One that fails without a bug would see each."""

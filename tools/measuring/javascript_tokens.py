@@ -140,3 +140,10 @@ def guarded(found: list[Token]) -> list[tuple[int, int]]:
                 last = pairs[last] + 1 if found[last].text in _OPEN and found[last].kind == "sign" else last + 1
             result.append((at + 1, last))
     return result
+
+
+def is_in_block(text: str, offset: int) -> bool:
+    """Whether a place of a text is in a block of statements, and not what a module runs when it is loaded."""
+    found = tokens(text)
+    pairs = partners(found)
+    return any(found[at].start < offset < found[pairs[at]].start for at in blocks(found, pairs))

@@ -70,8 +70,15 @@ class LineMap:
         """The tests that run a line of a file, which now has this text. The quickest of those that run most of the file
         are first."""
         now = tuple(text)
-        those = [it for it, found in self.runs.items() if path in found and self._runs_line(found[path], number, now)]
+        those = [it for it in self._users(path) if self._runs_line(self.runs[it][path], number, now)]
         return sorted(those, key=lambda test: self._cost(test, path))
+
+    def tests_of_file(self, path: str) -> list[str]:
+        """The tests that run anything of a file, in the same order."""
+        return sorted(self._users(path), key=lambda test: self._cost(test, path))
+
+    def _users(self, path: str) -> list[str]:
+        return [it for it, found in self.runs.items() if path in found]
 
 
 @functools.lru_cache(maxsize=64)

@@ -8,6 +8,7 @@ import threading
 from pathlib import Path
 
 from measuring import copies
+from measuring import javascript_tokens
 from measuring import line_map
 from measuring import processes
 from planting.bug import Bug
@@ -29,10 +30,11 @@ class Seen:
 class Tests:
     """The tests, and what is known of them."""
 
-    def __init__(self, known: line_map.LineMap, limit: float) -> None:
+    def __init__(self, known: line_map.LineMap, limit: float, has_others: bool = True) -> None:
+        """Those that were measured, and others if `has_others`."""
         self._known, self.limit = known, limit
         rows = [line.split("\t") for line in _TABLE.read_text(encoding="utf-8").splitlines()[1:]]
-        self._table = [(row[0], row[1].split()) for row in rows]
+        self._table = [(row[0], row[1].split()) for row in rows if has_others]
         self._lock = threading.Lock()
         self._saw: collections.Counter[tuple[str, str]] = collections.Counter()
         self._good: set[str] = set()
@@ -44,12 +46,18 @@ class Tests:
                 return [it for name in names for it in processes.names_in(copies.TOP, name)]
         return []
 
+    def _measured(self, bug: Bug, text: str) -> list[str]:
+        """Statements of functions alone are noted in JavaScript. What a module has beside them runs in each test."""
+        if bug.path.endswith(".js") and not javascript_tokens.is_in_block(text, bug.start):
+            return self._known.tests_of_file(bug.path)
+        return self._known.tests(bug.path, bug.number(text), text.splitlines())
+
     def of(self, bug: Bug, text: str) -> list[str]:
         """Those that run its line by the map, and then those of the table that the map has not, or all of the table if
         the map has not the file. Those that have seen most bugs of the file are first."""
         names = self._of_table(bug.path)
         if self._known.has(bug.path):
-            measured = self._known.tests(bug.path, bug.number(text), text.splitlines())
+            measured = self._measured(bug, text)
             names = measured + [name for name in names if name not in self._known.seconds]
         with self._lock:
             left = [name for name in names if name not in self.failing]
