@@ -88,11 +88,7 @@ class Lines(Case):
             self.expect("labels and full text", found, wanted)
 
     def test_exports_of_a_region(self) -> None:
-<<<<<<< HEAD
-        """Where the language of the site has a region: a label for it, then of the language, then any other."""
-=======
         """Where the site's language has a region, a label for it counts, then the language's, then any other."""
->>>>>>> b639acf32d29619a45e8fd9be1a1c750d7321a24
         labels = {"de-AT": "A", "de": "D", "": "N", "de-CH": "C", "at": "X"}
         with tempfile.TemporaryDirectory() as folder:
             (Path(folder) / "targets.json").write_text(json.dumps({"languages": ["de-AT", "en"]}))
