@@ -328,6 +328,7 @@ const PASTED = [
     ['arXiv with a class after a title', 'rft_val_fmt=x&rft.atitle=Silt+arXiv:2101.00001+[cs.LG]', 'rft.atitle=Silt'
         + ' rft_id=info:doi/10.48550/arXiv.2101.00001 x.doi=10.48550/arXiv.2101.00001', 'rft_val_fmt=x'],
     ['a title that is a year', 'title=1984', 'rft.jtitle=1984 rft_val_fmt=J'],
+    ['a title beside one of the standard', 'title=Tides&rft.title=Silt', 'rft_val_fmt=J'],
     ['a title that is a number', 'title=12345678', 'rft.jtitle=12345678 rft_val_fmt=J'],
     ['ten digits that are no ISBN', 'title=1234567890', 'rft.jtitle=1234567890 rft_val_fmt=J'],
     ['a DOI that the request has', 'rft_val_fmt=x&rft.atitle=On+10.5555/abc&rft_id=info:doi/10.5555/other',

@@ -195,6 +195,9 @@ class Rows(Case):
         self.expect("rows", left, [["a", "1"], ["b", "2"], ["c", "3"]])
         self.expect("what is said", lines, ["the same as an earlier row, left out: 3 rows"])
 
+    def test_two_columns_of_one_name(self) -> None:
+        self.expect("the first", Table(["a", "b", "a"], []).place("a"), 0)
+
     def test_any(self) -> None:
         """The word for all requests counts with spaces and hyphens too, as in the program."""
         rows = [["a", "ANY"], ["b", "a-n-y"], ["c", "an y"], ["d", "any1"]]

@@ -53,6 +53,7 @@ WRONG = {
     "no header": "no header: no names follow",
     "sheet": "sheet: no name follows",
     "html table x": "html table: nothing may follow: x",
+    f"html table {'x' * 101}": f"html table: nothing may follow: {'x' * 100}..",
     "proxy http://proxy.example.org/": "proxy: an address that begins with https:// and a host must follow",
     "proxy https://proxy.example.org": "proxy: an address that begins with https:// and a host must follow",
     "proxy https://a@b/": "proxy: an address that begins with https:// and a host must follow",

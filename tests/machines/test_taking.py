@@ -15,6 +15,7 @@ from fixtures.cases import Case
 from fixtures.library import UPDATE
 from fixtures.patience import patience
 from openlink_update import update_options
+from openlink_update.machines import machines
 from openlink_update.machines import taking
 from openlink_update.outcome import Failure
 
@@ -143,3 +144,11 @@ class Taking(Case):
             self.taken(None, "touch", "made")[0::2],
             (2, f"{REFUSED}touch made\n"),
         )
+
+
+class Commands(Case):
+    def test_missing_command(self) -> None:
+        """The line names it: a machine may lack rsync or ssh."""
+        with self.assertRaises(Failure) as raised:
+            machines.run(["/nowhere/no-such-command", "x"], 10)
+        self.expect("what is said", str(raised.exception), "no-such-command: No such file or directory")

@@ -1,5 +1,5 @@
-"""The first command of README.md prints what it shows. Of a program that ends otherwise, here a stand-in, its script says
-what the program said, and that it did not run to its end."""
+"""The first command of README.md prints what it shows. With a stand-in for the toolchain: of a program that fails its
+script prints the error, and of one that is killed it says so."""
 from __future__ import annotations
 
 import os
