@@ -97,7 +97,7 @@ function testLimits() {
 }
 
 function testMenus() {
-    const found = (replies) => program.joined(replies).map((it) => it.target + ' ' + it.url + ' ' + it.source).join(', ');
+    const found = (replies) => program.joined(replies).map((it) => `${it.target} ${it.url} ${it.source}`).join(', ');
     expect('menus are joined', found(['a\tx\nb\ty\n', 'b\tz\nc\tw', 'd\tv\nc\tu\n']), 'a x 0, b y 0, c w 1, d v 2');
     expect('parts of a table', found(['b.2\tx\nb.3\ty\nc\tz\nd.1\tw\n', 'b\tv\na.12.2\tu\n.2\tt\n.e.2\ts\n']),
         'b x 0, c z 0, d.1 w 0, a.12 u 1, .2 t 1, .e s 1');
