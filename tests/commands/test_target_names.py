@@ -55,6 +55,11 @@ OTHERS = [
 NAMES = ["a" * 64, "-" * 64, "..", "--", "__", ".a", "-a", "_a", "a.", "a-", "a_", "A-b_c.9", "Alpha", "alpha", "ALPHA"]
 
 
+def printed(name):
+    """A name of bytes as a message has it: without control characters, as those of paths."""
+    return b"".join(b"\\x%02x" % byte if byte < 0x20 or byte == 0x7F else bytes([byte]) for byte in name)
+
+
 def write_files(program):
     program.write("code", ANY_LINK)
     program.write("table", "print_identifier\n1\n")
@@ -87,7 +92,7 @@ class TargetNames(ProgramCase):
                     # An empty line, which is skipped, and a name without the byte.
                     self.program.prints(["resolve", "registry", "rft.issn=1"], "b\thttp://e.org/")
                 else:
-                    fault = b"target " + name + b": BadTargetName" if is_cell else b"registry: line 1"
+                    fault = b"target " + printed(name) + b": BadTargetName" if is_cell else b"registry: line 1"
                     self.program.fails(["resolve", "registry", "rft.issn=1"], 3, fault)
 
     def test_other_names(self):
