@@ -444,6 +444,9 @@ function testWords() {
     places.forEach((it, i) => {
         expect('a number in ' + JSON.stringify(it), shown(it), shown(without[i]));
     });
+    // A text of the library's own may lack the mark between two texts.
+    const marked = (list) => wording.listed(site({ words: { list } }, ''), ['a', 'b']);
+    expect('what is between two texts', ['{}; {}', '{}{}', '{}'].map(marked).join(' | '), 'a; b | a, b | a, b');
     expect('labels', listed('en'), 'G undefined: A undefined, C undefined, c undefined');
     expect('labels in another language', listed('de'), 'G H: B n, C undefined, c undefined');
 }
