@@ -292,6 +292,8 @@ class Lookups(SiteWithLookups):
             named = [data.get(name) for name in ("title", "author", "year", "doi")]
             expected = ["Tides on other moons", "Smith, Jane", "2021", "10.48550/arXiv.2101.00001"]
             self.expect(query, named, expected)
+        author = self.data("id=arXiv:2101.00003")["citation"].get("author")
+        self.expect("an author without a family name", author, "Tide Collaboration")
         self.expect(
             "a reply of another form",
             self.data("id=arXiv:2101.00002")["citation"],
