@@ -11,6 +11,7 @@ from fixtures.nginx_site import Reply
 from fixtures.site_case import ARTICLE
 from fixtures.site_case import FORM
 from fixtures.site_case import SiteCase
+from fixtures.site_case import faults_of_html
 
 # Requests that are refused, and their statuses.
 ERRORS = [
@@ -136,6 +137,9 @@ class Find(SiteCase):
         reply = self.site.get(f"/find?{ARTICLE}")
         self.expect("the page", (reply.status, reply.headers["Content-Type"]), (200, "text/html; charset=utf-8"))
         self.tidy("a page with links", reply.text)
+        for old, new in ("</li>", "</li>x"), ("</ul>", ""):
+            spoilt = reply.text.replace(old, new, 1)
+            self.expect(f"the check sees {new} for {old}", faults_of_html(spoilt) != "" and spoilt != reply.text)
         for part in (
             '<html lang="en" dir="ltr">',
             '<meta name="viewport"',
