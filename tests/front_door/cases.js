@@ -583,6 +583,11 @@ const TWICE = [
         'rft_val_fmt=x'],
     ['UTF-8', 'rft_val_fmt=x&rft.atitle=Caf%25C3%25A9', 'rft.atitle=Caf\u00e9', 'rft_val_fmt=x'],
     ['Latin-1', 'rft_val_fmt=x&rft.atitle=Caf%25E9', 'rft.atitle=Caf\u00e9', 'rft_val_fmt=x'],
+    ['an abbreviated title', 'rft_val_fmt=x&rft.stitle=Ann%2520Tid', 'rft.stitle=Ann+Tid', 'rft_val_fmt=x'],
+    ['a family name', 'rft_val_fmt=x&rft.aulast=De%2520Wit', 'rft.aulast=De+Wit', 'rft_val_fmt=x'],
+    ['a first name', 'rft_val_fmt=x&rft.aufirst=Jan%2520Piet', 'rft.aufirst=Jan+Piet', 'rft_val_fmt=x'],
+    ['a name', 'rft_val_fmt=x&rft.au=De%2520Wit', 'rft.au=De+Wit', 'rft_val_fmt=x'],
+    ['a group', 'rft_val_fmt=x&rft.aucorp=Tide%2520Group', 'rft.aucorp=Tide+Group', 'rft_val_fmt=x'],
     ['once', 'rft_val_fmt=x&rft.atitle=100%25+of+it&rft.btitle=C%2B%2B', '']
 ];
 
