@@ -544,13 +544,15 @@ class Handover(Rights):
         def make() -> None:
             os.umask(0)
             (self.written / "below").mkdir(0o777)
-            for name, mode in (("below/open", 0o666), ("private", 0o600), ("run", 0o4777)):
+            alone = (("group", 0o640), ("others", 0o604), ("unread", 0o633))
+            for name, mode in (("below/open", 0o666), ("private", 0o600), ("run", 0o4777), *alone):
                 (self.written / name).write_text("x")
                 (self.written / name).chmod(mode)
 
         self.expect("all is taken", self.made(make), "")
         found = {path.name: path.stat() for path in (self.written, *self.written.rglob("*"))}
         wanted = {"written": 0o755, "below": 0o755, "open": 0o644, "private": 0o600, "run": 0o644}
+        wanted |= {"group": 0o644, "others": 0o644, "unread": 0o600}
         self.expect("modes", {name: stat.S_IMODE(it.st_mode) for name, it in found.items()}, wanted)
         self.expect("owners", {(it.st_uid, it.st_gid) for it in found.values()}, {(0, 0)})
 
