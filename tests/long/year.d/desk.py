@@ -62,5 +62,7 @@ class Counts:
         of_week.subtract(self.before)
         self.before = now
         found = [f"openlink-counts: {line}" for line in seen.differences(own, counted, slack)]
-        found += [f"the desk: {line}" for line in seen.differences(own, of_week, slack)]
+        kinds = seen.bounded_in(of_week)
+        joined = [seen.together(numbers, kinds) for numbers in (own, of_week)]
+        found += [f"the desk: {line}" for line in seen.differences(*joined, slack)]
         return found, sum(1 for key in own if counted[key] and of_week[key])

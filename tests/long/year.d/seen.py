@@ -8,6 +8,7 @@ from links import FULL
 REQUESTS, WITHOUT_FULL_TEXT, WITHOUT_LINK = "requests", "without full text", "without a link"
 ERRORS, SOURCE, SOURCE_WITHOUT = "errors", "source", "source without full text"
 SHOWN, FOLLOWED, FOLLOWED_TITLE, IN_VAIN = "shown", "followed", "followed title", "asked in vain"
+OTHERS = "(others)"
 KINDS = (
     *(REQUESTS, WITHOUT_FULL_TEXT, WITHOUT_LINK, ERRORS, SOURCE, SOURCE_WITHOUT),
     *(SHOWN, FOLLOWED, FOLLOWED_TITLE, IN_VAIN),
@@ -86,6 +87,19 @@ def differences(own, found, slack):
         for kind, name in sorted({*own, *found})
         if abs(own[kind, name] - found[kind, name]) > slack
     ]
+
+
+def bounded_in(found):
+    """The kinds of which some names were counted together, since there are more than are kept."""
+    return {kind for kind, name in found if name == OTHERS and found[kind, name]}
+
+
+def together(counts, kinds):
+    """The numbers, with one for all names of each of these kinds."""
+    joined = collections.Counter()
+    for (kind, name), number in counts.items():
+        joined[kind, OTHERS if kind in kinds else name] += number
+    return joined
 
 
 def of_table(rows):
