@@ -72,7 +72,7 @@ function ofWords() {
     globalThis.words_en = before[1];
     return found;
 }
-// What targets.json and the words of one library of several give; a preloaded array has no methods.
+// What one library of several has in its targets.json and in its files of texts; a preloaded array has no methods.
 function ofSites() {
     const found = [];
     const put = (name, got, expected) => { found.push([name, JSON.stringify(got), JSON.stringify(expected)]); };
@@ -90,7 +90,7 @@ function ofSites() {
     put('one that is chosen', [site('de').main, site('de').language, site('de').chosen], ['en', 'de', 'de']);
     put('chosen before the header', site('de', undefined, 'pt').language, 'de');
     put('one that is not offered', [site('fr', undefined, 'pt').language, site('fr').chosen], ['pt-BR', '']);
-    put('the words', [site('de').file.group, site('de').mainFile.group], ['Verweise', 'Links']);
+    put('texts of a file', [site('de').file.group, site('de').mainFile.group], ['Verweise', 'Links']);
     put('those of a library', [site('de', 'north').mainFile.group, site('de', 'north').file.group],
         ['In the North', 'Verweise']);
     put('those of another library', site('en', 'south').file.group, 'Links');

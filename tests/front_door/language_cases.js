@@ -61,7 +61,7 @@ const TEXTS = [
     [undefined, '', ''], [true, '', ''], [{ de: 'A', en: '' }, 'A', ''], [{ de: 'A', en: 3 }, 'A', ''],
     [{ de: ' A', en: 'B ' }, 'A', 'B'], [{ de: { de: 'A' } }, '', '']
 ];
-// The words of a site with the same languages: those of targets.json, of words/de.json and of words/en.json, then what
+// Texts of a site with the same languages: those of targets.json, of words/de.json and of words/en.json, then what
 // wordOf gives in German and in English, and what ownWordOf gives.
 const WORDS = [
     [undefined, 'A', 'B', 'A', 'B', 'A', 'B'], [undefined, 'A', undefined, 'A', 'A', 'A', ''],

@@ -228,7 +228,7 @@ COUNTED = (
     "the proxy of another library in addresses",
     "damaged letters in titles",
 )
-# The slip of each kind that the update knows, by the words that allow it.
+# The slip of each kind that the update knows, by what a line of targets.tsv says to allow it.
 OF_UPDATE = {
     "check digits of print_identifier wrong": "check digits of print numbers",
     "check digits of online_identifier wrong": "check digits of online numbers",
