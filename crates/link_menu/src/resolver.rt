@@ -77,7 +77,12 @@ fn keys_of(targets: &[Target]) -> Keys {
 fn is_any_open(searches: &[TargetSearch]) -> bool
     ensures { result ≡ list_any spec.is_open searches.now }
 {
-    searches.iter().any(|search| search.is_open())
+    for search in searches {
+        if search.is_open() {
+            return true;
+        }
+    }
+    false
 }
 
 /// One round: the next row of each search that has one is tried, all of them side by side.

@@ -6,11 +6,12 @@ ghost use Rattle.verifier.specs.Faults.{form_error, read_error};
 use code_file::{CodeError, CodeErrorKind};
 use machine_model::FormFault;
 use std::alloc::{AllocError, AllocFailed};
+use std::fmt;
 use thiserror::Error;
 
 /// Why code is rejected, in the order in which it is checked: first the file, then the form of each instruction in the
 /// order of their places, then the kinds of registers. The number is the place of an instruction.
-#[derive(Clone, Copy, Debug, PartialEq, Eq, Error)]
+#[derive(Clone, Copy, PartialEq, Eq, Error)]
 pub enum LoadError {
     /// The bytes are not a code file: the kind of the first error, and the byte at which it is.
     #[error("{0} at {1}")]
@@ -61,6 +62,13 @@ pub enum LoadError {
     /// Memory ran out.
     #[error("NoMemory")]
     NoMemory,
+}
+
+/// The same text as by `Display`.
+impl fmt::Debug for LoadError {
+    fn fmt<W: fmt::Write>(&self, f: &mut fmt::Formatter<W>) -> fmt::Result {
+        write!(f, "{self}")
+    }
 }
 
 impl LoadError {

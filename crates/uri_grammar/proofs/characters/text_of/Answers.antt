@@ -7,3 +7,6 @@ pub loop-c-preserved : goal.loop-c-preserved
 loop-c-preserved c =
     let push = encodes_push (take c.loop-c.c-index c.args.chars.now) c.c-item.result in
     grind (arith, common_steps, push, c.in_ok-push.ensures.bytes)
+
+pub returns : goal.returns
+returns c = grind (arith, common_steps)

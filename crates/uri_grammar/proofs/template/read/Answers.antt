@@ -74,3 +74,6 @@ returns-in-Err-clause-err c =
     let fault = subst (λ (cs : List ℕ). IsFault c.in-Err.e (IsPartFault cs)) c.split_at.ensures.back c.in-Err.ensures.err in
     rw (c.after.ensures, c.byte_len.ensures, c.split_at.ensures.front) (IsFirstFault-after c.args.chars.now c.loop-done.done c.loop-done.parts.items c.in-Err.e
     c.loop-done.invariant.spelled fault)
+
+pub expression-requires-clause-no_literal : goal.expression-requires-clause-no_literal
+expression-requires-clause-no_literal c = grind (arith, common_steps)
