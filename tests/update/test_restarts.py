@@ -7,6 +7,7 @@ from unittest import mock
 from fixtures import needs
 from fixtures.cases import Case
 from fixtures.library import Library
+from openlink_update import library_run
 from openlink_update.commands import update
 from openlink_update.outcome import DEVICE
 from openlink_update.outcome import Failure
@@ -76,6 +77,6 @@ class AfterAKill(Case):
         run.library.is_unsettled.return_value = True
         run.go_back.side_effect = Failure("here the test ends it")
         with self.assertRaises(Failure):
-            update._work(run, mock.Mock(dry_run=False))
+            library_run._work(run, mock.Mock(dry_run=False))
         calls = [name for name, _, _ in run.mock_calls]
         self.expect("what it does", calls, ["library.is_unsettled", "processes.wait_for_all", "go_back"])
