@@ -23,7 +23,7 @@ from fixtures.weeks import HTML
 class Faults(Case):
     def test_bad_files(self) -> None:
         """Each run has other errors in the input of some of three libraries; the rest are new."""
-        with Machine() as machine:
+        with Machine(has_desk=False) as machine:
             libraries = east, north, west = started(self, machine)
             table, targets = north.input.read("tidal-press.txt"), east.input.read("targets.tsv")
             deliver(libraries, "B")
@@ -64,7 +64,7 @@ class Faults(Case):
 
     def test_beside_one_alone(self) -> None:
         """The library of a machine alone stays as it is when another is added."""
-        with Machine() as machine:
+        with Machine(has_desk=False) as machine:
             alone, _ = machine.add_alone()
             site = read(machine.path(SITE))
             status, printed = machine.update("--all")

@@ -151,7 +151,7 @@ def check_faults(case, machine, libraries, names, shared):
 class Sharing(Case):
     def test_shared(self) -> None:
         """Three libraries serve a table, one of them under another name, and each has a table of its own."""
-        with Machine() as machine:
+        with Machine(has_desk=False) as machine:
             server = http.server.ThreadingHTTPServer(("127.0.0.1", free_ports(1)), Provider)
             threading.Thread(target=server.serve_forever, daemon=True).start()
             libraries, names = [machine.add(it, FEW) for it in ("a", "b", "c")], ("open-shelf", "open-shelf", "shelf")

@@ -29,7 +29,7 @@ def children_of(number):
 class Turns(Case):
     def setUp(self) -> None:
         super().setUp()
-        self.machine = Machine()
+        self.machine = Machine(has_desk=False)
         self.addCleanup(self.machine.close)
         self.libraries = started(self, self.machine)
 

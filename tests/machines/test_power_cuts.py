@@ -32,7 +32,9 @@ class PowerCuts(Case):
             if not words:
                 one.input.deliver("B")
             trace = Trace(one.aside("calls"), *folders)
-            status, printed = ended(one.begin(*one.words_to(two, *words), before=(*trace.before, *PYTHON)))
+            status, printed = ended(
+                one.begin(*one.words_to(two, *words), before=(*trace.before, *PYTHON), is_command=True)
+            )
             self.expect(f"{name}: {printed}", (status, two.current()), (0, one.current()))
             calls = trace.calls()
             for side, folder in zip(("here", "there"), folders):

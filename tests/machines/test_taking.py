@@ -21,6 +21,7 @@ from openlink_update.outcome import Failure
 
 STAMP = "20261122T000000Z"
 RSYNC = "rsync --server -tre.iLsfxCIvu --timeout=60 --delete --mkpath"
+PACKAGE, MOST_MODULES = "openlink_update", 16  # modules of it
 REFUSED = "openlink-update: --take: this is not for a delivery: "
 # What a key that has fallen into other hands may be used for.
 ATTACKS = (
@@ -122,6 +123,15 @@ class Taking(Case):
         """A login without a command gets nothing."""
         status, printed, said = self.taken(None)
         self.expect("a login", (status, printed, said), (2, "", f"{REFUSED}\n"))
+
+    def test_modules(self) -> None:
+        """A delivery has many requests, so a request loads none of what makes versions."""
+        with mock.patch.dict(os.environ, {"PYTHONPROFILEIMPORTTIME": "1"}):
+            status, printed, said = self.taken("state")
+        loaded = [name for line in said.splitlines() if (name := line.rpartition("|")[2].strip()).startswith(PACKAGE)]
+        self.expect("its reply", (status, printed), (0, "key forced\n"))
+        self.expect("what it needs", f"{PACKAGE}.machines.taking" in loaded)
+        self.expect(f"no more: {loaded}", len(loaded) <= MOST_MODULES)
 
     @needs.command("rsync")
     def test_rsync(self) -> None:

@@ -141,7 +141,7 @@ class BadWeeks(Case):
                     "line 2: not a name, a rule file, a table and allowed warnings, with tabs between them",
                 ),
                 ("targets.tsv", b"", "0 targets, and 1 to 256 are possible"),
-                ("probes.tsv", probes + b"issn=1\n", "line 34 is not a query, a tab, and names of targets or none"),
+                ("probes.tsv", probes + b"issn=1\n", "line 9 is not a query, a tab, and names of targets or none"),
             ):
                 library.input.write("targets.tsv", targets)
                 library.input.write(file, data)
@@ -153,7 +153,7 @@ class BadWeeks(Case):
 
     def test_probes(self) -> None:
         """A probe that fails before the link is moved, and one that fails at the ports."""
-        with Library() as library:
+        with Library(probes=33) as library:
             first = library.current()
             library.input.deliver("B")
             library.input.replace("coastal-law.rules", "when given title_id", 'when rft.genre is "book"')

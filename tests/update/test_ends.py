@@ -54,9 +54,9 @@ def marks(library):
 class Run:
     """A run that was begun, while the library may have what an older one left."""
 
-    def __init__(self, library):
+    def __init__(self, library, **how):
         self.library, self.left = library, marks(library)
-        self.child = library.begin()
+        self.child = library.begin(**how)
 
     def stage(self):
         """The number of the stage to which it has come."""
@@ -84,7 +84,7 @@ def lengths_of_stages(case, library):
     """The seconds that each stage takes, from the second of two whole runs. Week A is in use then, as before."""
     for week in "BA":
         library.input.deliver(week)
-        run, times = Run(library), [time.monotonic()]
+        run, times = Run(library, is_command=True), [time.monotonic()]
         for stage in range(1, len(STAGES)):
             run.wait_for(stage)
             times.append(time.monotonic())
@@ -97,7 +97,7 @@ def end_at(library, moment, lengths, number):
     """A run that gets a signal at a moment: the stage to which it came, its status, and what it said. Where it ends
     before, with status 0, the stage is taken to be shorter from now on."""
     name, part = moment
-    run = Run(library)
+    run = Run(library, is_command=name == STAGES[0])  # what Python does before the script is part of its beginning
     run.wait_for(STAGES.index(name))
     status, printed = run.end_after(lengths[name] * part, number)
     if status == 0:
@@ -136,7 +136,7 @@ class Gate:
 class Ends(Case):
     def test_killed(self) -> None:
         """SIGKILL at 50 moments in all stages of a run. Each run has something new, and the one before to clean up."""
-        with Library(probes=10) as library, Reader(library, pause=0.02) as reader:
+        with Library(probes=10) as library, Reader(library, pause=0.05) as reader:
             lengths, week, stages, whole = lengths_of_stages(self, library), "A", [], 0
             while len(stages) < len(MOMENTS) and whole < len(MOMENTS):
                 library.input.deliver(OTHER[week])

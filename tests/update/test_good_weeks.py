@@ -67,7 +67,7 @@ def shown(library, number, date):
 class GoodWeeks(Case):
     def test_good_week(self) -> None:
         """The whole sample library: every target is new, then some have changed, then none."""
-        with Library(ALL, processes=4) as library:
+        with Library(ALL, processes=4, probes=33) as library:
             status, printed = library.first
             self.expect("the first version", (status, library.names(), library.weeks_served()), (0, ALL, {"A"}))
             self.expect_lines(
@@ -237,7 +237,7 @@ class GoodWeeks(Case):
     def test_walls(self) -> None:
         """The walls of the version in use, once they are not those of today: a new version takes its place, from the
         same files, whatever the input has by then."""
-        with Library() as library:
+        with Library(probes=33) as library:
             first = library.current()
             self.expect("no walls", library.run("--walls"), (0, f"no walls of months or days: {first} stays in use\n"))
             row = "Walls\t3040-0007\t\t2000\t\t\t\t\t\thttps://x.example.org\t\tw\t{}\tfulltext"
@@ -324,7 +324,7 @@ class GoodWeeks(Case):
                 "coastal-law: 300 rows added, 0 gone",
                 "  2 parts: coastal-law, coastal-law.2",
                 "  titles: 300 came, 0 gone: changes/coastal-law.txt",
-                "33 probes hold",
+                "8 probes hold",
             )
             ports = [
                 library.menu(library.site.ports[0], f"rft.issn={number}&x.from=19940101&x.to=19940101")

@@ -28,8 +28,13 @@ class _Library(Library):
 
     umask = "077"
 
-    def begin(self, *options: str, before: tuple[str, ...] = PYTHON, **how: str) -> "subprocess.Popen[str]":
-        child: subprocess.Popen[str] = super().begin(*options, before=(*with_umask(self.umask), *before), **how)
+    def __init__(self, **how: int) -> None:
+        super().__init__(**how)
+        self.is_like_others = False
+
+    def begin(self, *options: str, **how: str) -> "subprocess.Popen[str]":
+        before = (*with_umask(self.umask), *PYTHON)
+        child: subprocess.Popen[str] = super().begin(*options, before=before, is_command=True, **how)
         return child
 
 

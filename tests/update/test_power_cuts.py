@@ -37,7 +37,7 @@ _NAMES = ("/f/sub", "/f/sub/b.new", "/f/c")
 
 def followed(library: Library, *options: str) -> tuple[Trace, list[Call], tuple[int | None, str]]:
     trace = Trace(library.aside("calls"), library.folder)
-    ended = library.run(*options, before=(*trace.before, *PYTHON))
+    ended = library.run(*options, before=(*trace.before, *PYTHON), is_command=True)
     return trace, trace.calls(), ended
 
 

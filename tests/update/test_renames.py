@@ -4,7 +4,6 @@ from __future__ import annotations
 import os
 import signal
 
-from fixtures import PYTHON
 from fixtures import needs
 from fixtures.cases import Case
 from fixtures.library import HERE
@@ -17,8 +16,7 @@ from update.test_ends import served
 def killed_at(library, number, *options, **how):
     """A run that is killed at a rename; the number of such moments, if it ends before that one."""
     file = library.aside("moments")
-    before = (*PYTHON, f"{HERE}/killed.py", str(number), file)
-    child = library.begin(*options, before=before, **how)
+    child = library.begin(*options, before=(f"{HERE}/killed.py", str(number), file), **how)
     ended(child)
     if child.returncode == -signal.SIGKILL:
         return None
@@ -39,23 +37,30 @@ def age_walls(library):
 class Renames(Case):
     def test_killed_at_renames(self) -> None:
         """SIGKILL directly before and after each rename and link of a run that ends well, those of `openlink compile`
-        too, and of one that goes back, from its first own rename on. The next run puts it right."""
-        for name, options, first, expected in (("forward", {}, 0, 24), ("back", {"restart": "true"}, 10, 26)):
-            with Library(probes=5) as library:
-                week, number, moments = "A", first, None
-                while moments is None:
-                    library.input.deliver(OTHER[week])
-                    moments = killed_at(library, number, **options)
-                    served(self, f"{name}, killed at moment {number}", library)
-                    number += 1
-                    status, printed = library.run()
-                    week = OTHER[week]
-                    self.expect(
-                        f"{name}, the run after {number - 1}: {printed}",
-                        (status, library.weeks_served(), library.left_behind()),
-                        (0, {week}, []),
-                    )
-                self.expect(f"{name}: moments", (moments, number), (expected, expected + 1))
+        too. The next run puts it right."""
+        self.check_each("forward", 0, 24)
+
+    def test_killed_at_renames_back(self) -> None:
+        """The same of a run that goes back, from its first own rename on."""
+        self.check_each("back", 10, 26, restart="true")
+
+    def check_each(self, name: str, first: int, expected: int, **options: str) -> None:
+        """Kills a run at each moment from the first on, of which there are as many as expected."""
+        with Library(probes=5) as library:
+            week, number, moments = "A", first, None
+            while moments is None:
+                library.input.deliver(OTHER[week])
+                moments = killed_at(library, number, **options)
+                served(self, f"{name}, killed at moment {number}", library)
+                number += 1
+                status, printed = library.run()
+                week = OTHER[week]
+                self.expect(
+                    f"{name}, the run after {number - 1}: {printed}",
+                    (status, library.weeks_served(), library.left_behind()),
+                    (0, {week}, []),
+                )
+            self.expect(f"{name}: moments", (moments, number), (expected, expected + 1))
 
     def test_walls_killed_at_renames(self) -> None:
         """SIGKILL around the last renames of a run that moves walls, when the new version takes the place of

@@ -2,11 +2,17 @@
 from __future__ import annotations
 
 import os
+import signal
+import subprocess
+from pathlib import Path
 from unittest import mock
 
 from fixtures import needs
 from fixtures.cases import Case
 from fixtures.library import Library
+from fixtures.patience import wait_until
+from openlink_update import children
+from openlink_update import library_run
 from openlink_update.commands import update
 from openlink_update.outcome import DEVICE
 from openlink_update.outcome import Failure
@@ -60,6 +66,31 @@ class Restarts(Case):
             )
 
 
+def is_alive(number: int) -> bool:
+    """Whether a process has not ended."""
+    path = Path(f"/proc/{number}/stat")
+    try:
+        return path.read_bytes().rpartition(b") ")[2][:1] not in (b"Z", b"X")
+    except OSError:
+        return False
+
+
+class Trials(Case):
+    def test_all_that_a_child_has_started(self) -> None:
+        """nginx that tries probes has a worker, which ends with it."""
+        words = ["sh", "-c", "sleep 1000 & echo $!; wait"]
+        child = children.start(words, "/", stdout=subprocess.PIPE)
+        assert child.stdout
+        with child.stdout as output:
+            worker = int(output.readline())
+        self.expect("both live", (is_alive(child.pid), is_alive(worker)), (True, True))
+        children.kill(child)
+        self.expect("its status", child.returncode, -signal.SIGKILL)
+        self.expect("the other", wait_until(lambda: not is_alive(worker)), True)
+        children.kill(child)
+        self.expect("once more", child.returncode, -signal.SIGKILL)
+
+
 class Failing(Case):
     def test_error_of_the_system(self) -> None:
         """One that nothing expects, such as a full disk, has the status of the device."""
@@ -76,6 +107,6 @@ class AfterAKill(Case):
         run.library.is_unsettled.return_value = True
         run.go_back.side_effect = Failure("here the test ends it")
         with self.assertRaises(Failure):
-            update._work(run, mock.Mock(dry_run=False))
+            library_run._work(run, mock.Mock(dry_run=False))
         calls = [name for name, _, _ in run.mock_calls]
         self.expect("what it does", calls, ["library.is_unsettled", "processes.wait_for_all", "go_back"])

@@ -81,6 +81,13 @@ def stop(child: "subprocess.Popen[bytes]") -> None:
             child.wait()
 
 
+def kill(child: "subprocess.Popen[bytes]") -> None:
+    """Ends a child and the processes that it has started, where none has anything to keep."""
+    if child.poll() is None:
+        os.killpg(child.pid, signal.SIGKILL)  # it leads a session of its own
+        child.wait()
+
+
 def is_open(port: int) -> bool:
     """Whether something listens at a port of this machine."""
     try:

@@ -1,4 +1,4 @@
-"""Waits until what was written is on the disk."""
+"""Waits until what was written is on the disk; and small files, which are read and written as a whole."""
 import ctypes
 import os
 from pathlib import Path
@@ -25,3 +25,20 @@ def sync_disk(path: Path) -> None:
             raise OSError(number, os.strerror(number), str(path))
     finally:
         os.close(handle)
+
+
+def text_in(path: Path) -> str:
+    """The text of a file; '' if there is none."""
+    try:
+        return path.read_text(encoding="utf-8", errors="replace")
+    except FileNotFoundError:
+        return ""
+
+
+def write(path: Path, text: str) -> None:
+    """Replaces a file by one with this text."""
+    new = path.with_name(f"{path.name}.new")
+    new.write_text(text, encoding="utf-8")
+    sync(new)
+    os.rename(new, path)
+    sync(path.parent)

@@ -287,8 +287,7 @@ class Run:
             if others:
                 report(f"not tried, since they differ with the version in use too: probes {', '.join(others)}")
         with Trial(self._program, unfinished, port):
-            differing = probes.differences(trial)
-            links = probes.links(trial)
+            differing, links = probes.tried(trial)
         _note_probes(probes, differing)
         if before is not None:
             for line in probes.changes(before, links):

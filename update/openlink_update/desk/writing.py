@@ -15,8 +15,7 @@ from collections.abc import Iterator
 from pathlib import Path
 
 from openlink_update import run_records
-from openlink_update.desk import logs, site_files, templates_in
-from openlink_update.desk.site_files import STATE, Source
+from openlink_update.desk import templates_in
 from openlink_update.disk import sync, sync_disk
 from openlink_update.machines.libraries import SITE
 from openlink_update.outcome import Failure
@@ -83,7 +82,7 @@ def _write(folder: Path, library: Library, site: Site, sandbox: Sandbox, program
     new = folder / f"{stamp}.new"
     new.mkdir()
     try:
-        _fill(new, folder / _CURRENT / STATE, library, site, sandbox, program)
+        _fill(new, folder / _CURRENT, library, site, sandbox, program)
         sync_disk(new)
         os.rename(new, folder / stamp)
     except BaseException:
@@ -105,7 +104,9 @@ def _remove(path: Path) -> None:
 
 
 def _fill(new: Path, before: Path, library: Library, site: Site, sandbox: Sandbox, program: str) -> None:
-    """Has the library's user write the files, and takes them over."""
+    """Has the library's user write the files, with the state of the desk before, and takes them over."""
+    from openlink_update.desk import logs, site_files  # where no desk is written, nothing loads them
+
     folders = logs.folders_of(site.logs)
     sandbox.own(new)
     stamp = library.current()
@@ -117,7 +118,8 @@ def _fill(new: Path, before: Path, library: Library, site: Site, sandbox: Sandbo
         lent = [(parent.lent(root), logs_in) for root, logs_in in folders]
         now = datetime.datetime.now(datetime.timezone.utc)
         records = run_records.records_in(library.folder)
-        site_files.write(new, Source(version, before, records, lent, names, program, now))
+        state = before / site_files.STATE
+        site_files.write(new, site_files.Source(version, state, records, lent, names, program, now))
         return ""
 
     sandbox.run(Job(work, (new,), tuple(Lent(root) for root, _ in folders), has_network=False))

@@ -2,9 +2,9 @@
 names the parts and the base URL. Each ISSN of each row has an item: the format may allow several in one, but is not
 described in full."""
 import datetime
+import html
 import re
 from collections.abc import Iterable, Iterator
-from xml.sax.saxutils import escape
 
 from openlink_update.exports.site_names import SiteNames
 from openlink_update.index.titles import plain
@@ -15,7 +15,7 @@ from openlink_update.tables.row_dates import DATE, NONE, date_in
 _MOST_BYTES = 1_000_000  # of a part
 _NOT_FULL_TEXT = ("abstracts", "print")
 _NUMBER = re.compile(r"[1-9]\d{0,5}", re.A)
-_NO_XML = re.compile("[^\t\n\r\x20-\ud7ff\ue000-\ufffd\U00010000-\U0010ffff]")
+_NO_XML = re.compile("[\x00-\x08\x0b\x0c\x0e-\x1f\ud800-\udfff\ufffe\uffff]")
 _HEAD = """<?xml version="1.0" encoding="UTF-8"?>
 <!DOCTYPE {0} PUBLIC "-//GOOGLE//{1} 1.0" "http://scholar.google.com/scholar/{0}.dtd">
 <{0}>
@@ -25,7 +25,7 @@ _OPTIONS = ("doi", "pmid", "journal-title")
 
 
 def _element(name: str, text: str) -> str:
-    return f"<{name}>{escape(_NO_XML.sub('', text))}</{name}>" if text else ""
+    return f"<{name}>{html.escape(_NO_XML.sub('', text), quote=False)}</{name}>" if text else ""
 
 
 def _date_element(name: str, cell: str, volume: str, issue: str) -> str:

@@ -34,6 +34,8 @@ _RESERVED = (
 )
 _LATER = ("desk", "runs")  # folders of a library, which a library of an earlier release may have as its name
 SITE, LOCAL, MAIL, REPORT, SHARED = "site.conf", "local.conf", "mail", "report", "shared"
+PROBES = "probes.tsv"  # of a version that goes from one machine to another
+ALONE = "."  # the library of a machine with one alone, by its place in the folder
 
 
 def is_name(text: str) -> bool:

@@ -31,11 +31,11 @@ from pathlib import Path
 from typing import IO
 
 from openlink_update import children
-from openlink_update.disk import sync
+from openlink_update.disk import text_in, write
 from openlink_update.fetch.sources import SECRETS
 from openlink_update.input_files import InputFolder
 from openlink_update.library_sandbox import sandbox_of
-from openlink_update.machines.libraries import SHARED, SITE, Libraries
+from openlink_update.machines.libraries import ALONE, PROBES, SHARED, SITE, Libraries
 from openlink_update.outcome import ALL_NEW, KEPT, Failure, reset_signals
 from openlink_update.rights.lent_files import Lent
 from openlink_update.rights.sandbox import Job, Parent, input_by
@@ -47,10 +47,9 @@ from openlink_update.site.probing import Probes
 from openlink_update.update_options import Options
 from openlink_update.versions.library import Library, is_stamp, stamp_after
 
-ALONE = "."  # the library of a machine with one alone, by its place in the folder
 SECONDS_TO_ASK, _SECONDS_TO_SEND, _SECONDS_TO_RECEIVE = 60, 3600, 3600
 MOST_BYTES = 4 * 2**20  # that another machine may print
-PROBES, _OF = "probes.tsv", "# hold in "
+_OF = "# hold in "
 _FORCED = 'restrict,command="openlink-update --take"'
 # Of an input. Secrets stay here: another machine that has some loses them, since it fetches nothing.
 _NOT_SENT = (f"--filter=hide {SECRETS}",)
@@ -99,22 +98,6 @@ def _read(child: "subprocess.Popen[bytes]", streams: list[IO[bytes]], seconds: f
                 raise OverflowError
     child.wait(max(end - time.monotonic(), 0))
     return [text.decode("utf-8", "replace") for text in texts.values()]
-
-
-def text_in(path: Path) -> str:
-    try:
-        return path.read_text(encoding="utf-8", errors="replace")
-    except FileNotFoundError:
-        return ""
-
-
-def write(path: Path, text: str) -> None:
-    """Writes a file as a whole."""
-    new = path.with_name(f"{path.name}.new")
-    new.write_text(text, encoding="utf-8")
-    sync(new)
-    os.rename(new, path)
-    sync(path.parent)
 
 
 @dataclasses.dataclass(frozen=True)

@@ -3,9 +3,9 @@ import os
 import shutil
 from pathlib import Path
 
-from openlink_update.disk import sync
+from openlink_update.disk import sync, text_in
 from openlink_update.input_files import InputFolder
-from openlink_update.machines.machines import PROBES, text_in
+from openlink_update.machines.libraries import PROBES
 from openlink_update.outcome import ALL_NEW, Failure, ignore_signals
 from openlink_update.shown_text import report
 from openlink_update.versions import same_files

@@ -15,8 +15,8 @@ import os
 import re
 import shlex
 
-from openlink_update.machines.libraries import SHARED, is_name
-from openlink_update.machines.machines import ALONE, text_in, write
+from openlink_update.disk import text_in, write
+from openlink_update.machines.libraries import ALONE, SHARED, is_name
 from openlink_update.outcome import USAGE, Failure
 from openlink_update.shown_text import report
 from openlink_update.update_options import Options

@@ -38,9 +38,11 @@ def _is_known(number: int) -> bool:
 
 
 def _numbers_in_use() -> Iterator[int]:
-    """Those that processes have, but for processes that have ended and for which nobody has waited."""
+    """Those of these numbers that processes have, but for processes that have ended and for which nobody has waited."""
     for name in filter(str.isdigit, os.listdir("/proc")):
         with contextlib.suppress(OSError):
+            if os.stat(f"/proc/{name}/stat").st_uid not in _NUMBERS:
+                continue
             with open(f"/proc/{name}/stat", "rb") as file:
                 number, text = os.fstat(file.fileno()).st_uid, file.read()
             if text.rpartition(b") ")[2][:1] not in (b"Z", b"X"):

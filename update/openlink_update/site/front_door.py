@@ -155,7 +155,7 @@ class FrontDoor:
 
     def __exit__(self, *_: object) -> None:
         if self._child:
-            children.stop(self._child)
+            children.kill(self._child)  # nginx that is told to end takes as long as to start
         shutil.rmtree(self._folder, ignore_errors=True)
 
     def add_door(self, ports: Iterable[int], version: Path, targets: str) -> str:

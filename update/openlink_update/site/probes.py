@@ -122,7 +122,11 @@ def _rank_of(reason: str) -> int:
 
 def differences(front_door: str, reports: str, probe: Probe) -> list[str]:
     """Lines that say which targets are missing or too many, and why."""
-    menu = links(front_door, probe.query)
+    return differences_of(links(front_door, probe.query), reports, probe)
+
+
+def differences_of(menu: dict[str, str] | None, reports: str, probe: Probe) -> list[str]:
+    """The same, of the links that a probe has; None if the front door refuses it."""
     if menu is None:
         return ["  the front door refuses the query"]
     missing = [name for name in probe.targets if name not in menu]

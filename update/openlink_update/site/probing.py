@@ -42,11 +42,17 @@ class Probes:
 
     def differences(self, door: str) -> list[Difference]:
         """The probes that do not hold there."""
+        return self.tried(door)[0]
+
+    def tried(self, door: str) -> tuple[list[Difference], list[dict[str, str]]]:
+        """The probes that do not hold there, and the links of each probe."""
         try:
-            every = [Difference(probe, probes.differences(door, door, probe)) for probe in self.list]
+            menus = [probes.links(door, probe.query) for probe in self.list]
+            lines = [probes.differences_of(menu, door, probe) for menu, probe in zip(menus, self.list)]
         except Unreachable as fault:
             raise Failure(str(fault)) from fault
-        return [difference for difference in every if difference.lines]
+        differing = [Difference(probe, text) for probe, text in zip(self.list, lines) if text]
+        return differing, [menu or {} for menu in menus]
 
     def keep_those_that_hold(self, links: Sequence[dict[str, str]]) -> tuple[list[dict[str, str]], list[str]]:
         """Leaves out the probes that do not hold with these links. Returns the links of the others, and the lines of

@@ -4,14 +4,21 @@ from collections.abc import Sequence
 
 from openlink_update.tables.identifiers import form_of
 
-_WEIGHTS = (8, 7, 6, 5, 4, 3, 2)
 _ONES = {**{str(digit): digit for digit in range(10)}, "X": 10, "x": 10}
+
+
+def _sums(first: int, second: int) -> dict[str, int]:
+    """The weighted sum of each two digits with these weights."""
+    return {f"{number:02}": number // 10 * first + number % 10 * second for number in range(100)}
+
+
 # The weighted sum of the first four digits of an ISSN, and what that of its hyphen with the four after it lacks, both
-# modulo 11: in a right number they are the same.
-_HEADS = {f"{number:04}": sum(int(d) * w for d, w in zip(f"{number:04}", _WEIGHTS)) % 11 for number in range(10000)}
+# modulo 11: in a right number they are the same. Pairs of digits are added, since each run of the update makes these.
+_HEADS = {a + b: (first + second) % 11 for a, first in _sums(8, 7).items() for b, second in _sums(6, 5).items()}
 _TAILS = {
-    f"-{number:03}{last}": -(sum(int(d) * w for d, w in zip(f"{number:03}", _WEIGHTS[4:])) + one) % 11
-    for number in range(1000)
+    f"-{pair}{digit}{last}": -(first + 2 * int(digit) + one) % 11
+    for pair, first in _sums(4, 3).items()
+    for digit in "0123456789"
     for last, one in _ONES.items()
 }
 
