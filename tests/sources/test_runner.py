@@ -202,13 +202,15 @@ class Names(RunnerCase):
             self.write(f"crates/{name}/src/lib.rt", "")
 
     def test_chosen(self) -> None:
-        for arguments, count in NAMES:
-            status, lines = self.given(*arguments)
+        every = self.given_each([arguments for arguments, _ in NAMES])
+        self.expect("runs", len(every), len(NAMES))
+        for (arguments, count), (status, lines) in zip(NAMES, every):
             self.expect(f"{arguments}: {lines}", (status, lines[-1]), (0, f"{count} passed, 0 failed"))
 
     def test_unknown(self) -> None:
-        for arguments in WRONG:
-            status, lines = self.given(*arguments)
+        every = self.given_each(WRONG)
+        self.expect("runs", len(every), len(WRONG))
+        for arguments, (status, lines) in zip(WRONG, every):
             self.expect(f"{arguments}: {lines}", (status, any("passed" in it for it in lines)), (2, False))
 
 
