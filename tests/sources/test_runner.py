@@ -71,8 +71,8 @@ class Reports(RunnerCase):
     def test_what_it_takes_of_a_processor(self) -> None:
         self.module(
             "works",
-            GOOD + "    def test_work(self):\n        subprocess.run(['sh', '-c', 'i=0; while [ $i -lt "
-            "3000000 ]; do i=$((i+1)); done'])\n        self.expect('a', 1, 1)\n",
+            GOOD + "    def test_work(self):\n        subprocess.run([sys.executable, '-S', '-c', "
+            "'import time\\nwhile time.process_time() < 1.5: pass'])\n        self.expect('a', 1, 1)\n",
         )
         self.module(
             "sleeps", GOOD + "    def test_sleep(self):\n        time.sleep(2)\n" "        self.expect('a', 1, 1)\n"

@@ -10,7 +10,7 @@ import time
 from collections.abc import Callable
 from pathlib import Path
 
-_PAUSE = 0.02  # seconds between two looks
+_PAUSE = 0.05  # seconds between two looks
 
 
 def _children(process: int) -> list[int]:
