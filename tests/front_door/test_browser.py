@@ -174,7 +174,7 @@ class Embedding(SiteCase):
                 self.tidy(f"frames {text!r}: {target}", reply.text)
             staff = self.site.get("/why", port=self.site.report_port).headers["Content-Security-Policy"]
             self.expect(f"frames {text!r}: staff", staff.endswith("frame-ancestors 'none'"))
-            self.site.write_site(before)
+            self.site.write("openlink.conf", before)
 
     def test_closed(self) -> None:
         for text, closed in OF_CLOSED:
@@ -183,7 +183,7 @@ class Embedding(SiteCase):
             self.expect(f"closed {text!r}", found, closed)
             self.expect(f"closed {text!r}: the page", "Tidal Press" in self.site.get(f"/find?{ARTICLE}").text)
             self.expect(f"closed {text!r}: a redirect", self.site.get(f"/go?first=1&{ARTICLE}").status, 302)
-            self.site.write_site(before)
+            self.site.write("openlink.conf", before)
         self.site.edit((CLOSED, CLOSED.replace("#", "")))
         reply = self.site.get("/find.json?issn=2901-0012", "DELETE")
         self.expect("a wrong method", reply.status, 405)

@@ -67,7 +67,7 @@ class Health(SiteCase):
                 (status, lines[0], lines[-1].split(", ")[1]),
                 (200, first, f"{int(days)} days ago"),
             )
-            self.site.write_site(before)
+            self.site.write("openlink.conf", before)
 
     def test_health(self) -> None:
         """Each process, the version and its age."""

@@ -10,6 +10,7 @@ import tempfile
 
 from fixtures import needs
 from fixtures.cases import Case
+from fixtures.certificates import write_certificate
 from openlink_update import children
 
 PORTS = ("80", "443", "8077", "8078", "8079", "8080")
@@ -33,23 +34,7 @@ class Sites(Case):
         for name in ("log", "tls", "conf.d", "etc", "cache"):
             os.mkdir(f"{self.folder}/{name}")
         shutil.copytree("front_door", f"{self.folder}/front_door")
-        words = [
-            "openssl",
-            "req",
-            "-x509",
-            "-newkey",
-            "rsa:2048",
-            "-nodes",
-            "-days",
-            "2",
-            "-subj",
-            "/CN=a",
-            "-keyout",
-            f"{self.folder}/tls/privkey.pem",
-            "-out",
-            f"{self.folder}/tls/fullchain.pem",
-        ]
-        subprocess.run(words, check=True, capture_output=True)
+        write_certificate(f"{self.folder}/tls/privkey.pem", f"{self.folder}/tls/fullchain.pem", "a")
         self.ports = {port: str(children.free_port()) for port in PORTS}
         for name in os.listdir("front_door"):
             if name.endswith(".conf"):

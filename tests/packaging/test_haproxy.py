@@ -12,6 +12,7 @@ import tempfile
 
 from fixtures import needs
 from fixtures.cases import Case
+from fixtures.certificates import write_certificate
 from fixtures.patience import wait_until
 from openlink_update import children
 from packaging import declarations
@@ -58,23 +59,7 @@ class Tls(Case):
         self.folder = tempfile.mkdtemp(prefix="haproxy.")
         self.addCleanup(shutil.rmtree, self.folder)
         self.plain, self.secure, self.closed = (children.free_port() for _ in range(3))
-        words = [
-            "openssl",
-            "req",
-            "-x509",
-            "-newkey",
-            "rsa:2048",
-            "-nodes",
-            "-days",
-            "2",
-            "-subj",
-            "/CN=a",
-            "-keyout",
-            f"{self.folder}/key",
-            "-out",
-            f"{self.folder}/chain",
-        ]
-        subprocess.run(words, check=True, capture_output=True)
+        write_certificate(f"{self.folder}/key", f"{self.folder}/chain", "a")
         with open(f"{self.folder}/certificate", "w", encoding="utf-8") as file:
             file.write(text_of(f"{self.folder}/chain") + text_of(f"{self.folder}/key"))
         with open(f"{self.folder}/haproxy.cfg", "w", encoding="utf-8") as file:

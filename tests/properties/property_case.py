@@ -2,6 +2,7 @@
 seed they are the same in each run."""
 from __future__ import annotations
 
+import functools
 import os
 from collections.abc import Callable
 from typing import Any
@@ -45,6 +46,12 @@ def cases_of(strategy: Any) -> list[Any]:
     return found
 
 
+@functools.cache
+def _shared(made: Callable[[], Any]) -> list[Any]:
+    """The cases of the strategy that a function makes, once for all tests of this process."""
+    return cases_of(made())
+
+
 class PropertyCase(Case):
     def hold(self, strategy: Any, holds: Callable[[Any], None]) -> None:
         """The function raises an AssertionError for no case."""
@@ -57,6 +64,22 @@ class PropertyCase(Case):
 
         _run(strategy, use)
         self.expect_cases(count)
+
+    def hold_shared(self, holds: Callable[[Any], None], *made: Callable[[], Any]) -> None:
+        """The same of the strategies that functions make, of tuples if they are several. Tests of one function take the
+        same cases, since most of the time goes into making them; in runs with a seed each has its own."""
+        strategy = made[0]() if len(made) == 1 else strategies.tuples(*(it() for it in made))
+        if _SEED:
+            self.hold(strategy, holds)
+            return
+        cases = _shared(made[0]) if len(made) == 1 else [*zip(*map(_shared, made))]
+        try:
+            for case in cases:
+                holds(case)
+        except Exception:
+            _run(strategy, holds)  # raises what fails of a small case, if it finds one
+            raise
+        self.expect_cases(len(cases))
 
     def expect_cases(self, count: int) -> None:
         """So many cases were made: hypothesis stops before if there are no more."""

@@ -92,7 +92,7 @@ class Days(PropertyCase):
                 is_within = int(start) <= day.year * 10000 + day.month * 100 + day.day <= int(end)
                 assert is_within == is_open(day.isoformat(), first, last, parts, today), (case, start, end, day)
 
-        self.hold(_cases(), holds)
+        self.hold_shared(holds, _cases)
 
     def test_rows_that_have_no_day(self) -> None:
         """Where the bounds say that no day is open, none is, around every date of the row."""
@@ -108,4 +108,4 @@ class Days(PropertyCase):
             for day in [day for edge in edges for day in around(edge.replace("-", ""))]:
                 assert not is_open(day.isoformat(), first, last, parts, today), (case, day)
 
-        self.hold(_cases(), holds)
+        self.hold_shared(holds, _cases)

@@ -4,6 +4,7 @@ from __future__ import annotations
 import os
 import shlex
 import tempfile
+import types
 from pathlib import Path
 from typing import Any
 from unittest import mock
@@ -61,23 +62,32 @@ def _requests() -> Any:
 
 
 class _Replaced(Exception):
-    """The process would be another program now."""
+    """The process would be another program now, with these words."""
+
+    def __init__(self, _: str, words: list[str]) -> None:
+        super().__init__()
+        self.words = words
+
+
+def _replace(program: str, words: list[str]) -> None:
+    raise _Replaced(program, words)
 
 
 def taken(words: list[str], folder: str, is_forced: bool) -> Any:
     """What comes of a request, which sshd or the command line gives: 'refused', the words of a program, what a run has
     to receive, or nothing."""
-    options = mock.Mock(library=Path(folder), take=[] if is_forced else words)
+    # Its own functions take the place of others: a Mock takes as long as all the rest.
+    options: Any = types.SimpleNamespace(library=Path(folder), take=[] if is_forced else words)
     asked = mock.patch.dict(os.environ, SSH_ORIGINAL_COMMAND=shlex.join(words))
-    calls = {"execvp": mock.Mock(side_effect=_Replaced), "chdir": mock.Mock()}
+    calls = mock.patch.multiple(os, execvp=_replace, chdir=lambda _: None)
     run = mock.patch.object(taking.dataclasses, "replace", lambda _, **fields: fields)
-    with asked, mock.patch.multiple(os, **calls), run, mock.patch.object(taking, "report"):
+    with asked, calls, run, mock.patch.object(taking, "report", lambda _: None):
         try:
             return taking.take(options)
         except Failure:
             return "refused"
-        except _Replaced:
-            return calls["execvp"].call_args[0][1]
+        except _Replaced as program:
+            return program.words
 
 
 @needs.hypothesis()

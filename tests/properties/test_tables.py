@@ -40,7 +40,7 @@ class Tables(PropertyCase):
             assert again.table == once.table, (once.table, again.table)
             assert (again.lines, again.dropped) == ([line for line in again.lines if "first dates" in line], [])
 
-        self.hold(made_tables.files(), holds)
+        self.hold_shared(holds, made_tables.files)
 
     def test_each_row_is_served_or_listed(self) -> None:
         """A row that is the same as an earlier one is in the table once. The last rows, if they have neither a number
@@ -58,7 +58,7 @@ class Tables(PropertyCase):
                 assert sum(row.mark in line for line in lines) == (row.mark in kept), (row, lines, it.lines)
             assert len(lines) == len(kept), (lines, it.lines)
 
-        self.hold(made_tables.files(), holds)
+        self.hold_shared(holds, made_tables.files)
 
     def test_numbers_of_a_file_are_those_that_are_served(self) -> None:
         def holds(file: Any) -> None:
@@ -70,7 +70,7 @@ class Tables(PropertyCase):
             wanted = sorted(without_dashes(number) for row in file.rows for number in row.numbers)
             assert sorted(served) == wanted, (file.rows, it.table.rows)
 
-        self.hold(made_tables.files(), holds)
+        self.hold_shared(holds, made_tables.files)
 
     def test_a_table_that_is_served_has_the_rows_in_their_order(self) -> None:
         """What coverage adds is after the table's own columns, and the rows stay what they are."""
@@ -86,7 +86,7 @@ class Tables(PropertyCase):
                 filled = own + [""] * (width - len(own))
                 assert row[:width] == filled[:width] and row[width + 2 :] == own[width:], (row, own)
 
-        self.hold(st.tuples(made_tables.files(), st.dates()), holds)
+        self.hold_shared(holds, made_tables.files, st.dates)
 
     def test_dates_twice(self) -> None:
         """A date in the standard's form stays, and each other text becomes one, or stays too."""

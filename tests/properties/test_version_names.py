@@ -83,7 +83,7 @@ class VersionNames(PropertyCase):
             with mock.patch.object(library, "_now", lambda: now):
                 assert library.is_stamp(name) == is_name(name, now), case
 
-        self.hold(_pairs(), holds)
+        self.hold_shared(holds, _pairs)
 
     def test_the_next_is_after_all(self) -> None:
         """Also if the clock was put back."""

@@ -2,6 +2,7 @@
 from __future__ import annotations
 
 import ast
+import json
 import os
 import re
 import shutil
@@ -9,6 +10,7 @@ import signal
 import subprocess
 import sys
 import tempfile
+from collections.abc import Sequence
 from typing import Any
 
 from fixtures.cases import Case
@@ -50,6 +52,30 @@ def long_modules(text: str = "") -> dict[str, int]:
     return found
 
 
+# Runs the script several times, in one process, each with one of the lists of arguments that are its input. Prints the
+# status of each and what it says.
+SEVERAL_RUNS = """
+import contextlib, io, json, runpy, sys
+for sys.argv[1:] in json.load(sys.stdin):
+    said, status = io.StringIO(), None
+    with contextlib.redirect_stdout(said), contextlib.redirect_stderr(said):
+        try:
+            runpy.run_path("test", run_name="__main__")
+        except SystemExit as ended:
+            status = ended.code
+    print(json.dumps([status, said.getvalue()]))
+"""
+
+
+def _heed_interrupts() -> None:
+    signal.signal(signal.SIGINT, signal.SIG_DFL)
+
+
+def lines_of(printed: str) -> list[str]:
+    """The lines without seconds."""
+    return re.sub(r" in \d+ s, \d+ of a processor:", ":", printed).splitlines()
+
+
 class RunnerCase(Case):
     """A copy of the runner and of what tests share."""
 
@@ -79,22 +105,30 @@ class RunnerCase(Case):
     def module(self, name: str, text: str) -> None:
         self.write(f"tests/sources/test_{name}.py", IMPORTS + text)
 
-    def start(self, *arguments: str, **more: str) -> subprocess.Popen[str]:
-        """Starts the runner, with more variables. What a shell starts in the background ignores an interrupt; the
-        runner does not here."""
+    def how(self, **more: str) -> dict[str, Any]:
+        """How the runner starts, with more variables."""
         path = f"{self.top}/bin:{os.environ['PATH']}"
-        how: dict[str, Any] = {
+        return {
             "cwd": self.top,
             "env": {**os.environ, "PATH": path, "OPENLINK_JOBS": "4", **more},
             "stdout": subprocess.PIPE,
             "stderr": subprocess.STDOUT,
             "encoding": "utf-8",
-            "preexec_fn": lambda: signal.signal(signal.SIGINT, signal.SIG_DFL),
         }
-        return subprocess.Popen([sys.executable, "-B", "test", *arguments], **how)
+
+    def start(self, *arguments: str, **more: str) -> subprocess.Popen[str]:
+        """Starts the runner. What a shell starts in the background ignores an interrupt; the runner does not here."""
+        words = [sys.executable, "-B", "test", *arguments]
+        return subprocess.Popen(words, preexec_fn=_heed_interrupts, **self.how(**more))
 
     def given(self, *arguments: str, **more: str) -> tuple[int, list[str]]:
         """The status, and the lines without seconds."""
         process = self.start(*arguments, **more)
         printed = process.communicate()[0]
-        return process.returncode, re.sub(r" in \d+ s, \d+ of a processor:", ":", printed).splitlines()
+        return process.returncode, lines_of(printed)
+
+    def given_each(self, every: Sequence[Sequence[str]]) -> list[tuple[int, list[str]]]:
+        """The same for each of these arguments."""
+        words = [sys.executable, "-B", "-c", SEVERAL_RUNS]
+        printed = subprocess.run(words, input=json.dumps(every), check=True, **self.how()).stdout
+        return [(status, lines_of(said)) for status, said in map(json.loads, printed.splitlines())]

@@ -18,14 +18,15 @@ PATTERN = "tests/**/*.py"
 LEFT_OUT = ("tests/fixtures/needs.py", "tests/sources/test_cases.py", "tests/sources/test_needs.py")
 SKIPS = {"skipTest", "skipIf", "skipUnless", "skip", "SkipTest"}
 LEAST_FILES, LEAST_COMMANDS = 100, 8
+_A_SKIP, _A_COMMAND = re.compile(rf"\b({'|'.join(SKIPS)})\b"), re.compile(r"\bneeds\s*\.\s*command\b")
 
 
 _tree = functools.lru_cache(maxsize=None)(ast.parse)
 
 
 def faults(path: str, text: str) -> Iterator[str]:
-    """What is wrong in a file of tests."""
-    for node in ast.walk(_tree(text)):
+    """What is wrong in a file of tests. It is parsed only if it has one of the words."""
+    for node in ast.walk(_tree(text)) if _A_SKIP.search(text) else ():
         name = node.attr if isinstance(node, ast.Attribute) else node.id if isinstance(node, ast.Name) else ""
         if name in SKIPS:
             yield f"{path}:{node.lineno}: {name} and no decorator of fixtures/needs.py"
@@ -34,10 +35,11 @@ def faults(path: str, text: str) -> Iterator[str]:
             yield f"{path}: fixtures/needs.py names no package for {command}"
 
 
+@functools.cache
 def commands(text: str) -> set[str]:
     """The commands that decorators of a file name."""
-    found = set()
-    for node in ast.walk(_tree(text)):
+    found: set[str] = set()
+    for node in ast.walk(_tree(text)) if _A_COMMAND.search(text) else ():
         if isinstance(node, ast.Call) and isinstance(node.func, ast.Attribute) and node.func.attr == "command":
             if isinstance(node.func.value, ast.Name) and node.func.value.id == "needs":
                 found |= {it.value if isinstance(it, ast.Constant) else ast.unparse(it) for it in node.args}
@@ -98,9 +100,9 @@ def faults_of_installed(packages: dict[str, str]) -> list[str]:
 class Packages(Case):
     @needs.package_lists()
     def test_names(self) -> None:
-        names = {*needs.PACKAGES.values()}
-        self.expect("unknown packages", unknown(names), set())
-        self.expect("one that is none", unknown({*names, "nosuch-package"}), {"nosuch-package"})
+        found = unknown({*needs.PACKAGES.values(), "nosuch-package"})
+        self.expect("unknown packages", found - {"nosuch-package"}, set())
+        self.expect("one that is none", "nosuch-package" in found)
 
     @needs.command("dpkg")
     def test_commands(self) -> None:

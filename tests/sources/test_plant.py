@@ -15,6 +15,7 @@ from pathlib import Path
 import fixtures
 from fixtures import needs
 from fixtures.cases import Case
+from fixtures.patience import patience
 from fixtures.patience import wait_until
 
 TOP = Path(fixtures.TOP)
@@ -196,8 +197,9 @@ class Planting(Repository):
         path = "update/openlink_update/numbers.py"
         head, row = "file\told line\tnew line\treason\n", f"{path}\treturn number > 7\treturn number >= 7\t"
         self.write("tools/planting/never.tsv", f"{head}{row}nobody calls it\n")
-        said = self.given("tools/plant", f"{path}:6")[1]
-        self.expect_lines("without the one that is listed", said, "4 planted, 0 seen, 4 not seen")
+        listed = self.given("tools/plant", "--list", f"{path}:6")[1]
+        self.expect(f"without the one that is listed: {listed}", listed.count(": it can be planted\n"), 4)
+        self.expect("which one", "  + return number >= 7\n" in listed, False)
         self.write("tools/planting/never.tsv", f"{head}{row} \n")
         status, said = self.given("tools/plant", f"{path}:6")
         self.expect(f"without a reason: {said}", (status != 0, "a reason, and not" in said), (True, True))
@@ -212,13 +214,13 @@ class Planting(Repository):
             "texts": {"before": ["# before it", *SOURCE.splitlines()]},
         }
         self.write("tools/out/lines.json", json.dumps(found))
-        said = self.given("tools/plant", f"{path}:2-2")[1]
-        self.expect_lines("a line that has moved", said, "5 planted, 5 seen, 0 not seen")
+        said = self.given("tools/plant", "--count", "2", f"{path}:2-2")[1]
+        self.expect_lines("a line that has moved", said, "2 planted, 2 seen, 0 not seen")
         said = self.given("tools/plant", f"{path}:6")[1]
         self.expect("tests of the other", said.count(": not seen by 0 tests\n"), 5)
         self.write("tests/update/test_one.py", OTHER)
-        said = self.given("tools/plant", f"{path}:6")[1]
-        self.expect("a test that was not measured", said.count(": not seen by 1 tests\n"), 5)
+        said = self.given("tools/plant", "--count", "2", f"{path}:6")[1]
+        self.expect("a test that was not measured", said.count(": not seen by 1 tests\n"), 2)
         for number, count in ((2, 5), (6, 0)):
             listed = self.given("tools/plant", "--list", "--measured", f"{path}:{number}")[1]
             self.expect(f"measured bugs of line {number}", listed.count(": it can be planted\n"), count)
@@ -273,9 +275,9 @@ class Planting(Repository):
         meeting = self.folder / "meeting"
         meeting.mkdir()
         path = "update/openlink_update/numbers.py:2"
-        process = self.start("tools/plant", path, OPENLINK_JOBS="2", PLANT_MEETING=str(meeting))
-        said = process.communicate()[0]
-        self.expect_lines("what is planted", said, "5 planted, 5 seen, 0 not seen")
+        words = ("tools/plant", "--count", "2", path)
+        said = self.start(*words, OPENLINK_JOBS="2", PLANT_MEETING=str(meeting)).communicate()[0]
+        self.expect_lines("what is planted", said, "2 planted, 2 seen, 0 not seen")
         notes = [it.read_text(encoding="utf-8") for it in meeting.iterdir()]
         self.expect("copies, which others than root may read", notes, ["True", "True"])
 
@@ -284,15 +286,14 @@ class Planting(Repository):
         self.write("tests/update/test_one.py", OTHER)
         self.write("tests/update/test_two.py", OTHER)
         place = self.folder / "processes"
-        path = "update/openlink_update/numbers.py:6"
-        said = self.start("tools/plant", path, OPENLINK_JOBS="1", PLANT_PROCESSES=str(place)).communicate()[0]
-        self.expect("tests of each bug", said.count(": not seen by 3 tests\n"), 5)
+        words, more = ("tools/plant", "--count", "2"), {"OPENLINK_JOBS": "1", "PLANT_PROCESSES": str(place)}
+        said = self.start(*words, "update/openlink_update/numbers.py:6", **more).communicate()[0]
+        self.expect("tests of each bug", said.count(": not seen by 3 tests\n"), 2)
         noted = place.read_text(encoding="utf-8").split()
-        self.expect("notes, and processes", (len(noted), len({*noted})), (10, 5))
-        path = "update/openlink_update/numbers.py:2"
+        self.expect("notes, and processes", (len(noted), len({*noted})), (4, 2))
         place.unlink()
-        said = self.start("tools/plant", path, OPENLINK_JOBS="1", PLANT_PROCESSES=str(place)).communicate()[0]
-        self.expect_lines("of the other function", said, "5 planted, 5 seen, 0 not seen")
+        said = self.start(*words, "update/openlink_update/numbers.py:2", **more).communicate()[0]
+        self.expect_lines("of the other function", said, "2 planted, 2 seen, 0 not seen")
         self.expect("tests after the one that failed", place.exists(), False)
 
     def test_minutes(self) -> None:
@@ -311,10 +312,8 @@ class Planting(Repository):
 
     def test_time_limit(self) -> None:
         """A bug that lets a test hang is seen."""
-        process = self.start(
-            "tools/plant", "--limit", "3", "update/openlink_update/numbers.py:2", PLANT_WAITS=str(self.folder / "waits")
-        )
-        said = process.communicate()[0]
+        words = ("tools/plant", "--limit", str(patience(3)), "update/openlink_update/numbers.py:2")
+        said = self.start(*words, PLANT_WAITS=str(self.folder / "waits")).communicate()[0]
         self.expect("it waited", (self.folder / "waits").exists())
         self.expect_lines("all of them", said, "5 planted, 5 seen, 0 not seen")
 
@@ -332,16 +331,18 @@ class Planting(Repository):
 
 
 class Bugs(Repository):
-    def listed(self, name: str) -> set[tuple[str, str]]:
-        """The kind and the new text of each bug of a file."""
-        said = self.given("tools/plant", "--list", name)[1]
-        return {*re.findall(r"^\S+:\d+: ([\w ]+): it can be planted\n  - .*\n  \+ (.*)$", said, re.M)}
+    def listed(self, *names: str) -> set[tuple[str, str, str]]:
+        """The file, the kind and the new text of each bug of files."""
+        said = self.given("tools/plant", "--list", *names)[1]
+        return {*re.findall(r"^(\S+):\d+: ([\w ]+): it can be planted\n  - .*\n  \+ (.*)$", said, re.M)}
 
     @needs.command("git")
     def test_kinds(self) -> None:
-        for name, text, wanted in KNOWN:
+        for name, text, _ in KNOWN:
             self.write(f"update/{name}", text)
-            found = self.listed(f"update/{name}")
+        every = self.listed(*(f"update/{name}" for name, _, _ in KNOWN))
+        for name, _, wanted in KNOWN:
+            found = {(kind, new) for path, kind, new in every if path == f"update/{name}"}
             for bug in wanted:
                 self.expect(f"{name}: {bug}, among {sorted(found)}", bug in found)
 

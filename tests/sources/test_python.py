@@ -5,6 +5,7 @@ mistake in it."""
 from __future__ import annotations
 
 import ast
+import functools
 import os
 import shutil
 import subprocess
@@ -71,6 +72,16 @@ SPOILT = (
 )
 
 
+@functools.lru_cache(maxsize=None)
+def _parsed(text: str) -> ast.Module:
+    """Of a spoilt copy, most files are the same again."""
+    return ast.parse(text)
+
+
+def tree_of(path: Path) -> ast.Module:
+    return _parsed(path.read_text(encoding="utf-8"))
+
+
 def modules(folder: Path) -> list[Path]:
     return sorted((folder / PACKAGE).rglob("*.py"))
 
@@ -108,15 +119,20 @@ def public_names(tree: ast.Module) -> Iterator[str]:
             yield from (name.id for name in ast.walk(target) if isinstance(name, ast.Name))
 
 
-def uses_in(tree: ast.Module) -> Iterator[tuple[str, str]]:
-    """Yields pairs of a module of the package and a name of it that a file uses."""
-    of_names = {}
-    for node in ast.walk(tree):
+@functools.lru_cache(maxsize=None)
+def uses_in(text: str) -> frozenset[tuple[str, str]]:
+    """Pairs of a module of the package and a name of it that a file uses."""
+    return frozenset(_uses_in(_parsed(text)))
+
+
+def _uses_in(tree: ast.Module) -> Iterator[tuple[str, str]]:
+    of_names, nodes = {}, [*ast.walk(tree)]
+    for node in nodes:
         if isinstance(node, ast.ImportFrom) and (node.module or "").startswith(PACKAGE):
             for alias in node.names:
                 yield str(node.module), alias.name
                 of_names[alias.asname or alias.name] = f"{node.module}.{alias.name}"
-    for node in ast.walk(tree):
+    for node in nodes:
         if isinstance(node, ast.Attribute) and isinstance(node.value, ast.Name) and node.value.id in of_names:
             yield of_names[node.value.id], node.attr
         elif isinstance(node, ast.Attribute) and isinstance(node.value, ast.Attribute):  # of a module in a module
@@ -136,20 +152,25 @@ def python_files(folder: Path) -> Iterator[Path]:
 def faults_of_names(folder: Path) -> Iterator[str]:
     used: set[tuple[str, str]] = set()
     for path in python_files(folder):
-        used.update(uses_in(ast.parse(path.read_text(encoding="utf-8"))))
+        used |= uses_in(path.read_text(encoding="utf-8"))
     for path in modules(folder):
         if path.name == "__init__.py":
             continue
         name = ".".join(path.relative_to(folder).with_suffix("").parts)
-        for public in public_names(ast.parse(path.read_text(encoding="utf-8"))):
+        for public in public_names(tree_of(path)):
             if not public.startswith("_") and not {(name, public), (path.stem, public)} & used:
                 yield f"{path.relative_to(folder)}: {public} is used nowhere else, and has no _"
 
 
+@functools.lru_cache(maxsize=None)
+def _imports_in(text: str) -> list[ast.ImportFrom]:
+    return [node for node in ast.walk(_parsed(text)) if isinstance(node, ast.ImportFrom)]
+
+
 def modules_used(path: Path) -> Iterator[tuple[str, str]]:
     """Yields pairs of a subpackage and a module of it that a file imports."""
-    for node in ast.walk(ast.parse(path.read_text(encoding="utf-8"))):
-        if isinstance(node, ast.ImportFrom) and (node.module or "").startswith(f"{PACKAGE}."):
+    for node in _imports_in(path.read_text(encoding="utf-8")):
+        if (node.module or "").startswith(f"{PACKAGE}."):
             for alias in node.names:
                 subpackage, *module = [*str(node.module).split(".")[1:], alias.name]
                 yield subpackage, module[0]
@@ -158,7 +179,7 @@ def modules_used(path: Path) -> Iterator[tuple[str, str]]:
 def exported(path: Path) -> list[str]:
     """What the last `__all__` of a module has."""
     found: list[str] = []
-    for node in ast.parse(path.read_text(encoding="utf-8")).body:
+    for node in tree_of(path).body:
         if isinstance(node, ast.Assign) and ast.unparse(node.targets[0]) == "__all__":
             found = ast.literal_eval(node.value)
     return found

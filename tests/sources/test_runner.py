@@ -71,8 +71,8 @@ class Reports(RunnerCase):
     def test_what_it_takes_of_a_processor(self) -> None:
         self.module(
             "works",
-            GOOD + "    def test_work(self):\n        subprocess.run(['sh', '-c', 'i=0; while [ $i -lt "
-            "3000000 ]; do i=$((i+1)); done'])\n        self.expect('a', 1, 1)\n",
+            GOOD + "    def test_work(self):\n        subprocess.run([sys.executable, '-S', '-c', "
+            "'import time\\nwhile time.process_time() < 1.5: pass'])\n        self.expect('a', 1, 1)\n",
         )
         self.module(
             "sleeps", GOOD + "    def test_sleep(self):\n        time.sleep(2)\n" "        self.expect('a', 1, 1)\n"
@@ -202,13 +202,15 @@ class Names(RunnerCase):
             self.write(f"crates/{name}/src/lib.rt", "")
 
     def test_chosen(self) -> None:
-        for arguments, count in NAMES:
-            status, lines = self.given(*arguments)
+        every = self.given_each([arguments for arguments, _ in NAMES])
+        self.expect("runs", len(every), len(NAMES))
+        for (arguments, count), (status, lines) in zip(NAMES, every):
             self.expect(f"{arguments}: {lines}", (status, lines[-1]), (0, f"{count} passed, 0 failed"))
 
     def test_unknown(self) -> None:
-        for arguments in WRONG:
-            status, lines = self.given(*arguments)
+        every = self.given_each(WRONG)
+        self.expect("runs", len(every), len(WRONG))
+        for arguments, (status, lines) in zip(WRONG, every):
             self.expect(f"{arguments}: {lines}", (status, any("passed" in it for it in lines)), (2, False))
 
 

@@ -1,6 +1,6 @@
 """Measures and parses each script of the repository: no line has more than 120 columns, Python parses as version 3.10
-does, shellcheck has nothing to say of a shell script, and pyflakes nothing of Python. JavaScript is parsed by node.
-Each of these refuses a copy of a script with a mistake in it."""
+does, shellcheck has nothing to say of a shell script, and pyflakes nothing of Python. JavaScript is parsed by node, all
+files in one process. Each of these refuses a copy of a script with a mistake in it."""
 from __future__ import annotations
 
 import ast
@@ -23,6 +23,18 @@ PYTHON = (3, 10)
 LEAST = {"python3": 250, "bash": 15, "sh": 6, "node": 30}
 AMONG = ("update/update", "update/fetch", "update/library", "packaging/release", "front_door/find.js", "test")
 LINTERS = {"shellcheck": (["shellcheck", "--format=gcc"], ("bash", "sh")), "pyflakes3": (["pyflakes3"], ("python3",))}
+# Parses the modules that its arguments name; `node --check` takes one, and accepts what follows an import in a file.
+MODULES = """
+const fs = require('fs'), vm = require('vm');
+for (const path of process.argv.slice(1)) {
+    try {
+        new vm.SourceTextModule(fs.readFileSync(path, 'utf8'), { identifier: path });
+    } catch (e) {
+        console.log(path + ': ' + e);
+        process.exitCode = 1;
+    }
+}
+"""
 # A script, what is appended to a copy of it, and what refuses the copy.
 SPOILT = (
     ("update/fetch", f"# {'x' * MOST_COLUMNS}\n", "columns"),
@@ -78,28 +90,30 @@ def faults_of_columns(found: Sequence[Script]) -> list[str]:
     ]
 
 
-def said(words: list[str], text: str | None = None) -> str:
+def said(words: list[str]) -> str:
     """Returns what a command says if it fails."""
-    ran = subprocess.run(words, input=text, stdout=subprocess.PIPE, stderr=subprocess.STDOUT, encoding="utf-8")
+    ran = subprocess.run(words, stdout=subprocess.PIPE, stderr=subprocess.STDOUT, encoding="utf-8")
     return ran.stdout.strip() or f"{words[0]} ended with status {ran.returncode}" if ran.returncode else ""
 
 
-def fault_of_syntax(script: Script, reader: str) -> str:
-    """What its reader, a command, says of the syntax of a script. Python is read here."""
-    if script.kind == "python3":
-        try:
-            ast.parse(script.text, script.path, feature_version=PYTHON)
-        except SyntaxError as error:
-            return f"{script.path}:{error.lineno}: {error.msg}"
-        return ""
-    if script.kind != "node":
-        return said([reader, "-n", script.path])
-    # node accepts whatever follows an import in a file, but not in its standard input.
-    return said([reader, "--check", "--input-type=module", "-"], script.text).replace("[stdin]", script.path)
+def fault_of_python(script: Script) -> str:
+    try:
+        ast.parse(script.text, script.path, feature_version=PYTHON)
+    except SyntaxError as error:
+        return f"{script.path}:{error.lineno}: {error.msg}"
+    return ""
 
 
 def faults_of_syntax(kind: str, found: Sequence[Script], reader: str) -> list[str]:
-    faults = [fault_of_syntax(it, reader) for it in found if it.kind == kind]
+    """What a kind's reader, a command, says of the syntax of its scripts. Python is read here."""
+    those = [it for it in found if it.kind == kind]
+    if kind == "python3":
+        faults = map(fault_of_python, those)
+    elif kind == "node":
+        words = [reader, "--experimental-vm-modules", "--no-warnings", "-e", MODULES]
+        faults = map(said, [[*words, *(it.path for it in those)]])
+    else:
+        faults = (said([reader, "-n", it.path]) for it in those)
     return [it for it in faults if it]
 
 

@@ -11,14 +11,14 @@ from fixtures import TOP
 from fixtures.cases import Case
 
 # It checks the files of proofs that have changed, each in little of a processor's time, and those with a call of grind
-# and the word "slow" in a second; it writes a file for each.
+# and the word "slow" in 0.7 seconds; it writes a file for each.
 STAND_IN = """#!/usr/bin/env -S python3 -SE
 import glob, os, time
 os.makedirs("out/incremental/a", exist_ok=True)
 for path in sorted(glob.glob("proofs/**/*.antt", recursive=True)):
     text, done = open(path).read(), f"out/incremental/a/Rattle-small-{path[:-5].replace('/', '.')}.oantt"
     if not os.path.exists(done) or open(done).read() != text:
-        seconds = 1 if "grind" in text and "slow" in text else 0.02
+        seconds = 0.7 if "grind" in text and "slow" in text else 0.02
         until = time.process_time() + seconds
         while time.process_time() < until:
             pass

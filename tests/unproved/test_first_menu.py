@@ -6,11 +6,14 @@ import os
 import shutil
 import subprocess
 import tempfile
+import time
+from typing import Any
 
 from fixtures import TOP, needs
 from fixtures.cases import Case
 from fixtures.patience import patience
 from program.test_readme import TRY, read
+from unproved import without_hint
 
 SECONDS = 300
 # What stands in for the toolchain: it says what `rt try` says around an error of the program.
@@ -24,14 +27,20 @@ exit 3
 
 
 def run(*arguments: str, **environment: str) -> tuple[int, str, str]:
-    ran = subprocess.run(
-        [f"{TOP}/{TRY}", *arguments],
-        env={**os.environ, **environment},
-        capture_output=True,
-        encoding="utf-8",
-        timeout=patience(SECONDS),
-    )
-    return ran.returncode, ran.stdout, ran.stderr
+    """The status, standard output and standard error. What is printed is short."""
+    with tempfile.TemporaryFile() as out, tempfile.TemporaryFile() as errors:
+        how: dict[str, Any] = {"stdin": subprocess.DEVNULL, "stdout": out, "stderr": errors}
+        process = subprocess.Popen([f"{TOP}/{TRY}", *arguments], env={**os.environ, **environment}, **how)
+        started = time.monotonic()
+
+        def end_if_late() -> None:
+            if time.monotonic() - started > SECONDS and time.monotonic() - started > patience(SECONDS):
+                process.kill()
+
+        status = without_hint.wait(process, end_if_late)
+        for file in (out, errors):
+            file.seek(0)
+        return status, out.read().decode(), errors.read().decode()
 
 
 class FirstMenu(Case):

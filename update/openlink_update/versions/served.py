@@ -110,8 +110,10 @@ def _content(path: Path) -> bytes | None:
         return None
 
 
-if __name__ == "__main__":
+if __name__ == "__main__":  # with a day, and for each table its path and that of what is written
+    given, *places = sys.argv[1:]
     try:
-        sys.stdout.buffer.write(prepared_table(sys.argv[1], datetime.date.fromisoformat(sys.argv[2])))
+        for source, result in zip(places[::2], places[1::2]):
+            Path(result).write_bytes(prepared_table(source, datetime.date.fromisoformat(given)))
     except Refused as refusal:
         sys.exit("\n".join(refusal.reasons))
