@@ -3,6 +3,7 @@ from __future__ import annotations
 
 import contextlib
 import datetime
+import gc
 import io
 import os
 import tempfile
@@ -24,6 +25,8 @@ from openlink_update.rights.sandbox import Job
 from openlink_update.rights.sandbox import Sandbox
 from openlink_update.site import front_door
 from openlink_update.site.probing import Difference
+from openlink_update.site.probing import Trial
+from openlink_update.versions import making
 from openlink_update.versions import tables_again
 from openlink_update.versions.program import Program
 from openlink_update.weekly_run import Run
@@ -92,6 +95,13 @@ LONGER = "rows longer than the header 1"
 
 
 class Versions(Case):
+    def test_memory(self) -> None:
+        """Python looks for cycles again once millions of cells were compared, also if that ended with an error."""
+        with contextlib.suppress(ValueError), making._collecting_nothing():
+            self.expect("while they are", gc.isenabled(), False)
+            raise ValueError
+        self.expect("then", gc.isenabled())
+
     def test_no_target(self) -> None:
         with Weeks() as weeks:
             weeks.write("targets.tsv", b"press\tpress.rules\tpress.txt\n")
@@ -122,6 +132,29 @@ class Versions(Case):
                 archive.writestr(name, "<a/>")
         text = "a spreadsheet packed in a way that none is: save it again"
         self.expect("bzip2", reason(spreadsheets.sheet_of, written.getvalue(), ""), text)
+
+
+class Trials(Case):
+    """A process that serves a version for a trial."""
+
+    def said_of(self, script: str) -> str:
+        """Why none serves a version with a program that does what a script does."""
+        with tempfile.TemporaryDirectory() as folder:
+            program = Path(folder, "program")
+            program.write_text(f"#!/bin/sh\n{script}\n", encoding="utf-8")
+            program.chmod(0o755)
+
+            def start() -> None:
+                with Trial(str(program), Path(folder), 9):
+                    pass
+
+            return reason(start).removeprefix(folder)
+
+    def test_that_does_not_listen(self) -> None:
+        start = " cannot be served: "
+        words = "serve registry.tsv 9 1000000"
+        self.expect("its complaint", self.said_of('echo "$@" >&2; echo more >&2; exit 3'), f"{start}{words}\nmore")
+        self.expect("none", self.said_of("exit 3"), f"{start}it does not listen")
 
 
 class Doors(Case):
