@@ -249,6 +249,8 @@ const AROUND = [
         "x.doi=10.5555/a-_.~:;()!$'*,=@b"],
     ['brackets around it', 'rft_val_fmt=x&rft_id=(doi:+10.5555/abc)', 'x.doi=10.5555/abc'],
     ['a proxy', 'rft_val_fmt=x&rft_id=https://doi-org.proxy.example.edu/10.5555/abc', 'x.doi=10.5555/abc'],
+    ['an address within it', 'rft_val_fmt=x&rft_id=info:doi/10.5555/a:doi.org/10.5555/b',
+        'x.doi=10.5555/a:doi.org/10.5555/b'],
     ['stars', 'rft_val_fmt=x&rft_id=*10.5555/abc**', 'x.doi=10.5555/abc'],
     ['PubMed, a full stop', 'pmid=PMID:+7.&rft_val_fmt=x', 'x.pmid=7 rft_id=info:pmid/7'],
     ['PubMed, brackets', 'rft_val_fmt=x&pmid=(7)', 'x.pmid=7 rft_id=info:pmid/7'],
