@@ -5,7 +5,7 @@ import contextlib
 import datetime
 import gc
 import io
-import os
+import runpy
 import tempfile
 import types
 import zipfile
@@ -17,6 +17,7 @@ from fixtures.cases import Case
 from fixtures.made_versions import Weeks
 from openlink_update.fetch import transfers
 from openlink_update.received import spreadsheets
+from openlink_update.rights import closed_files
 from openlink_update.rights import library_user
 from openlink_update.rights import network_filter
 from openlink_update.rights import sandbox
@@ -27,6 +28,7 @@ from openlink_update.site import front_door
 from openlink_update.site.probing import Difference
 from openlink_update.site.probing import Trial
 from openlink_update.versions import making
+from openlink_update.versions import served
 from openlink_update.versions import tables_again
 from openlink_update.versions.program import Program
 from openlink_update.weekly_run import Run
@@ -67,6 +69,22 @@ class Curl(Case):
             found = transfer.fault(), status in transfers.PASSING
             self.expect(f"status {status}", found, (text, may_end_well))
 
+    def test_certificates(self) -> None:
+        for verified, text in (
+            (1, "the certificate is that of another host"),
+            (10, "the certificate has expired"),
+            (18, "the certificate is not trusted"),
+        ):
+            transfer = transfers.Transfer.__new__(transfers.Transfer)
+            transfer.exit, transfer.reply = 60, transfers._Reply(verified=verified)
+            transfer._has_endless_headers = False
+            self.expect(f"{verified}", transfer.fault(), text)
+
+    def test_headers_of_several_replies(self) -> None:
+        """Those of a reply before the last one, such as early hints, do not count."""
+        text = "HTTP/1.1 103 Early Hints\r\nETag: first\r\n\r\nHTTP/1.1 200 OK\r\nLast-Modified: today\r\nX: a:b\r\n"
+        self.expect("the last ones", transfers._headers_in(text), {"last-modified": "today", "x": "a:b"})
+
 
 def warnings(script: str) -> list[str]:
     """The warnings of a command of the program that prints and ends as a script does."""
@@ -92,6 +110,7 @@ class Programs(Case):
 
 
 LONGER = "rows longer than the header 1"
+XML = "XML, not a table: save it as .xlsx, .ods or text with tabs"
 
 
 class Versions(Case):
@@ -121,8 +140,28 @@ class Versions(Case):
             (version / "received/a.rules").write_text("rule\nlink https://e.org/\n", encoding="utf-8")
             (version / "received/a.txt").write_text("<?xml version='1.0'?><a/>\n", encoding="utf-8")
             said = reason(lambda: [*tables_again.tables_of(version, datetime.date(2026, 1, 1))])
-            text = "XML, not a table: save it as .xlsx, .ods or text with tabs"
-            self.expect("what is said", said, f"a: its table cannot be prepared: {version}/received/a.txt: {text}")
+            self.expect("what is said", said, f"a: its table cannot be prepared: {version}/received/a.txt: {XML}")
+
+    def test_a_table_to_the_day(self) -> None:
+        """Run as a program, served.py prints a table as it is served, or says why it is none."""
+        good = f"publication_title\tprint_identifier\tdate_first_issue_online\nTides\t2901-0012\t1995\n"
+        rows = "publication_title\tprint_identifier\tdate_first_issue_online\tcoverage_from\tcoverage_to\n"
+        for text, wanted in (
+            (good, (f"{rows}Tides\t2901-0012\t1995\t19950101\t99999999\n", None)),
+            ("<?xml version='1.0'?><a/>\n", ("", f"{{}}: {XML}")),
+        ):
+            with tempfile.NamedTemporaryFile("w", suffix=".txt") as file:
+                file.write(text)
+                file.flush()
+                printed, ending = io.TextIOWrapper(io.BytesIO(), "utf-8"), None
+                with mock.patch("sys.argv", ["served.py", file.name, "2026-11-20"]), mock.patch("sys.stdout", printed):
+                    try:
+                        runpy.run_path(served.__file__, run_name="__main__")
+                    except SystemExit as exit_of_program:
+                        ending = exit_of_program.code
+                printed.seek(0)
+                said = printed.read(), ending
+                self.expect("what is printed", said, (wanted[0], wanted[1] and wanted[1].format(file.name)))
 
     def test_a_spreadsheet_of_another_packing(self) -> None:
         """Python unpacks other methods than deflate without a limit of memory."""
@@ -211,6 +250,21 @@ class Kernels(Case):
         with mock.patch.object(network_filter, "_LIBC") as libc, mock.patch("platform.machine", return_value="arm64"):
             network_filter.close()
         self.expect("its numbers of calls are those of x86-64", libc.prctl.called, False)
+
+    def test_files(self) -> None:
+        """The same for files. A kernel that does not know the call, or one that refuses it."""
+        for what, numbers, text in (
+            ("none", [-1], "this kernel cannot close files, by Landlock"),
+            ("no rules", [4, -1], "the files of the machine cannot be closed"),
+        ):
+            said = ""
+            with mock.patch.object(closed_files, "_LIBC") as libc:
+                libc.syscall.side_effect = numbers
+                try:
+                    closed_files.close([], Path("/nonexistent"))
+                except OSError as fault:
+                    said = str(fault.strerror)
+            self.expect(what, (said, libc.syscall.call_count), (text, len(numbers)))
 
 
 def work(_: object) -> str:
