@@ -249,6 +249,7 @@ const AROUND = [
         "x.doi=10.5555/a-_.~:;()!$'*,=@b"],
     ['brackets around it', 'rft_val_fmt=x&rft_id=(doi:+10.5555/abc)', 'x.doi=10.5555/abc'],
     ['a proxy', 'rft_val_fmt=x&rft_id=https://doi-org.proxy.example.edu/10.5555/abc', 'x.doi=10.5555/abc'],
+    ['an address in capitals', 'rft_val_fmt=x&rft_id=HTTPS://DX.DOI.org/10.5555/abc', 'x.doi=10.5555/abc'],
     ['an address within it', 'rft_val_fmt=x&rft_id=info:doi/10.5555/a:doi.org/10.5555/b',
         'x.doi=10.5555/a:doi.org/10.5555/b'],
     ['stars', 'rft_val_fmt=x&rft_id=*10.5555/abc**', 'x.doi=10.5555/abc'],
