@@ -5,6 +5,7 @@ from __future__ import annotations
 
 import contextlib
 import os
+import resource
 import subprocess
 import sys
 import threading
@@ -16,9 +17,15 @@ import coverage
 
 
 def _save() -> None:
-    """Writes what has run. A process that may write no file any more, or has no memory, goes on without."""
+    """Writes what has run, though the process may write no long files. One that may write none any more, or has no
+    memory, goes on without."""
     with contextlib.suppress(Exception):
-        coverage.process_startup.coverage.save()
+        most, hard = resource.getrlimit(resource.RLIMIT_FSIZE)
+        resource.setrlimit(resource.RLIMIT_FSIZE, (hard, hard))
+        try:
+            coverage.process_startup.coverage.save()
+        finally:
+            resource.setrlimit(resource.RLIMIT_FSIZE, (most, hard))
 
 
 def _exit(status: int, end: Callable[[int], None] = os._exit) -> None:

@@ -87,7 +87,7 @@ class Measure:
                 words, stdin=subprocess.PIPE, stdout=subprocess.PIPE, stderr=subprocess.DEVNULL, text=True
             )
         assert self._reporting.stdin and self._reporting.stdout
-        paths = [str(it) for it in self._data.iterdir()]
+        paths = [str(it) for it in self._data.iterdir() if not it.name.endswith("-journal")]
         if not paths:
             return {}
         self._reporting.stdin.write(f"{json.dumps(paths)}\n")

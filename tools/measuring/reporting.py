@@ -3,6 +3,7 @@ notes as a list of JSON, it prints a line with the lines and branches of each mo
 takes longer than all else."""
 from __future__ import annotations
 
+import contextlib
 import json
 import sys
 from typing import Any
@@ -27,7 +28,9 @@ def _pairs(branches: dict[int, list[int]]) -> list[tuple[int, int]]:
 def _reported(settings: str, paths: list[str]) -> dict[str, dict[str, Any]]:
     """The lines and branches of each module that is noted in these files, which are removed."""
     found, measured = {}, coverage.Coverage(data_file=None, config_file=settings)
-    measured.combine(paths)
+    for path in paths:
+        with contextlib.suppress(CoverageException):  # of a process that was killed while it wrote
+            measured.combine([path])
     for path in measured.get_data().measured_files():
         try:
             it = measured._analyze(path)
