@@ -144,7 +144,7 @@ class Versions(Case):
 
     def test_a_table_to_the_day(self) -> None:
         """Run as a program, served.py prints a table as it is served, or says why it is none."""
-        good = f"publication_title\tprint_identifier\tdate_first_issue_online\nTides\t2901-0012\t1995\n"
+        good = "publication_title\tprint_identifier\tdate_first_issue_online\nTides\t2901-0012\t1995\n"
         rows = "publication_title\tprint_identifier\tdate_first_issue_online\tcoverage_from\tcoverage_to\n"
         for text, wanted in (
             (good, (f"{rows}Tides\t2901-0012\t1995\t19950101\t99999999\n", None)),
