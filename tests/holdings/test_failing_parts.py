@@ -15,6 +15,7 @@ from unittest import mock
 from bounds.refusals import reason
 from fixtures.cases import Case
 from fixtures.made_versions import Weeks
+from openlink_update.commands import holdings
 from openlink_update.fetch import transfers
 from openlink_update.received import spreadsheets
 from openlink_update.rights import closed_files
@@ -171,6 +172,27 @@ class Versions(Case):
                 archive.writestr(name, "<a/>")
         text = "a spreadsheet packed in a way that none is: save it again"
         self.expect("bzip2", reason(spreadsheets.sheet_of, written.getvalue(), ""), text)
+
+
+class Holdings(Case):
+    def said(self, folder: Path, target: str) -> tuple[int, str]:
+        """The status of openlink-holdings for the version in use in a folder, and what it says."""
+        errors = io.StringIO()
+        with contextlib.redirect_stderr(errors):
+            words = ["kbart", target, "--library", str(folder), "--site", str(folder / "site.conf")]
+            status = holdings.main(words)
+        return status, errors.getvalue()
+
+    def test_a_version_that_lacks_files(self) -> None:
+        with tempfile.TemporaryDirectory() as name:
+            folder = Path(name)
+            (folder / "current/received").mkdir(parents=True)
+            (folder / "current/registry.tsv").write_text("a\tcode/a.olk\ttables/a.txt\n", encoding="utf-8")
+            text = f"openlink-holdings: {folder}/current: no files of a\n"
+            self.expect("a table", self.said(folder, f"{folder}/out"), (4, text))
+            (folder / "current/registry.tsv").unlink()
+            text = f"openlink-holdings: {folder}/current/registry.tsv: No such file or directory\n"
+            self.expect("the registry", self.said(folder, f"{folder}/out"), (4, text))
 
 
 class Trials(Case):
