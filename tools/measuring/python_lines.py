@@ -83,9 +83,7 @@ class Measure:
         """What coverage reports of each module since the last time. A test that runs none of them has nothing."""
         if self._reporting is None:
             words = [self.python, "-B", str(_REPORTING), str(self._settings)]
-            self._reporting = subprocess.Popen(
-                words, stdin=subprocess.PIPE, stdout=subprocess.PIPE, stderr=subprocess.DEVNULL, text=True
-            )
+            self._reporting = subprocess.Popen(words, stdin=subprocess.PIPE, stdout=subprocess.PIPE, text=True)
         assert self._reporting.stdin and self._reporting.stdout
         paths = [str(it) for it in self._data.iterdir() if not it.name.endswith("-journal")]
         if not paths:

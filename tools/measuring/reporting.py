@@ -3,7 +3,6 @@ notes as a list of JSON, it prints a line with the lines and branches of each mo
 takes longer than all else."""
 from __future__ import annotations
 
-import contextlib
 import json
 import sys
 from typing import Any
@@ -29,8 +28,10 @@ def _reported(settings: str, paths: list[str]) -> dict[str, dict[str, Any]]:
     """The lines and branches of each module that is noted in these files, which are removed."""
     found, measured = {}, coverage.Coverage(data_file=None, config_file=settings)
     for path in paths:
-        with contextlib.suppress(CoverageException):  # of a process that was killed while it wrote
+        try:
             measured.combine([path])
+        except Exception as fault:  # of a process that was killed while it wrote
+            print(f"tools/coverage: {path}: {type(fault).__name__}: {fault}", file=sys.stderr)
     for path in measured.get_data().measured_files():
         try:
             it = measured._analyze(path)
