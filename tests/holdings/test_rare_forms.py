@@ -1,4 +1,4 @@
-"""Files, sheets, pages and cells of forms that are rare: each is read as its kind wants it, or refused with the reason."""
+"""Files, sheets, pages and cells of rare forms: each is read as its kind wants it, or refused with the reason."""
 from __future__ import annotations
 
 import datetime
@@ -117,8 +117,8 @@ class Documents(Case):
 
     def test_long_text(self) -> None:
         for count, wanted in ((100_000, None), (100_001, "row 3 has more than 100,000 bytes: is it a table?")):
-            cells = f"<table:table-row><table:table-cell><text:p>{'x' * count}</text:p></table:table-cell></table:table-row>"
-            found = self.of(cells=cells)
+            cell = f"<table:table-cell><text:p>{'x' * count}</text:p></table:table-cell>"
+            found = self.of(cells=f"<table:table-row>{cell}</table:table-row>")
             self.expect(f"{count}", found if isinstance(found, str) else None, wanted)
 
 

@@ -1,9 +1,8 @@
-"""Two modules of the index run as programs: one makes the index of a registry, the other prints the table of letters."""
+"""Two modules of the index run as programs: one makes an index, the other prints the table of letters."""
 from __future__ import annotations
 
 import contextlib
 import io
-import json
 import os
 import runpy
 import tempfile

@@ -5,7 +5,6 @@ import os
 import shutil
 import stat
 import tempfile
-from pathlib import Path
 from unittest import mock
 
 from fixtures.cases import Case
