@@ -40,7 +40,7 @@ function ofCrossref(data) {
     const isChapter = is(CHAPTERS, type);
     const title = firstOf(own(work, 'title'));
     const container = firstOf(own(work, 'container-title'));
-    const author = recordOf(replies.listOf(own(work, 'author'), 1)[0]);
+    const author = replies.firstRecordOf(own(work, 'author'));
     const fields = {
         'rft.genre': [isBook ? 'book' : isChapter ? 'bookitem' : is(/^journal/, type) ? 'article' : ''],
         'rft.atitle': [isBook ? '' : title], 'rft.btitle': [isBook ? title : isChapter ? container : ''],
@@ -57,7 +57,7 @@ function ofCrossref(data) {
 function ofNcbi(data) {
     const result = recordOf(own(data, 'result'));
     const it = recordOf(own(result, firstOf(own(result, 'uids'))));
-    const author = recordOf(replies.listOf(own(it, 'authors'), 1)[0]);
+    const author = replies.firstRecordOf(own(it, 'authors'));
     const fields = {
         'rft.genre': [own(it, 'title') ? 'article' : ''],
         'rft.atitle': [textOf(own(it, 'title')).replace(/\.$/, '')], 'rft.jtitle': [textOf(own(it, 'fulljournalname'))],
@@ -78,8 +78,8 @@ function ofNcbi(data) {
 
 function ofDatacite(data) {
     const it = recordOf(own(recordOf(own(data, 'data')), 'attributes'));
-    const title = recordOf(replies.listOf(own(it, 'titles'), 1)[0]);
-    const author = recordOf(replies.listOf(own(it, 'creators'), 1)[0]);
+    const title = replies.firstRecordOf(own(it, 'titles'));
+    const author = replies.firstRecordOf(own(it, 'creators'));
     const year = textOf(own(it, 'publicationYear'));
     const fields = {
         'rft.genre': [own(title, 'title') ? 'preprint' : ''], 'rft.atitle': [textOf(own(title, 'title'))],

@@ -18,6 +18,7 @@ function textOf(value) {
 function listOf(value, most) { return Array.isArray(value) ? value.slice(0, most) : NONE; }
 function firstOf(value) { return textOf(Array.isArray(value) ? value[0] : value); }
 function recordOf(value) { return texts.isObject(value) && !Array.isArray(value) ? value : {}; }
+function firstRecordOf(value) { return recordOf(Array.isArray(value) ? value[0] : undefined); }
 // A DOI without a prefix, '' if it is none. Old ones have `<` and `>`, which are no tags.
 function doiOf(value) {
     const text = typeof value === 'string' && value.length <= MOST_DOI ? texts.clean(value) : '';
@@ -57,4 +58,4 @@ async function fetched(r, path, read) {
     }
 }
 
-export default { MOST_DOI, textOf, listOf, firstOf, recordOf, doiOf, fetched };
+export default { MOST_DOI, textOf, listOf, firstOf, recordOf, firstRecordOf, doiOf, fetched };

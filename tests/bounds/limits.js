@@ -265,6 +265,11 @@ function testQuery() {
     [300, 301].forEach((most) => {
         const q = new query.Query(counted(most, (i) => 'a=' + i).join('&'));
         expect('query', most + ' pairs', q.given.a.length, 300);
+        // So do pairs of other forms, and those that are dropped.
+        ['B=%41', 'title_url=1'].forEach((pair) => {
+            const other = new query.Query(repeated(pair + '&', most - 1) + 'a=1');
+            expect('query', 'a pair after ' + (most - 1) + ' as ' + pair, other.first('a'), most > 300 ? '' : '1');
+        });
     });
     const sent = (length) => openurl.requestText(new query.Query('a=' + repeated('x', length - 6) + '&b=1'));
     expect('query', '12000 bytes', sent(12000).length, 12000);

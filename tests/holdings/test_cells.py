@@ -57,6 +57,31 @@ EMBARGOES = {
     "1 year or less": "1 year or less",
     "١ year": "١ year",
 }
+# Embargoes in the languages that providers write: each word for a number, a unit and what may stand around them.
+IN_LANGUAGES = {
+    "P1Y": (
+        "one year, 1 yr, embargoed 1 year, 1 year delay, 1 year rolling wall, period of 1 year, 1 year by publisher, "
+        "1 year delays, ein Jahr, Sperrfrist von einem Jahr, 1 Jahr Verzug, Verzögerung 1 Jahr, 1 Jahr nach "
+        "Erscheinen, une année, retard d'un an, décalage de 1 an, barrière mobile 1 an, 1 an après parution, una año, "
+        "retraso de 1 año, demora 1 año, 1 año tras publicación, uno anno, ritardo di 1 anno, 1 anno dopo, een jaar, "
+        "1 jaar vertraging, 1 jaar na"
+    ),
+    "P2Y": "two years, 2 yrs, zwei Jahre, deux ans, deux années, dos años, due anni, twee jaren",
+    "P3Y": "three years, drei Jahren, trois ans, tres años, tre anni, drie jaar",
+    "P4M": "four months, 4 month, vier Monate, quatre mois, cuatro meses, quattro mesi, 4 mes",
+    "P5M": "five mos, fünf Monaten, cinq mois, cinco meses, cinque mesi, vijf maanden, 5 mese",
+    "P6M": "six mo, sechs Monat, seis meses, sei mesi, zes maanden, 6 mth, 6 maand",
+    "P7D": "eine Woche, una semana",
+    "P9M": "nine mths, neun Monate, neuf mois, nueve meses, nove mesi, negen maanden",
+    "P10D": "ten days, zehn Tage, zehn Tagen, dix jours, diez días, dieci giorni, tien dagen, 10 day, 10 Tag, 10 jour",
+    "P11D": "11 día, 11 giorno, 11 dag",
+    "P12M": "twelve months, zwölf Monate, douze mois, doce meses, dodici mesi, twaalf maanden",
+    "P14D": "2 weeks, 2 week, 2 wk, 2 wks, 2 Wochen, 2 Woche, 2 semaines, 2 semaine, 2 semanas, 2 semana, 2 settimane, "
+    "2 settimana, 2 weken",
+    "P18M": "eighteen months, achtzehn Monate, dieciocho meses, diciotto mesi, achttien maanden",
+    "P24M": "twentyfour months, vierundzwanzig Monate, vingtquatre mois, veinticuatro meses, ventiquattro mesi",
+    "": "none, No Embargo, keine, kein Embargo, aucun, aucun embargo, sin embargo, nessuno, geen, 0",
+}
 # The cells of two identifiers, and what becomes of them.
 NUMBERS = {
     ("2901-0012, 2908-0142", ""): ("2901-0012", "2908-0142"),
@@ -98,6 +123,9 @@ class Cells(Case):
     def test_embargoes(self) -> None:
         for cell, wanted in EMBARGOES.items():
             self.expect(cell, embargo_words.standard(cell), wanted)
+        for wanted, cells_of_one in IN_LANGUAGES.items():
+            for cell in cells_of_one.split(", "):
+                self.expect(cell, embargo_words.standard(cell), wanted)
         head = f"{HEAD}\tembargo_info"
         rows = [
             f"Tides {number}\t2901-0012\t\t1995\t\t{cell}" for number, cell in enumerate(("1 year", "P6M", "p1y", ""))
@@ -122,10 +150,13 @@ class Cells(Case):
     def test_one_column(self) -> None:
         """A table with one column of identifiers gets the other, before cells that have no column."""
         head = "publication_title\tonline_identifier\tdate_first_issue_online"
-        data = table("Tides\t2901-0012, 2908-0142\t1995\tmore", "Piers\t2915-0272", head=head)
+        rows = ("Tides\t2901-0012, 2908-0142\t1995\tmore", "Piers\t2915-0272", "Quays\t2922-0408\t1996")
+        data = table(*rows, head=head)
         prepared = preparation.prepare([("file", data)])
         self.expect("its columns", prepared.table.columns[3:], ("print_identifier",))
         self.expect("its rows", prepared.table.rows[0][1:], ["2901-0012", "1995", "2908-0142", "more"])
+        others = [["Piers", "2915-0272"], ["Quays", "2922-0408", "1996"]]
+        self.expect("rows that have no cell after it", prepared.table.rows[1:], others)
 
     def test_addresses(self) -> None:
         for cell, wanted in (

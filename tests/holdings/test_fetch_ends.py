@@ -16,6 +16,8 @@ from openlink_update.fetch import downloads
 from openlink_update.fetch import fetching
 from openlink_update.fetch import sources
 from openlink_update.outcome import Interrupted
+from openlink_update.rights.limits import Limits
+from openlink_update.rights.sandbox import Sandbox
 
 
 class NoTransfer(downloads.Download):
@@ -116,7 +118,7 @@ class Ends(ProvidersCase):
             folder.write_sources(f"bad.txt\t{plain}\tplain http", f"table.txt\t{plain}?good\tplain http")
             fetching.table_in = read
             try:
-                status = fetching.fetch(folder.folder, lines.append, 60, 0)
+                status = fetching.fetch(folder.folder, lines.append, 60, 0, user=Sandbox(None, Limits()))
             finally:
                 fetching.table_in = table_in
             self.expect(

@@ -126,6 +126,15 @@ class Cells(Case):
         ):
             self.expect(text, count_of(SESSIONS, material(("T", "0028-0836", text))), int(is_slip))
 
+    def test_two_addresses_of_a_row(self) -> None:
+        """The address of the title's page is the example, and the row counts once."""
+        page, other = (f"https://{host}.org/t?PHPSESSID=abcdef0123" for host in "ab")
+        now = material(("T", "0028-0836", page, "", "", other), rules="rule\nlink {+title_url}{title_id}\n")
+        found = FIND[SESSIONS](Pair(now, None, DAY, lambda numbers: {}))
+        self.expect("the row", found and (found.count, found.rows, found.example), (1, 1, page))
+        now.forget()
+        self.expect("its columns are forgotten", (now._columns, now._small_texts), ({}, {}))
+
     def test_proxies(self) -> None:
         """Proxies of others in each of the usual forms, and addresses that only look like them."""
         for text, is_slip in (

@@ -337,6 +337,15 @@ class Refusals(Case):
             "xl/_rels/workbook.xml.rels", 'Target="worksheets', 'TargetMode="External" Target="worksheets'
         )
         self.expect("outside", read(outside), "a spreadsheet without a sheet")
+        other = '<o:Relationship xmlns:o="urn:other" Id="s1" Type="x/worksheet" Target="other.xml"/></Relationships>'
+        self.expect("another element", read(changed("xl/_rels/workbook.xml.rels", "</Relationships>", other)), SERVED)
+
+    def test_cells_without_places(self) -> None:
+        """Each is in the column after the one before it."""
+        texts = "".join(f'<c t="inlineStr"><is><t>{text}</t></is></c>' for text in ("Quays", "2922-0408"))
+        self.expect("two", read(of_sheet(f"<row>{texts}</row>"))[-1], ["Quays", "2922-0408"])
+        wide = read(of_sheet(f"<row>{'<c><v>1</v></c>' * 501}</row>"))
+        self.expect("501", wide, f"row {len(ROWS) + 1} has 501 cells, and a table may have 500 columns")
 
     def test_entities(self) -> None:
         says = "a spreadsheet with a document type in its XML, which none needs"

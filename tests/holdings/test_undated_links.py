@@ -2,7 +2,9 @@
 that the judge of hosts accepts."""
 from __future__ import annotations
 
+import os
 import re
+import tempfile
 from pathlib import Path
 
 from fixtures import needs
@@ -13,6 +15,7 @@ from fixtures.made_versions import Weeks
 from fixtures.made_versions import table
 from openlink_update.index.title_addresses import Offer
 from openlink_update.index.title_addresses import Proxy
+from openlink_update.outcome import Refused
 from openlink_update.tables import link_hosts
 from openlink_update.tables.table import Table
 from openlink_update.versions import making
@@ -158,6 +161,21 @@ class Rows(Case):
         for count in (12, 13):
             every = [(f"Title {at}", issn(at), "", "1990", "", "", "t", "", f"depth {at}") for at in range(count)]
             self.expect(f"{count} kinds", len(undated_links._rows_to_try(Table.parse(table(*every)), "j")), 12)
+
+    def test_rows_that_are_refused(self) -> None:
+        """That the program refuses them is no lack of a link: it is said of the whole table."""
+
+        class Refusing(Program):
+            def run(self, *words: str, most: int = 0) -> tuple[int, str]:
+                raise Refused(["table: TooLong at row 2"])
+
+        with tempfile.TemporaryDirectory() as folder:
+            Path(folder, "received").mkdir()
+            Path(folder, "received/press.rules").write_text(DATED, encoding="utf-8")
+            undated = undated_links.UndatedLinks(Path(folder), None, Refusing("none", folder), DAY)
+            undated.find("press", Table.parse(table(*rows(2))), True)
+            self.expect("what is known", (undated.kinds("press"), undated.lines("press", True)), ("", []))
+            self.expect("what is left", os.listdir(folder), ["received"])
 
     def test_characters(self) -> None:
         for count, wanted in ((100, "a" * 100), (101, "a" * 100 + "..")):

@@ -19,6 +19,7 @@ from index.test_keys import CASES
 from index.test_keys import PIECES
 from openlink_update.index import abbreviations
 from openlink_update.index import short_titles
+from openlink_update.index import title_rows
 from openlink_update.index.title_groups import Titles
 from openlink_update.input_files import InputFolder
 from openlink_update.tables.table import Table
@@ -189,6 +190,10 @@ class Lines(Case):
             ("", ""),
         ):
             self.expect(cell, short_titles.prefix_in("", cell), wanted)
+        header = ("publication_title", "print_identifier", "title_id", "title_url")
+        rows = [["Tides", "2901-0012", "10.1111/a", "https://doi.org/10.2222/b"], ["Piers", "2915-0272", "10.1111/a"]]
+        prefixes = [row.prefix for row in title_rows.rows_of("press", Table(header, rows))]
+        self.expect("that of the title's page is first", prefixes, ["10.2222", "10.1111"])
 
 
 class Pairs(Case):

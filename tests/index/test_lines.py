@@ -190,6 +190,25 @@ class Lines(Case):
                 )
             self.expect("a form for the halving", list(check_form(found)), [])
 
+    def test_titles_that_rows_join(self) -> None:
+        """Rows of one name join their numbers one after the other: all of them are of one title then."""
+        rows = (
+            journal("Tides", "2901-0012", "2908-0142"),
+            journal("Tides", "2915-0272", "2922-0408"),
+            journal("Tides", "2929-0538", "2936-0668"),
+            journal("Tides", "2901-0012", "2915-0272"),
+            journal("Tides", "2929-0538", "2901-0012"),
+            journal("Tides", "2922-0408", "2943-081X"),
+            journal("Tides", "2950-0923"),
+        )
+        with Index({"t": table(*rows)}) as found:
+            of_all = {" ".join(sorted(cells[2].split(" "))) for cells in found.of_key("=tides")}
+            joined = "2901-0012 2908-0142 2915-0272 2922-0408 2929-0538 2936-0668 2943-081X"
+            self.expect("its numbers, and one of its own", of_all, {joined, "2950-0923"})
+            for number in joined.split(" "):
+                found_numbers = [sorted(cells[2].split(" ")) for cells in found.of_key(number)]
+                self.expect(f"the title of {number}", found_numbers, [joined.split(" ")])
+
     def test_related(self) -> None:
         """Earlier and later titles, within a table and all its parts."""
         one = table(

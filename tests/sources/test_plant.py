@@ -67,6 +67,27 @@ class Other(Case):
                 file.write(f"{os.getpid()}\\n")
         self.expect("one", 1, 1)
 """
+# Two processes run a function each: one ends at once, the other closes all files to itself and becomes a program.
+ENDING = """\
+import os, subprocess
+from pathlib import Path
+from fixtures.cases import Case
+from openlink_update import numbers
+from openlink_update.rights import closed_files
+
+def close():
+    numbers.is_large(1)
+    closed_files.close([], Path("/nonexistent"))
+
+class Ending(Case):
+    def test_ends(self):
+        child = os.fork()
+        if child == 0:
+            numbers.is_small(1)
+            os._exit(3)
+        self.expect("the first", os.waitstatus_to_exitcode(os.waitpid(child, 0)[1]), 3)
+        self.expect("the second", subprocess.run(["cat", "/proc/self/stat"], preexec_fn=close).returncode, 1)
+"""
 RULES = "Type=simple\n# a comment\nUMask=0022\n[Install]\n"
 SCRIPT = """\
 const MOST = 3;
@@ -397,6 +418,20 @@ class Coverage(Repository):
             "update/openlink_update/numbers.py: 100.0",
             "update: 100.0 in 100, at least 97; 1 more are listed as left",
         )
+
+    def test_processes_that_do_not_end_as_others(self) -> None:
+        """Lines count that run in a process which ends at once, or before it becomes a program, though it closes all
+        files to itself."""
+        path = "update/openlink_update/rights/closed_files.py"
+        text = (TOP / path).read_text(encoding="utf-8")
+        self.write(path, text)
+        self.write("tests/update/test_numbers.py", ENDING)
+        status, said = self.given("tools/coverage", "update.test_numbers")
+        self.expect(f"the status, with {said}", status, 0)
+        self.expect_lines("its functions", said, "update/openlink_update/numbers.py: 100.0")
+        found = json.loads((self.top / "tools/out/lines.json").read_text())["runs"]["update.test_numbers"]
+        last = text.splitlines().index("        _called(_RESTRICT, rules, 0)") + 1
+        self.expect("the line that closes files", str(last) in found[path]["ran"])
 
     def test_a_failing_test(self) -> None:
         self.write("tests/update/test_numbers.py", TEST.replace("[True, False]", "[True, True]"))

@@ -24,11 +24,8 @@ source =
     */openlink_update
 """
 # Each Python of a test begins with this. The tests start others with -S, which a stand-in leaves out.
-_START = """import os, sys
-sys.executable = {stand_in!r}
-import coverage
-coverage.process_startup()
-"""
+_START = Path(__file__).with_name("at_start.py")
+_REPORTING = Path(__file__).with_name("reporting.py")
 _STAND_IN = """#!/bin/sh
 for word; do shift; [ "$word" = -S ] || set -- "$@" "$word"; done
 exec {python} "$@"
@@ -59,6 +56,7 @@ class Measure:
     def __init__(self, folder: Path, top: Path, interpreter: str) -> None:
         self._folder, self._top, self.python = folder, top, interpreter
         self._data = folder / "data"
+        self._reporting: subprocess.Popen[str] | None = None
         (folder / "bin").mkdir(parents=True)
         (folder / "start").mkdir()
         self.clear()
@@ -67,7 +65,7 @@ class Measure:
         stand_in = folder / "bin/python3"
         stand_in.write_text(_STAND_IN.format(python=interpreter), encoding="utf-8")
         stand_in.chmod(0o755)
-        (folder / "start/sitecustomize.py").write_text(_START.format(stand_in=str(stand_in)), encoding="utf-8")
+        shutil.copy(_START, folder / "start/sitecustomize.py")
 
     def clear(self) -> None:
         shutil.rmtree(self._data, ignore_errors=True)
@@ -81,19 +79,19 @@ class Measure:
             "PYTHONPATH": f"{self._folder}/start",
         }
 
-    def _coverage(self, *words: str) -> None:
-        command = [self.python, "-m", "coverage", words[0], f"--rcfile={self._settings}", *words[1:]]
-        subprocess.run(command, cwd=self._top, stdout=subprocess.DEVNULL, stderr=subprocess.DEVNULL, check=False)
-
     def reported(self) -> dict[str, Reported]:
         """What coverage reports of each module since the last time. A test that runs none of them has nothing."""
-        whole, told = self._folder / "whole", self._folder / "whole.json"
-        self._coverage("combine", f"--data-file={whole}", *map(str, self._data.iterdir()))
+        if self._reporting is None:
+            words = [self.python, "-B", str(_REPORTING), str(self._settings)]
+            self._reporting = subprocess.Popen(words, stdin=subprocess.PIPE, stdout=subprocess.PIPE, text=True)
+        assert self._reporting.stdin and self._reporting.stdout
+        paths = [str(it) for it in self._data.iterdir() if not it.name.endswith("-journal")]
+        if not paths:
+            return {}
+        self._reporting.stdin.write(f"{json.dumps(paths)}\n")
+        self._reporting.stdin.flush()
+        files: dict[str, Reported] = json.loads(self._reporting.stdout.readline())
         self.clear()
-        self._coverage("json", f"--data-file={whole}", "-i", "-q", "-o", str(told))
-        files: dict[str, Reported] = json.loads(told.read_text(encoding="utf-8"))["files"] if told.exists() else {}
-        for place in (whole, told):
-            place.unlink(missing_ok=True)
         return {f"update/{PACKAGE}" + path.rpartition(PACKAGE)[2]: it for path, it in files.items()}
 
 

@@ -66,7 +66,7 @@ class Readable(Protocol):
     """A file of bytes, or what is read like one."""
 
     def read(self, size: int, /) -> bytes:
-        ...
+        """At most this number of bytes; none at the end."""
 
 
 class _Names:

@@ -102,7 +102,7 @@ def _first_of(
         return (_First(t["noRun"]),)
     found = [_First(t.filled("ended", str(last.status)), last.lines[-_MOST_LINES:])] if last.status > 1 else []
     days = _days_since_good(records, now)
-    found += [_First(t.filled("old", t.number(days)))] if days is not None and days > _MOST_DAYS else []
+    found += [_First(t.filled("old", t.number(days)))] if days > _MOST_DAYS else []
     for row in rows:
         if row.needs_her and row.said:
             name = "keptOld" if row.said.state == run_notes.KEPT else "leftOut"
@@ -117,11 +117,9 @@ def _first_of(
     return tuple(found)
 
 
-def _days_since_good(records: Sequence[RunRecord], now: datetime.datetime) -> int | None:
-    """The days since an update ended well, among these; since the first of them if none did."""
+def _days_since_good(records: Sequence[RunRecord], now: datetime.datetime) -> int:
+    """The days since an update ended well, among these; since the first update of them if none did."""
     updates = [record for record in records if record.work == _UPDATE]
-    good = [record.begun for record in updates if record.status <= 1] or [record.begun for record in updates][-1:]
-    if not good:
-        return None
-    begun = datetime.datetime.strptime(good[0], STAMP).replace(tzinfo=datetime.timezone.utc)
+    good = next((record for record in updates if record.status <= 1), updates[-1])
+    begun = datetime.datetime.strptime(good.begun, STAMP).replace(tzinfo=datetime.timezone.utc)
     return (now - begun).days

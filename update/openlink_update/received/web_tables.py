@@ -94,7 +94,6 @@ class _Table:
             if left > 1:
                 self._below[place] = left - 1, text
             self._row.append(text)
-            limits.check_columns(len(self._row), lambda: self._number, "row")
 
     def begin_row(self) -> None:
         self.end_row()

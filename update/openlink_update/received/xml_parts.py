@@ -16,13 +16,13 @@ class Handler(Protocol):
     """What takes a part. The name of an element is its namespace, a space, and its name there."""
 
     def start(self, name: str, attributes: dict[str, str]) -> None:
-        ...
+        """Takes the beginning of an element."""
 
     def end(self, name: str) -> None:
-        ...
+        """Takes its end."""
 
     def text(self, text: str) -> None:
-        ...
+        """Takes a text within the element that is open."""
 
 
 def _refuse_type(*_: object) -> None:

@@ -1,0 +1,232 @@
+"""Files, sheets, pages and cells of rare forms: each is read as its kind wants it, or refused with the reason."""
+from __future__ import annotations
+
+import datetime
+import io
+import os
+import tempfile
+import zipfile
+from pathlib import Path
+from unittest import mock
+
+from fixtures.cases import Case
+from fixtures.spreadsheet_files import ODS
+from fixtures.spreadsheet_files import archive_of
+from fixtures.spreadsheet_files import ods_content
+from fixtures.spreadsheet_files import xlsx_members
+from openlink_update import disk
+from openlink_update.commands import counts
+from openlink_update.counts import counter_reports
+from openlink_update.counts import log_files
+from openlink_update.counts import wanted_titles
+from openlink_update.exports.site_names import SiteNames
+from openlink_update.input_files import InputFolder
+from openlink_update.outcome import Unreadable
+from openlink_update.received import reading
+from openlink_update.received.reading import Form
+from openlink_update.rules import pages
+from openlink_update.rules import shipped
+from openlink_update.slips import kinds
+from openlink_update.slips.material import Material
+from openlink_update.slips.material import Pair
+from openlink_update.tables import coverage
+from openlink_update.tables import preparation
+from openlink_update.tables.embargo import Embargo
+from openlink_update.tables.table import Table
+
+DAY = datetime.date(2026, 11, 27)
+HEAD = ["publication_title", "print_identifier", "online_identifier", "date_first_issue_online"]
+ROW = ["Tides", "2901-0012", "", "1995-03-01"]
+FIND = {kind.words: kind.find for kind in kinds.KINDS}
+
+
+def read(data: bytes, is_html: bool = False) -> list[list[str]] | str:
+    """The rows of a file, or why it is no table."""
+    try:
+        return reading.read(data, Form(is_html=is_html)).rows
+    except Unreadable as fault:
+        return str(fault)
+
+
+def changed(name: str, old: str, new: str, **how: bool) -> bytes:
+    """A workbook of which a member has another text."""
+    members = xlsx_members({"Sheet1": [HEAD, ROW]}, **how)
+    text = str(members[name])
+    assert old in text, (name, old)
+    return archive_of({**members, name: text.replace(old, new)})
+
+
+class Workbooks(Case):
+    def test_how_texts_are_spoken(self) -> None:
+        """Of a text that cells share, what is beside it in another writing is no part."""
+        spoken = "<t>潮</t><rPh sb='0' eb='1'><t>shio</t></rPh><r><t>流</t></r>"
+        found = read(changed("xl/sharedStrings.xml", "<t>Tides</t>", spoken))
+        self.expect("the text", found, [["潮流", *ROW[1:]]])
+
+    def test_usual_form(self) -> None:
+        """A form of its own that is the usual one makes no date of a number."""
+        rows = [HEAD, [*ROW[:3], 35000]]
+        members = xlsx_members({"Sheet1": rows})
+        sheet = str(members["xl/worksheets/sheet1.xml"])
+        styles = str(members["xl/styles.xml"]).replace("yyyy", "General")
+        with_form = sheet.replace('<c r="D2">', '<c r="D2" s="3">')
+        data = archive_of({**members, "xl/worksheets/sheet1.xml": with_form, "xl/styles.xml": styles})
+        self.expect("a number, which is the day of a column of dates", read(data), [[*ROW[:3], "1995-10-28"]])
+        months = str(members["xl/styles.xml"]).replace("yyyy", "yyyy mm")
+        data = archive_of({**members, "xl/worksheets/sheet1.xml": with_form, "xl/styles.xml": months})
+        self.expect("a month", read(data), [[*ROW[:3], "1995-10"]])
+
+    def test_hidden_sheets(self) -> None:
+        data = archive_of(xlsx_members({"A": [HEAD, ROW], "B": [["x"]]}, hidden=["A", "B"]))
+        self.expect("if all are, the first", read(data), [ROW])
+        data = changed("xl/workbook.xml", ' r:id="s1"', "")
+        self.expect("one that names no part", read(data), "a spreadsheet without a sheet")
+
+    def test_damaged_sheet(self) -> None:
+        """Its bytes are seen to be others when it is unpacked."""
+        data = io.BytesIO()
+        with zipfile.ZipFile(data, "w", zipfile.ZIP_STORED) as archive:
+            for name, text in xlsx_members({"Sheet1": [HEAD, ROW]}, is_inline=True).items():
+                archive.writestr(zipfile.ZipInfo(name), text)
+        spoilt = data.getvalue().replace(b">Tides<", b">Tidal<")
+        self.expect("its sum", read(spoilt), "a spreadsheet that is cut short or damaged")
+
+
+class Documents(Case):
+    def of(self, before: str = "", cells: str = "", **members: str) -> list[list[str]] | str:
+        content = ods_content({"One": [HEAD, ROW]}, before).replace("</table:table>", f"{cells}</table:table>")
+        return read(archive_of({"mimetype": ODS, "content.xml": content, **members}))
+
+    def test_first_day(self) -> None:
+        """A null date that is none is as if it were missing."""
+        for day in ("1904-01-01", "soon", ""):
+            before = (
+                f'<table:calculation-settings><table:null-date table:date-value="{day}"/></table:calculation-settings>'
+            )
+            self.expect(day, self.of(before), [ROW])
+
+    def test_manifest(self) -> None:
+        space = "urn:oasis:names:tc:opendocument:xmlns:manifest:1.0"
+        entry = '<m:file-entry m:full-path="content.xml"{}</m:file-entry>'
+        for name, inside, wanted in (
+            ("open", ">", [ROW]),
+            ("encrypted", "><m:encryption-data/>", "a spreadsheet with a password: save it without one"),
+        ):
+            text = f'<m:manifest xmlns:m="{space}">{entry.format(inside)}</m:manifest>'
+            self.expect(name, self.of(**{"META-INF/manifest.xml": text}), wanted)
+
+    def test_long_text(self) -> None:
+        for count, wanted in ((100_000, None), (100_001, "row 3 has more than 100,000 bytes: is it a table?")):
+            cell = f"<table:table-cell><text:p>{'x' * count}</text:p></table:table-cell>"
+            found = self.of(cells=f"<table:table-row>{cell}</table:table-row>")
+            self.expect(f"{count}", found if isinstance(found, str) else None, wanted)
+
+
+class Pages(Case):
+    def page(self, rows: str) -> list[list[str]] | str:
+        names = "".join(f"<th>{name}</th>" for name in HEAD)
+        return read(f"<html><body><table><tr>{names}</tr>{rows}</table></body></html>".encode(), is_html=True)
+
+    def test_a_cell_outside_of_a_row(self) -> None:
+        """It begins one, as browsers have it."""
+        cells = "".join(f"<td>{text}</td>" for text in ROW)
+        self.expect("the row", self.page(f"{cells}</tr>"), [ROW])
+
+    def test_covered_columns(self) -> None:
+        """Cells of the row above may cover as many as a table may have, and none after them."""
+        above = "".join(f"<td>{text}</td>" for text in ROW)
+        for count, wanted in ((499, None), (500, "row 4 has 501 cells, and a table may have 500 columns")):
+            found = self.page(f"<tr>{above}</tr><tr><td colspan={count} rowspan=2>b</tr><tr><td>c</tr>")
+            self.expect(f"{count}", found if isinstance(found, str) else None, wanted)
+
+
+class Cells(Case):
+    def test_long_embargoes(self) -> None:
+        """Before the first year of the calendar nothing is open."""
+        embargo = Embargo.parse("P9999Y")
+        assert embargo
+        self.expect("the last open day", embargo.last_open(DAY), datetime.date(1, 1, 1))
+
+    def test_two_numbers_of_the_other_column(self) -> None:
+        head = "\t".join(HEAD)
+        for cells, wanted in (
+            ("eISSN 2901-0012; eISSN 2908-0142\t", ["", "2901-0012"]),
+            ("eISSN 2901-0012; eISSN 2908-0142\t2915-0272", ["2901-0012", "2915-0272"]),
+        ):
+            data = f"{head}\nTides\t{cells}\t1995\n".encode()
+            rows = preparation.prepare([("file", data)]).table.rows
+            self.expect(cells, rows[0][1:3], wanted)
+
+    def test_notes_in_two_columns(self) -> None:
+        header = ("publication_title", "print_identifier", "notes", "coverage_notes")
+        rows = [
+            ["Tides", "2901-0012", "Archive", "Embargo of 1 year"],
+            ["Piers", "2915-0272", "", "Embargo: 6 months"],
+        ]
+        found = FIND["embargoes in notes"](Pair(of(Table(header, rows)), None, DAY, lambda _: {}))
+        self.expect("both", found and (found.count, found.example), (2, "Archive Embargo of 1 year, Tides"))
+
+    def test_few_volumes(self) -> None:
+        """Two cells without a number are no slip, three are one."""
+        header = ("publication_title", "print_identifier", "num_first_vol_online")
+        for count, wanted in ((2, None), (3, 3)):
+            rows = [[f"Tides {at}", f"2901-00{at}2", "none"] for at in range(count)]
+            found = FIND["volumes or issues that are no number"](Pair(of(Table(header, rows)), None, DAY, lambda _: {}))
+            self.expect(f"{count}", found and found.count, wanted)
+
+    def test_no_columns(self) -> None:
+        """A table that has none, as of an empty file, gets none."""
+        self.expect("coverage", coverage.served(Table((), []), DAY), (Table((), []), []))
+        self.expect("pages", pages.added(Table((), [])), Table((), []))
+
+
+def of(table: Table) -> Material:
+    return Material(table, [], [], len(table.rows), None, "", "")
+
+
+class Logs(Case):
+    def test_after_two_hyphens(self) -> None:
+        """Names of files follow."""
+        self.expect("a file", counts._parse(["--format", "json", "--", "a.log"]).logs, ["a.log"])
+
+    def test_standard_input(self) -> None:
+        with mock.patch("sys.stdin", io.TextIOWrapper(io.BytesIO(b"a\nb\n"))):
+            found = [(log.name, log.read(10)) for log in log_files.open_logs([])]
+        self.expect("it is read", found, [("standard input", b"a\nb\n")])
+
+    def test_blank_lines(self) -> None:
+        wanted = wanted_titles.wanted_in(
+            [io.BytesIO(b"2026-11 2901-0012 2003\n  \n\n \t\n2026-11 2901-0012 2003\nx\n")]
+        )
+        self.expect("of titles in vain", (wanted.lines, wanted.unread, wanted.pairs.total()), (3, 1, 2))
+        report = (
+            b"Report_Name,Title Master Report\nReport_ID,TR\nRelease,5\n\n"
+            b"Title,Print_ISSN,Metric_Type,Nov-2026\nTides,2901-0012,Total_Item_Requests,3\n,,,\n\n"
+            b"Piers,2915-0272,Total_Item_Requests,4\n"
+        )
+        titles = [(it.title, it.numbers, it.requests.total()) for it in counter_reports.titles_in(report)]
+        self.expect("of a report", titles, [("Tides", ("2901-0012",), 3), ("Piers", ("2915-0272",), 4)])
+
+
+class Files(Case):
+    def test_rules_that_cannot_be_listed(self) -> None:
+        with tempfile.TemporaryDirectory() as folder:
+            with mock.patch.object(shipped, "PROVIDERS", Path(folder, "none")):
+                said = shipped.fault_of("press", InputFolder(folder))
+            self.expect("what is said", said, f"no rules are provider:press: {folder}/none has those that ship")
+
+    def test_names_that_cannot_be_read(self) -> None:
+        with tempfile.TemporaryDirectory() as folder:
+            names = SiteNames(Path(folder, "targets.json"))
+            said = f"{folder}/targets.json: No such file or directory"
+            self.expect("what is said", (names.fault, names.label("press")), (said, "press"))
+
+    def test_a_disk_that_fails(self) -> None:
+        with mock.patch.object(disk, "_LIBC") as libc, mock.patch("ctypes.get_errno", return_value=5):
+            libc.syncfs.return_value = -1
+            said = ""
+            try:
+                disk.sync_disk(Path("/"))
+            except OSError as fault:
+                said = f"{fault.filename}: {fault.strerror}"
+        self.expect("what is said", said, f"/: {os.strerror(5)}")

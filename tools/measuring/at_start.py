@@ -1,0 +1,63 @@
+"""What each Python of a measured test begins with, as its sitecustomize: it notes its lines, also where it ends at once
+(os._exit), as the processes of a library's user do, and where it becomes another program (preexec_fn). Other Pythons
+that it starts do the same."""
+from __future__ import annotations
+
+import contextlib
+import os
+import resource
+import subprocess
+import sys
+import threading
+from collections.abc import Callable
+from pathlib import Path
+from typing import Any
+
+import coverage
+
+
+def _save() -> None:
+    """Writes what has run, though the process may write no long files. One that may write none any more, or has no
+    memory, goes on without."""
+    with contextlib.suppress(Exception):
+        most, hard = resource.getrlimit(resource.RLIMIT_FSIZE)
+        resource.setrlimit(resource.RLIMIT_FSIZE, (hard, hard))
+        try:
+            coverage.process_startup.coverage.save()
+        finally:
+            resource.setrlimit(resource.RLIMIT_FSIZE, (most, hard))
+
+
+def _exit(status: int, end: Callable[[int], None] = os._exit) -> None:
+    try:
+        _save()
+    finally:
+        end(status)
+
+
+def _noted(before: Callable[[], object]) -> Callable[[], None]:
+    """The same preexec_fn, after which a thread writes what has run: files that this one closes to itself stay open to
+    a thread that it had before."""
+
+    def noted() -> None:
+        is_over = threading.Event()
+        thread = threading.Thread(target=lambda: (is_over.wait(), _save()))
+        thread.start()
+        try:
+            before()
+        finally:
+            is_over.set()
+            thread.join()
+
+    return noted
+
+
+class _Popen(subprocess.Popen):  # type: ignore[type-arg]
+    def __init__(self, *words: Any, preexec_fn: Callable[[], object] | None = None, **more: Any) -> None:
+        super().__init__(*words, preexec_fn=None if preexec_fn is None else _noted(preexec_fn), **more)
+
+
+sys.executable = str(Path(__file__).resolve().parent.parent / "bin/python3")
+if coverage.process_startup():
+    os._exit = _exit  # type: ignore[assignment]
+    subprocess.Popen = _Popen  # type: ignore[misc]
