@@ -2,6 +2,7 @@
 from __future__ import annotations
 
 import csv
+import datetime
 import glob
 import io
 import json
@@ -23,6 +24,7 @@ from holdings.formats import KBART
 from holdings.formats import LINKS
 from holdings.formats import MOST_BYTES
 from holdings.formats import faults_of
+from openlink_update.exports.scholar import items
 
 # The day is 15 July 2026. For each row of a journal: what Google Scholar has to get of it, worked out by hand. None is
 # no item; `from` and `to` are year, month, volume and issue.
@@ -138,6 +140,16 @@ class Exports(Case):
                 if it.findtext("issn") == f"{3000 + number}-0000"
             ]
             self.expect(f"case {number}: {name}", found, [] if expected is None else [expected])
+
+    def test_scholar_characters(self) -> None:
+        """The production Char of XML 1.0: the first and the last character of each of its ranges, and those beside."""
+        good = [9, 0xA, 0xD, 0x20, 0xD7FF, 0xE000, 0xFFFD, 0x10000, 0x10FFFF]
+        bad = [0, 8, 0xB, 0xC, 0xE, 0x1F, 0xD800, 0xDFFF, 0xFFFE, 0xFFFF]
+        rows = [{"publication_title": "A", "print_identifier": "2901-0012"}]
+        for number in (*good, *bad):
+            [item] = items(rows, f"<{chr(number)}>", datetime.date(2026, 11, 20))
+            wanted = chr(number) if number in good else ""
+            self.expect(f"U+{number:04X}", re.findall("<comment>(.*)</comment>", item, re.S), [f"&lt;{wanted}&gt;"])
 
     def test_scholar(self) -> None:
         with Version(sample()) as version:

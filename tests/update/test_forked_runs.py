@@ -18,7 +18,8 @@ from fixtures.patience import patience
 FINDS = """import json, os, resource, signal, sys
 numbers = [it for it in range(1, 65) if it not in (32, 33)]
 limits = [it for it in dir(resource) if it.startswith("RLIMIT_")]
-streams = [(it.fileno(), it.encoding, it.errors, it.line_buffering, it.write_through) for it in (sys.stdout, sys.stderr)]
+outputs = sys.stdout, sys.stderr
+streams = [(it.fileno(), it.encoding, it.errors, it.line_buffering, it.write_through) for it in outputs]
 found = {
     "arguments": sys.argv, "path": sys.path[0], "folder": os.getcwd(), "environment": dict(os.environ),
     "umask": os.umask(0), "files": sorted(os.listdir("/proc/self/fd")), "name": __name__,
