@@ -15,7 +15,7 @@ try:
 except ImportError:  # needs.hypothesis skips the tests
     hypothesis = strategies = None
 
-__all__ = ["CASES", "PropertyCase", "cases_of", "strategies"]
+__all__ = ["CASES", "PropertyCase", "cases_of", "shared_cases", "strategies"]
 CASES = int(os.environ.get("OPENLINK_CASES", "1000"))
 _SEED = os.environ.get("OPENLINK_SEED", "")
 
@@ -52,6 +52,12 @@ def _shared(made: Callable[[], Any]) -> list[Any]:
     return cases_of(made())
 
 
+def shared_cases(made: Callable[[], Any]) -> list[Any]:
+    """The cases of a strategy that a function makes. Tests of one function take the same ones, since most of the time
+    goes into making them; in runs with a seed each has its own."""
+    return cases_of(made()) if _SEED else _shared(made)
+
+
 class PropertyCase(Case):
     def hold(self, strategy: Any, holds: Callable[[Any], None]) -> None:
         """The function raises an AssertionError for no case."""
@@ -66,8 +72,7 @@ class PropertyCase(Case):
         self.expect_cases(count)
 
     def hold_shared(self, holds: Callable[[Any], None], *made: Callable[[], Any]) -> None:
-        """The same of the strategies that functions make, of tuples if they are several. Tests of one function take the
-        same cases, since most of the time goes into making them; in runs with a seed each has its own."""
+        """The same of the shared cases of strategies that functions make, of tuples of them if they are several."""
         strategy = made[0]() if len(made) == 1 else strategies.tuples(*(it() for it in made))
         if _SEED:
             self.hold(strategy, holds)

@@ -14,6 +14,7 @@ from openlink_update.versions.library import Library
 from properties import njs
 from properties.property_case import PropertyCase
 from properties.property_case import cases_of
+from properties.property_case import shared_cases
 from properties.property_case import strategies as st
 
 UTC = datetime.timezone.utc
@@ -124,7 +125,7 @@ class VersionNames(PropertyCase):
 
     @needs.command("njs")
     def test_ages_of_the_health_page(self) -> None:
-        cases = cases_of(_pairs())
+        cases = shared_cases(_pairs)
         self.expect_cases(len(cases))
         asked = [(f"/etc/openlink/versions/{name}", int(moment.timestamp() * 1000)) for name, moment in cases]
         faults, count = [], 0
