@@ -122,6 +122,18 @@ class Versions(Case):
             raise ValueError
         self.expect("then", gc.isenabled())
 
+    def test_abbreviations(self) -> None:
+        """A version has those of its input, and those of the version before where the list cannot be read."""
+        with tempfile.TemporaryDirectory() as folder:
+            (Path(folder) / "abbreviations.tsv").write_bytes(b"A T\tTides\n")
+            for pairs, wanted in ((b"P R\tPiers\n", b"P R\tPiers\n"), (b"", b""), (None, b"A T\tTides\n")):
+                maker = making.Maker.__new__(making.Maker)
+                maker.names, maker._older = ["press"], Path(folder)
+                with mock.patch.object(maker, "_names_before", return_value=[]):
+                    with mock.patch.object(maker, "_finish") as finish:
+                        maker.make([], True, pairs)
+                self.expect(f"{pairs!r}", finish.call_args.args, (True, wanted))
+
     def test_no_target(self) -> None:
         with Weeks() as weeks:
             weeks.write("targets.tsv", b"press\tpress.rules\tpress.txt\n")

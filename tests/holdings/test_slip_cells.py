@@ -4,6 +4,7 @@ from __future__ import annotations
 import datetime
 
 from fixtures.cases import Case
+from fixtures.made_titles import issn
 from fixtures.made_versions import table
 from openlink_update.slips import guards
 from openlink_update.slips import kinds
@@ -107,6 +108,14 @@ class Cells(Case):
         ):
             now = Material(Table(header, [["T", "0028-0836", date]]), [], [], 1, None, "", "")
             self.expect(date, count_of("first dates after today", now), int(is_slip))
+
+    def test_titles_of_the_version_before(self) -> None:
+        """If it knows half of the numbers, the tables of the other targets are not asked for the rest."""
+        titles = [(f"Tidal Currents {at}", issn(at), f"https://a.org/{at}") for at in range(10)]
+        others = {issn(at): "Harbour Works" for at in range(5, 10)}
+        for count, wanted in ((4, 5), (5, 0)):
+            found = count_of(OTHERS, material(*titles), material(*titles[:count]), others)
+            self.expect(f"{count} of 10", found, wanted)
 
     def test_sessions(self) -> None:
         for text, is_slip in (

@@ -9,6 +9,7 @@ import resource
 import subprocess
 import sys
 import threading
+import time
 from collections.abc import Callable
 from pathlib import Path
 from typing import Any
@@ -33,6 +34,25 @@ def _exit(status: int, end: Callable[[int], None] = os._exit) -> None:
         _save()
     finally:
         end(status)
+
+
+def _others() -> bool:
+    """Whether the user of this process has another one that has not ended."""
+    for name in filter(str.isdigit, os.listdir("/proc")):
+        with contextlib.suppress(OSError):
+            with open(f"/proc/{name}/stat", "rb") as file:
+                is_mine, text = os.fstat(file.fileno()).st_uid == os.getuid(), file.read()
+            if is_mine and int(name) != os.getpid() and text.rpartition(b") ")[2][:1] not in (b"Z", b"X"):
+                return True
+    return False
+
+
+def _kill(number: int, what: int, kill: Callable[[int, int], None] = os.kill) -> None:
+    """Before all processes of a library's user are ended, those that end by themselves have a second to write."""
+    end = time.monotonic() + 1
+    while number == -1 and time.monotonic() < end and _others():
+        time.sleep(0.02)
+    kill(number, what)
 
 
 def _noted(before: Callable[[], object]) -> Callable[[], None]:
@@ -60,4 +80,5 @@ class _Popen(subprocess.Popen):  # type: ignore[type-arg]
 sys.executable = str(Path(__file__).resolve().parent.parent / "bin/python3")
 if coverage.process_startup():
     os._exit = _exit  # type: ignore[assignment]
+    os.kill = _kill
     subprocess.Popen = _Popen  # type: ignore[misc]

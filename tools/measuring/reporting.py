@@ -33,6 +33,8 @@ def _reported(settings: str, paths: list[str]) -> dict[str, dict[str, Any]]:
         except Exception as fault:  # of a process that was killed while it wrote
             print(f"tools/coverage: {path}: {type(fault).__name__}: {fault}", file=sys.stderr)
     for path in measured.get_data().measured_files():
+        if not path.endswith(".py"):  # the templates of pages run, too
+            continue
         try:
             it = measured._analyze(path)
         except CoverageException:  # a module that a test has written

@@ -146,7 +146,7 @@ def _is_address(text: str) -> bool:
     try:
         parts = urlsplit(text)
         has_host = parts.scheme in ("http", "https") and bool(parts.hostname)
-        return has_host and parts.path in ("", "/") and (parts.port or 1) > 0
+        return has_host and parts.path in ("", "/") and parts.port != 0
     except ValueError:
         return False
 
