@@ -155,26 +155,28 @@ class Versions(Case):
             said = reason(lambda: [*tables_again.tables_of(version, datetime.date(2026, 1, 1))])
             self.expect("what is said", said, f"a: its table cannot be prepared: {version}/received/a.txt: {XML}")
 
-    def test_a_table_to_the_day(self) -> None:
-        """Run as a program, served.py prints a table as it is served, or says why it is none."""
+    def test_tables_to_the_day(self) -> None:
+        """Run as a program, served.py writes tables as they are served, up to one that is none, and says why."""
         good = "publication_title\tprint_identifier\tdate_first_issue_online\nTides\t2901-0012\t1995\n"
         rows = "publication_title\tprint_identifier\tdate_first_issue_online\tcoverage_from\tcoverage_to\n"
-        for text, wanted in (
-            (good, (f"{rows}Tides\t2901-0012\t1995\t19950101\t99999999\n", None)),
-            ("<?xml version='1.0'?><a/>\n", ("", f"{{}}: {XML}")),
-        ):
-            with tempfile.NamedTemporaryFile("w", suffix=".txt") as file:
-                file.write(text)
-                file.flush()
-                printed, ending = io.TextIOWrapper(io.BytesIO(), "utf-8"), None
-                with mock.patch("sys.argv", ["served.py", file.name, "2026-11-20"]), mock.patch("sys.stdout", printed):
+        row = f"{rows}Tides\t2901-0012\t1995\t19950101\t99999999\n"
+        with tempfile.TemporaryDirectory() as name:
+            folder = Path(name)
+            for source, text in (("a", good), ("b", "<?xml version='1.0'?><a/>\n"), ("c", good)):
+                (folder / f"{source}.txt").write_text(text, encoding="utf-8")
+            for sources, wanted in (("a", {"a": row}), ("ac", {"a": row, "c": row}), ("abc", {"a": row}), ("", {})):
+                words = [f"{folder}/{it}.{end}" for it in sources for end in ("txt", "served")]
+                ending = None
+                with mock.patch("sys.argv", ["served.py", "2026-11-20", *words]):
                     try:
                         runpy.run_path(served.__file__, run_name="__main__")
                     except SystemExit as exit_of_program:
                         ending = exit_of_program.code
-                printed.seek(0)
-                said = printed.read(), ending
-                self.expect("what is printed", said, (wanted[0], wanted[1] and wanted[1].format(file.name)))
+                written = {path.stem: path.read_text(encoding="utf-8") for path in folder.glob("*.served")}
+                self.expect(f"what is written of {sources}", written, wanted)
+                self.expect(f"what is said of {sources}", ending, f"{folder}/b.txt: {XML}" if "b" in sources else None)
+                for path in folder.glob("*.served"):
+                    path.unlink()
 
     def test_a_spreadsheet_of_another_packing(self) -> None:
         """Python unpacks other methods than deflate without a limit of memory."""
