@@ -125,7 +125,7 @@ class Notes(Case):
             lines = self.heard(lambda: run_notes.note_target(state))[0]["lines"]
             assert isinstance(lines, list)
             self.expect(f"lines of {character}", (len(lines), lines[-1]), (wanted + 1, f".. {41 - wanted} more"))
-        state = TargetState("\U0001f600" * 7480, "kept", lines=("x",))
+        state = TargetState("\U0001f600" * 7500, "kept", lines=("x",))
         self.expect("a long name", self.heard(lambda: run_notes.note_target(state))[0]["lines"], [".. 1 more"])
 
     def test_long_probes(self) -> None:
