@@ -143,9 +143,10 @@ class Pages(Case):
 class Cells(Case):
     def test_long_embargoes(self) -> None:
         """Before the first year of the calendar nothing is open."""
-        embargo = Embargo.parse("P9999Y")
-        assert embargo
-        self.expect("the last open day", embargo.last_open(DAY), datetime.date(1, 1, 1))
+        for cell, wanted in (("P2025Y", (1, 11, 27)), ("P2026Y", (1, 1, 1)), ("P9999Y", (1, 1, 1))):
+            embargo = Embargo.parse(cell)
+            assert embargo
+            self.expect(f"the last open day by {cell}", embargo.last_open(DAY), datetime.date(*wanted))
 
     def test_two_numbers_of_the_other_column(self) -> None:
         head = "\t".join(HEAD)

@@ -77,6 +77,8 @@ class _Popen(subprocess.Popen):  # type: ignore[type-arg]
         super().__init__(*words, preexec_fn=None if preexec_fn is None else _noted(preexec_fn), **more)
 
 
+if os.environ.get("OPENLINK_NO_SITE"):  # as with -S
+    sys.path[:] = [it for it in sys.path if not it.endswith(("dist-packages", "site-packages"))]
 sys.executable = str(Path(__file__).resolve().parent.parent / "bin/python3")
 if coverage.process_startup():
     os._exit = _exit  # type: ignore[assignment]

@@ -23,11 +23,12 @@ source =
     {top}/update/openlink_update
     */openlink_update
 """
-# Each Python of a test begins with this. The tests start others with -S, which a stand-in leaves out.
+# Each Python of a test begins with this. The tests start others with -S, in place of which a stand-in sets a variable.
 _START = Path(__file__).with_name("at_start.py")
 _REPORTING = Path(__file__).with_name("reporting.py")
 _STAND_IN = """#!/bin/sh
-for word; do shift; [ "$word" = -S ] || set -- "$@" "$word"; done
+unset OPENLINK_NO_SITE
+for word; do shift; if [ "$word" = -S ]; then export OPENLINK_NO_SITE=1; else set -- "$@" "$word"; fi; done
 exec {python} "$@"
 """
 

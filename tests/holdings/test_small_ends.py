@@ -1,0 +1,259 @@
+"""How small parts of the update end where something is missing, damaged or too long."""
+from __future__ import annotations
+
+import contextlib
+import datetime
+import io
+import json
+import os
+import subprocess
+import tempfile
+import zipfile
+from collections.abc import Callable
+from pathlib import Path
+from unittest import mock
+
+from bounds.refusals import reason
+from fixtures.cases import Case
+from openlink_update import children
+from openlink_update import run_notes
+from openlink_update import shown_text
+from openlink_update.counts.log_files import LogFile
+from openlink_update.fetch.fetch_folder import FetchFolder
+from openlink_update.input_files import InputFolder
+from openlink_update.outcome import Refused
+from openlink_update.received import archives
+from openlink_update.received import headers
+from openlink_update.rights import handover
+from openlink_update.run_notes import ProbeResult
+from openlink_update.run_notes import TargetState
+from openlink_update.run_records import Recorder
+from openlink_update.run_records import records_in
+from openlink_update.site import targets_file
+from openlink_update.tables.table import Table
+from openlink_update.versions import served
+from openlink_update.versions import target_list
+from openlink_update.versions.judging import Judge
+from openlink_update.versions.library import Library
+from openlink_update.versions.program import Program
+from openlink_update.versions.target_list import Target
+
+OLD, NEW = "20261122T000000Z", "20261129T000000Z"
+DAY = datetime.date(2026, 11, 27)
+
+
+def printed_by(call: Callable[[], object]) -> str:
+    printed = io.StringIO()
+    with contextlib.redirect_stdout(printed):
+        call()
+    return printed.getvalue()
+
+
+class FolderCase(Case):
+    def setUp(self) -> None:
+        room = tempfile.TemporaryDirectory()
+        self.addCleanup(room.cleanup)
+        self.folder = Path(room.name)
+
+    def write(self, name: str, data: bytes) -> Path:
+        path = self.folder / name
+        path.parent.mkdir(parents=True, exist_ok=True)
+        path.write_bytes(data)
+        return path
+
+
+class Children(Case):
+    def test_one_that_does_not_end(self) -> None:
+        """It has ten seconds after it was asked to."""
+        child = mock.Mock(poll=lambda: None)
+        child.wait.side_effect = [subprocess.TimeoutExpired("x", 10), -9]
+        children.stop(child)
+        calls = [name for name, _, _ in child.method_calls]
+        self.expect("what is done", calls, ["terminate", "wait", "kill", "wait"])
+        self.expect("the seconds", child.wait.call_args_list[0].args, (10,))
+
+    def test_one_that_has_ended(self) -> None:
+        """That it takes no input is seen by its status, and not by the one who gives it."""
+        child = mock.Mock()
+        child.stdin.write.side_effect = BrokenPipeError
+        children.write(child, b"text")
+        self.expect("what was given", child.stdin.write.call_args.args, (b"text",))
+        ended = mock.Mock(poll=lambda: 0)
+        children.stop(ended)
+        self.expect("nobody ends it again", ended.method_calls, [])
+
+
+class Lists(FolderCase):
+    def said(self, text: bytes) -> str:
+        self.write("targets.tsv", text)
+        return reason(target_list.read, InputFolder(self.folder)).removeprefix(f"{self.folder}/targets.tsv: ")
+
+    def test_targets(self) -> None:
+        self.expect("another encoding", self.said(b"a\tr\tt\xff\n"), "not UTF-8")
+        self.expect("no table", self.said(b"a\tr\t;\n"), "line 1: no table")
+        self.expect("none", self.said(b"# a\n"), "0 targets, and 1 to 256 are possible")
+
+    def test_groups(self) -> None:
+        """What is wrong with rules is said elsewhere: a target whose rules cannot be read has no group."""
+        self.write("good.rules", b"# group: In the library\nrule\nlink https://e.org/\n")
+        self.write("targets.tsv", b"a\tgood.rules\tt\nb\tnone.rules\tt\nc\tcode.olk\tt\n")
+        groups = target_list.groups_of(target_list.read(InputFolder(self.folder)))
+        self.expect("groups", groups, {"a": "In the library"})
+
+    def test_site_files(self) -> None:
+        good = self.write("good.json", b'{"groups": [{"name": "A"}]}')
+        bad = self.write("bad.json", b'{"groups": []}')
+        for paths, wanted in (([good], (0, "ok\n")), ([good, bad], (1, f"{bad}: groups is not a list of groups\n"))):
+            words, found = list(map(str, paths)), list[int]()
+            text = printed_by(lambda: found.append(targets_file.main(words)))
+            self.expect(f"{len(paths)} files", (found[0], text), wanted)
+
+
+class Notes(Case):
+    def heard(self, call: Callable[[], object]) -> list[dict[str, object]]:
+        """What a run notes."""
+        notes: list[dict[str, object]] = []
+        run_notes.hear(lambda kind, text: notes.append(json.loads(text)))
+        self.addCleanup(run_notes.hear, None)
+        call()
+        return notes
+
+    def test_long_targets(self) -> None:
+        """As many lines as there is room for: 40, 20, 10 or none."""
+        for character, wanted in (("x", 40), ("é", 40), ("\U0001f600", 20)):
+            state = TargetState("press", "kept", lines=(character * 300,) * 41)
+            lines = self.heard(lambda: run_notes.note_target(state))[0]["lines"]
+            assert isinstance(lines, list)
+            self.expect(f"lines of {character}", (len(lines), lines[-1]), (wanted + 1, f".. {41 - wanted} more"))
+        state = TargetState("\U0001f600" * 7500, "kept", lines=("x",))
+        self.expect("a long name", self.heard(lambda: run_notes.note_target(state))[0]["lines"], [".. 1 more"])
+
+    def test_long_probes(self) -> None:
+        found = self.heard(lambda: run_notes.note_probe(ProbeResult(3, "q" * 301, "t" * 300, True)))
+        self.expect("cut", found, [{"number": 3, "query": f"{'q' * 300}..", "targets": "t" * 300, "holds": True}])
+
+    def test_nobody_reads(self) -> None:
+        """A stream that is closed is not written to again."""
+        closed = mock.Mock()
+        closed.write.side_effect = BrokenPipeError
+        with mock.patch("sys.stdout", closed):
+            shown_text.report("one")
+            shown_text.report("two")
+        self.expect("how often it was tried", closed.write.call_count, 1)
+        with mock.patch("sys.stdout", io.StringIO()):
+            shown_text.prepare_streams()  # it has no encoding, so nothing is to be done
+        stream = io.TextIOWrapper(io.BytesIO(), "ascii")
+        with mock.patch("sys.stdout", stream):
+            shown_text.prepare_streams()
+            shown_text.report("é")
+        self.expect("a letter that it lacks", stream.buffer.getvalue(), b"\\xe9\n")  # type: ignore[attr-defined]
+
+
+class Records(FolderCase):
+    def test_no_room(self) -> None:
+        library = Library(self.folder)
+        self.write("runs", b"")
+        said = printed_by(lambda: Recorder("update").write(library, 0))
+        self.expect("what is said", said, f"no record of this run: {self.folder}/runs: File exists\n")
+
+    def test_a_link_that_is_wrong(self) -> None:
+        """The run has said so; its record has no version."""
+        (self.folder / "current").symlink_to("elsewhere")
+        Recorder("update").write(Library(self.folder), 3)
+        self.expect(
+            "the record", [(it.work, it.status, it.version) for it in records_in(self.folder)], [("update", 3, "")]
+        )
+
+    def test_damaged_records(self) -> None:
+        for number, data in enumerate((b"{", b"[" * 100_000, b'"text"', b"\xff")):
+            self.write(f"runs/2026112{number}T000000Z.update.json", data)
+        self.expect("none counts", records_in(self.folder), [])
+
+
+class Versions(FolderCase):
+    def test_back_without_a_version(self) -> None:
+        library = Library(self.folder)
+        library.remember(None)
+        self.expect("none before", (library.is_unsettled(), library.version_of("before")), (True, None))
+        library.move_back(None)
+        self.expect("none in use", library.current(), None)
+
+    def test_back_without_room_for_a_link(self) -> None:
+        """The link that names the version before is there already, and becomes the one in use."""
+        library = Library(self.folder)
+        for stamp in (OLD, NEW):
+            library.version(stamp).mkdir(parents=True)
+        library.move(NEW)
+        library.remember(OLD)
+        with mock.patch("os.symlink", side_effect=OSError(28, "No space left on device")):
+            library.move_back(OLD)
+        self.expect("in use", (library.current(), library.is_unsettled()), (OLD, False))
+
+    def test_tables_that_differ(self) -> None:
+        tables = served.Tables(self.folder, DAY)
+        (self.folder / "tables").mkdir()
+        table = Table(("publication_title", "print_identifier"), [["Tides", "2901-0012"]])
+        target = Target("press", "r", ("t",), frozenset())
+        self.expect("it is good", tables.put(target, table), [])
+        self.expect("a version without it", tables.is_same("press", self.folder / "none"), False)
+        self.expect("the same", tables.is_same("press", self.folder))
+
+    def test_files_that_a_command_rejects(self) -> None:
+        """They are a reason, and no warning."""
+
+        class Refusing(Program):
+            def run(self, *words: str, most: int = 0) -> tuple[int, str]:
+                raise Refused([f"{words[0]}: TooLong at row 2"])
+
+        judge, reasons = Judge(self.folder, None, Refusing("none", self.folder), DAY), list[str]()
+        self.expect("warnings", judge._lines("press.txt", reasons, "inspect", "tables/press.txt"), [])
+        self.expect("reasons", reasons, ["press.txt: inspect: TooLong at row 2"])
+
+    def test_a_folder_that_is_gone(self) -> None:
+        said = ""
+        try:
+            handover.take(self.folder / "none", 61184)
+        except OSError as fault:
+            said = str(fault.strerror)
+        self.expect("what is raised", said, "No such file or directory")
+
+
+class Received(FolderCase):
+    def test_members_of_archives(self) -> None:
+        """Of several members the one that begins like a table counts, if it is packed in the usual way."""
+        table = b"publication_title\tprint_identifier\tonline_identifier\n"
+        for packing, wanted in ((zipfile.ZIP_DEFLATED, table), (zipfile.ZIP_BZIP2, "a zip file with 2 members: name ")):
+            written = io.BytesIO()
+            with zipfile.ZipFile(written, "w") as archive:
+                archive.writestr("readme.txt", b"read me", zipfile.ZIP_STORED)
+                archive.writestr("a.txt", table, packing)
+            found: list[object] = []
+            said = reason(lambda: found.append(archives.opened(written.getvalue(), is_table=table.__eq__)[0]))
+            got = found[0] if found else said[: len("a zip file with 2 members: name ")]
+            self.expect(f"packing {packing}", got, wanted)
+        spoilt = written.getvalue().replace(b"read me", b"real me")
+        said = reason(archives.opened, spoilt, "*", lambda data: data == b"read me")
+        self.expect("one that is damaged", said.startswith("a zip file with 2 members: name "))
+
+    def test_rows_without_names(self) -> None:
+        self.expect("no row", reason(headers.table_of_rows, []), "it is empty")
+        parsed = headers.table_of_rows([["a", "b"], ["1", "2"]])
+        self.expect("rows", (parsed.columns, parsed.rows), (["a", "b"], [["1", "2"]]))
+
+    def test_logs_that_cannot_be_read(self) -> None:
+        def read(size: int) -> bytes:
+            raise OSError(5, "Input/output error")
+
+        log = LogFile("a.log", read)
+        self.expect("what it gives, and why", (log.read(10), log.fault), (b"", "Input/output error"))
+
+    def test_what_an_earlier_release_has_left(self) -> None:
+        """What it remembered below the input is taken; its other files are removed, and those of others stay."""
+        for name in ("state.json", "lock", "7"):
+            self.write(f"input/.fetch/{name}", b"{}")
+        folder = FetchFolder(InputFolder(self.folder / "input"))
+        self.expect("what is remembered", folder.state(), b"{}")
+        self.expect("what is left", os.listdir(self.folder / "input"), [])
+        self.write("other/.fetch/own.txt", b"")
+        FetchFolder(InputFolder(self.folder / "other"))
+        self.expect("a file of others", os.listdir(self.folder / "other/.fetch"), ["own.txt"])
