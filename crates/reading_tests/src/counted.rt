@@ -1,7 +1,7 @@
-//! Pairs that do not count, and limits.
+//! Pairs of any query, those that do not count, and limits.
 
 use crate::shared::{Case, first_difference};
-use kev_read::KevError;
+use kev_read::{KevError, QueryPairs};
 use openurl_reading::read_openurl;
 use std::alloc::Global;
 use std::test::Fail;
@@ -46,6 +46,21 @@ const DROPPED: [Case; 5] = [
 #[test]
 fn some_pairs_do_not_count(rt: HostRuntime) -> Result<(), Fail> {
     assert_eq!(rt; first_difference(rt.alloc(), &DROPPED)?, None);
+    Ok(())
+}
+
+/// Whether the last of two pairs of a query is this.
+fn ends_with(alloc: Global, query: &[u8], pair: (&str, &str)) -> Result<bool, Fail> {
+    let pairs = QueryPairs::read(alloc, query)?;
+    Ok(pairs.len() == 2 && pairs.pair(1) == pair)
+}
+
+#[test]
+fn no_version_is_rejected(rt: HostRuntime) -> Result<(), Fail> {
+    assert_eq!(rt;
+        ends_with(rt.alloc(), b"ctx_ver=1&&x=%41+b", ("x", "A b"))?,
+        true
+    );
     Ok(())
 }
 
