@@ -1,5 +1,6 @@
 -- A number as the standard writes it is found as it is.
-use Rattle.std.proofs.Common.{◌≡◌, ◌-◌, [], ◌∷◌, ◌++◌, Bool, true, false, Some, length, get_or, take, drop, map, filter, refl, ap, ◌∙◌, subst, arith}
+use Rattle.std.proofs.Common.{◌≡◌, ◌-◌, [], ◌∷◌, ◌++◌, Bool, true, false, Some, length, get_or, take, drop, map}
+use Rattle.std.proofs.Common.{filter, refl, ap, ◌∙◌, subst, arith, inl, inr, ◌⊎◌}
 use Rattle.std.specs.Char.{to_ascii_uppercase}
 use Rattle.std.proofs.lemmas.Bool.{and_parts, and_from, eqb-true, not-false}
 use Rattle.std.proofs.lemmas.List.{take_all, get_or_past, length-drop}
@@ -51,16 +52,30 @@ still_counts false issn h = h
 counts_alone : (said : Bool) (issn : Text) → counts said issn ≡ true → filter (counts said) (issn ∷ []) ≡ issn ∷ []
 counts_alone said issn h = rw h refl
 
-pub issn_stays : (issn : Text) → is_issn issn ≡ true → is_doubtful issn ≡ false → issns_in issn ≡ issn ∷ []
-issn_stays issn h sure =
+none_counts : (said : Bool) (issn : Text) → counts said issn ≡ false → filter (counts said) (issn ∷ []) ≡ []
+none_counts said issn h = rw h refl
+
+-- what is found in an ISSN is the ISSN, if it counts
+issns_of_one : (issn : Text) → is_issn issn ≡ true → issns_in issn ≡ right_first is_right_issn (filter (counts (says_issn issn)) (issn ∷ []))
+issns_of_one issn h =
     let is = halves issn h in
-    let counted = still_counts (says_issn issn) issn (not-false _ sure) in
     let found : spellings issn_length issn ≡ issn ∷ [] = alone issn_length issn 9 (issn_alone issn is) is.long (omega arith) in
     let written : map issn_of (spellings issn_length issn) ≡ issn ∷ [] = ap (map issn_of) found ∙ ap (λ t. t ∷ []) (issn_written issn is) in
-    ap issns_in_capitals (issn_capitals issn is)
-    ∙ ap (λ ts. right_first is_right_issn (filter (counts (says_issn issn)) ts)) written
-    ∙ ap (right_first is_right_issn) (counts_alone (says_issn issn) issn counted)
+    ap issns_in_capitals (issn_capitals issn is) ∙ ap (λ ts. right_first is_right_issn (filter (counts (says_issn issn)) ts)) written
+
+pub issn_stays : (issn : Text) → is_issn issn ≡ true → is_doubtful issn ≡ false → issns_in issn ≡ issn ∷ []
+issn_stays issn h sure =
+    issns_of_one issn h
+    ∙ ap (right_first is_right_issn) (counts_alone (says_issn issn) issn (still_counts (says_issn issn) issn (not-false _ sure)))
     ∙ one_first is_right_issn issn
+
+pub issn_alone_or_none : (issn : Text) → is_issn issn ≡ true → (issns_in issn ≡ issn ∷ []) ⊎ (issns_in issn ≡ [])
+issn_alone_or_none issn h = by_test (counts (says_issn issn) issn) refl (issns_of_one issn h)
+  where
+    by_test : (b : Bool) → counts (says_issn issn) issn ≡ b
+        → issns_in issn ≡ right_first is_right_issn (filter (counts (says_issn issn)) (issn ∷ [])) → (issns_in issn ≡ issn ∷ []) ⊎ (issns_in issn ≡ [])
+    by_test true t e = inl (e ∙ ap (right_first is_right_issn) (counts_alone (says_issn issn) issn t) ∙ one_first is_right_issn issn)
+    by_test false t e = inr (e ∙ ap (right_first is_right_issn) (none_counts (says_issn issn) issn t))
 
 -- ---- ISBNs
 

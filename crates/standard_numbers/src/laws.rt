@@ -1,6 +1,6 @@
 //! What follows from the definitions. These functions have empty bodies; each contract is a theorem.
 
-ghost use Rattle.std.specs.Prelude.{◌≡◌, [], ◌∷◌, true, false, All};
+ghost use Rattle.std.specs.Prelude.{◌≡◌, ◌⊎◌, [], ◌∷◌, true, false, All};
 ghost use Rattle.text_model.specs.Texts.{Text};
 ghost use Rattle.standard_numbers.specs.Spellings.{are_digits, right_first};
 ghost use Rattle.standard_numbers.specs.Issn.{issns_in, IsIssn, is_right_issn, is_doubtful};
@@ -15,6 +15,11 @@ pub fn issns_are_issns()
 /// what was found is found again.
 pub fn issns_stay()
     ensures { (issn : Text) → IsIssn issn → is_doubtful issn ≡ false → issns_in issn ≡ issn ∷ [] }
+{}
+
+/// An ISSN as the standard writes it is found as it is, or nothing is.
+pub fn issns_are_found_alone()
+    ensures { (issn : Text) → IsIssn issn → (issns_in issn ≡ issn ∷ []) ⊎ (issns_in issn ≡ []) }
 {}
 
 /// ISSNs with a right check digit lead.
