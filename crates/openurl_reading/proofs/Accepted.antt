@@ -1,0 +1,187 @@
+-- Pairs that count still count after all steps.
+use Rattle.std.proofs.Common.{◌≡◌, ℕ, List, [], ◌∷◌, ◌++◌, map, take, Bool, true, false, cond, not, ◌&&◌, ◌||◌}
+use Rattle.std.proofs.Common.{Option, Some, None, refl, sym, ap, subst, get_or, arith}
+use Rattle.std.specs.Prelude.{codes, nat_eq, nat_le}
+use Rattle.std.specs.Char.{is_ascii_digit, to_ascii_uppercase}
+use Rattle.std.specs.List.{All, starts_with}
+use Rattle.std.specs.Str.{bytes_eq}
+use Rattle.std.proofs.lemmas.Bool.{and_parts, and_from, not-true}
+use Rattle.std.proofs.lemmas.Bool.Decides.{nat_tests}
+use Rattle.std.proofs.lemmas.List.Sums.{AllPass-from_list_all}
+use Rattle.std.proofs.lemmas.List.Elements.{All-cons, All-head, All-tail, All-take, All-map}
+use Rattle.text_model.specs.Texts.{Text}
+use Rattle.kev_read.specs.Pairs.{KeyValue, all_of, first_of}
+use Rattle.kev_read.specs.Refusal.{is_other_version}
+use Rattle.openurl_reading.specs.Counting.{is_free, is_void, is_blank, is_any, is_prefix, is_one_of, row_keys, is_accepted, accepted, counting, most_pairs}
+use Rattle.openurl_reading.specs.Steps.{Step, unchanged, replacing, taken, after}
+use Rattle.openurl_reading.specs.Values.{most_values, led}
+use Rattle.openurl_reading.specs.Versions.{version, correction}
+use Rattle.openurl_reading.specs.OldKeys.{OldKey, old_keys, copy, copies}
+use Rattle.openurl_reading.specs.Referrers.{namespace, referrer_of, referrer_step}
+use Rattle.openurl_reading.specs.Numbers.{first_issn, first_eissn, first_isbn, issn_step, eissn_step, isbn_step}
+use Rattle.openurl_reading.specs.Dates.{date_keys, first_date, led_or_none, date_step}
+use Rattle.openurl_reading.specs.Reading.{normal_form}
+use Rattle.openurl_reading.proofs.Each.{none_has, one_has, each_taken, each_of_key, each_filled, each_led}
+use Rattle.openurl_reading.proofs.FoundAre.{AreFound}
+use Rattle.openurl_reading.proofs.Stages.{last_steps, with_versions, normal_form-is}
+use Rattle.openurl_reading.proofs.Values.{same_key}
+
+abbrev pub AreAccepted : List KeyValue → Type 0
+AreAccepted pairs = All (λ pair. is_accepted pair ≡ true) pairs
+
+pub accepted_pass : (pairs : List KeyValue) → AreAccepted (accepted pairs)
+accepted_pass [] = none_has (λ pair. is_accepted pair ≡ true)
+accepted_pass (pair ∷ pairs) = by_test (is_accepted pair) refl (accepted_pass pairs)
+  where
+    by_test : (b : Bool) → is_accepted pair ≡ b → AreAccepted (accepted pairs) → AreAccepted (cond b (pair ∷ accepted pairs) (accepted pairs))
+    by_test true h rest = All-cons (λ p. is_accepted p ≡ true) pair (accepted pairs) h rest
+    by_test false h rest = rest
+
+pub counting_pass : (pairs : List KeyValue) → AreAccepted (counting pairs)
+counting_pass pairs = All-take (λ p. is_accepted p ≡ true) most_pairs (accepted pairs) (accepted_pass pairs)
+
+-- all that pass are kept
+pub all_accepted : (pairs : List KeyValue) → AreAccepted pairs → accepted pairs ≡ pairs
+all_accepted [] all = refl
+all_accepted (pair ∷ pairs) all =
+    let P : KeyValue → Type 0 = λ p. is_accepted p ≡ true in
+    rw (All-head P pair pairs all) (ap (λ rest. pair ∷ rest) (all_accepted pairs (All-tail P pair pairs all)))
+
+-- ---- a value that counts under a key counts under another one
+
+-- the other key is free, is a key of rows only if the first is one, and is no `rft_id`
+abbrev allows : Text → Text → Bool
+allows old new = is_free new && (not (is_one_of row_keys new) || is_one_of row_keys old) && not (bytes_eq new (codes "rft_id"))
+
+three_false : (a b c : Bool) → not (a || b || c) ≡ true → (a ≡ false) × (b ≡ false) × (c ≡ false)
+three_false true b c h = cc
+three_false false true c h = cc
+three_false false false true h = cc
+three_false false false false h = (refl, refl, refl)
+
+row_false : (row any other : Bool) → row && any ≡ false → not other || row ≡ true → other && any ≡ false
+row_false true any true h g = h
+row_false false any true h g = cc
+row_false row any false h g = refl
+
+passes_on : (old new v : Text) → allows old new ≡ true → is_accepted (record { key = old; value = v }) ≡ true
+    → is_accepted (record { key = new; value = v }) ≡ true
+passes_on old new v h g =
+    let may = and_parts _ _ h in
+    let keys = and_parts _ _ may.0 in
+    let no = three_false (is_blank v) (is_one_of row_keys old && is_any v) (bytes_eq old (codes "rft_id") && is_prefix v) (and_parts _ _ g).1 in
+    let row = row_false (is_one_of row_keys old) (is_any v) (is_one_of row_keys new) no.1 keys.1 in
+    let id : bytes_eq new (codes "rft_id") ≡ false = not-true _ may.1 in
+    let void : not (is_void (record { key = new; value = v })) ≡ true = rw (no.0, row, id) refl in
+    and_from _ _ keys.0 void
+
+not_blank : (key v : Text) → is_accepted (record { key = key; value = v }) ≡ true → is_blank v ≡ false
+not_blank key v g = (three_false (is_blank v) _ _ (and_parts _ _ g).1).0
+
+-- ---- values that steps give
+
+abbrev Passes : Text → Text → Type 0
+Passes key value = is_accepted (record { key = key; value = value }) ≡ true
+
+under_pass : (pairs : List KeyValue) (key : Text) → AreAccepted pairs → All (Passes key) (all_of pairs key)
+under_pass pairs key all =
+    each_of_key (λ pair. is_accepted pair ≡ true) (Passes key) key
+    (λ pair has passes. subst (λ k. is_accepted (record { key = k; value = pair.value }) ≡ true) (same_key pair.key key has) passes) pairs all
+
+step_passes : (step : Step) (pairs : List KeyValue) → All (Passes step.key) (step.change pairs).values → AreAccepted pairs → AreAccepted (taken pairs step)
+step_passes step pairs values all = each_taken (λ pair. is_accepted pair ≡ true) step pairs values all
+
+version_passes : (key : Text) (pairs : List KeyValue) → Passes key version → AreAccepted pairs → AreAccepted (taken pairs (correction key))
+version_passes key pairs passes all = step_passes (correction key) pairs (by_test (is_other_version (first_of pairs key))) all
+  where
+    by_test : (b : Bool) → All (Passes key) (cond b (replacing (version ∷ [])) unchanged).values
+    by_test true = one_has (Passes key) version passes
+    by_test false = none_has (Passes key)
+
+copies_pass : (keys : List OldKey) (pairs : List KeyValue) → All (λ key. allows key.old key.new ≡ true) keys → AreAccepted pairs
+    → AreAccepted (after (map copy keys) pairs)
+copies_pass [] pairs allowed all = all
+copies_pass (key ∷ keys) pairs allowed all =
+    let P : OldKey → Type 0 = λ key. allows key.old key.new ≡ true in
+    let values = all_of pairs key.old in
+    let may = All-head P key keys allowed in
+    let old = under_pass pairs key.old all in
+    let new : All (Passes key.new) (take most_values values) =
+    All-take (Passes key.new) most_values values (λ k d h. passes_on key.old key.new (get_or values k d) may (old k d h)) in
+    copies_pass keys (taken pairs (copy key)) (All-tail P key keys allowed)
+    (step_passes (copy key) pairs (each_filled (Passes key.new) (take most_values values) (all_of pairs key.new) new) all)
+
+old_keys_allow : All (λ key. allows key.old key.new ≡ true) old_keys
+old_keys_allow = AllPass-from_list_all (λ key. allows key.old key.new) old_keys refl
+
+referrer_passes_at : (sid : Text) (b : Bool) → starts_with nat_eq sid namespace ≡ b → is_blank sid ≡ false
+    → Passes (codes "rfr_id") (cond b sid (namespace ++ sid))
+referrer_passes_at sid true h blank = rw blank refl
+referrer_passes_at sid false h blank = refl
+
+referrer_passes : (pairs : List KeyValue) → AreAccepted pairs → AreAccepted (taken pairs referrer_step)
+referrer_passes pairs all =
+    let key = codes "rfr_id" in
+    let sids = take 1 (all_of pairs (codes "sid")) in
+    let known = All-take (Passes (codes "sid")) 1 (all_of pairs (codes "sid")) (under_pass pairs (codes "sid") all) in
+    step_passes referrer_step pairs
+    (each_filled (Passes key) (map referrer_of sids) (all_of pairs key)
+    (All-map (Passes key) referrer_of sids
+    (λ k d h. let sid = get_or sids k d in
+    referrer_passes_at sid (starts_with nat_eq sid namespace) refl (not_blank (codes "sid") sid (known k d h))))) all
+
+-- a number or a date
+abbrev pub BeginsWithDigit : Text → Type 0
+BeginsWithDigit n = (b : ℕ) × (t : Text) × (n ≡ b ∷ t) × (is_ascii_digit b ≡ true)
+
+digit_is_no_blank : (b : ℕ) → is_ascii_digit b ≡ true → nat_le b 0x20 ≡ false
+digit_is_no_blank b h = grind (arith, nat_tests)
+
+digit_is_plain : (b : ℕ) → is_ascii_digit b ≡ true → (not (nat_eq b 0x2d || nat_eq b 0x20) ≡ true) × (nat_eq (to_ascii_uppercase b) 0x41 ≡ false)
+digit_is_plain b h = (grind (arith, nat_tests), grind (arith, nat_tests))
+
+digit_passes : (key n : Text) → allows (codes "rft.issn") key ≡ true → BeginsWithDigit n → Passes key n
+digit_passes key n h is =
+    let may = and_parts _ _ h in
+    let free = (and_parts _ _ may.0).0 in
+    let id : bytes_eq key (codes "rft_id") ≡ false = not-true _ may.1 in
+    let blank = digit_is_no_blank is.0 is.3 in
+    let plain = digit_is_plain is.0 is.3 in
+    let no_blank : is_blank n ≡ false = rw is.2 (rw blank refl) in
+    let no_any : is_any n ≡ false = rw is.2 (rw plain.0 (rw plain.1 refl)) in
+    let void : not (is_void (record { key = key; value = n })) ≡ true = rw (no_blank, no_any, id) (by_row (is_one_of row_keys key)) in
+    and_from _ _ free void
+  where
+    by_row : (b : Bool) → not (false || (b && false) || false) ≡ true
+    by_row true = refl
+    by_row false = refl
+
+led_passes : (key : Text) (found first : Option Text) → allows (codes "rft.issn") key ≡ true → ((n : Text) → found ≡ Some n → BeginsWithDigit n)
+    → All (Passes key) (led found first).values
+led_passes key found first may h = each_led (Passes key) found first (λ n e. digit_passes key n may (h n e))
+
+date_passes : (found first : Option Text) → ((n : Text) → found ≡ Some n → BeginsWithDigit n) → All (Passes (codes "rft.date")) (led_or_none found first).values
+date_passes None first h = none_has (Passes (codes "rft.date"))
+date_passes (Some d) first h = led_passes (codes "rft.date") (Some d) first refl h
+
+-- ---- all
+
+last_pass : AreFound BeginsWithDigit → (pairs : List KeyValue) → AreAccepted pairs → AreAccepted (after last_steps pairs)
+last_pass found pairs all =
+    let named = taken pairs referrer_step in
+    let issns = taken named issn_step in
+    let eissns = taken issns eissn_step in
+    let isbns = taken eissns isbn_step in
+    step_passes date_step isbns (date_passes (first_date date_keys isbns) (first_of isbns (codes "rft.date")) (found.date isbns))
+    (step_passes isbn_step eissns (led_passes (codes "rft.isbn") (first_isbn eissns) (first_of eissns (codes "rft.isbn")) refl (found.isbn eissns))
+    (step_passes eissn_step issns (led_passes (codes "rft.eissn") (first_eissn issns) (first_of issns (codes "rft.eissn")) refl (found.eissn issns))
+    (step_passes issn_step named (led_passes (codes "rft.issn") (first_issn named) (first_of named (codes "rft.issn")) refl (found.issn named))
+    (referrer_passes pairs all))))
+
+pub normal_form_passes : AreFound BeginsWithDigit → (pairs : List KeyValue) → AreAccepted pairs → AreAccepted (normal_form pairs)
+normal_form_passes found pairs all =
+    let first = taken pairs (correction (codes "ctx_ver")) in
+    subst AreAccepted (sym (normal_form-is pairs))
+    (last_pass found (after copies (with_versions pairs))
+    (copies_pass old_keys (with_versions pairs) old_keys_allow
+    (version_passes (codes "url_ver") first refl (version_passes (codes "ctx_ver") pairs refl all))))

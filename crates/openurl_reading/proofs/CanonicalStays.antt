@@ -1,0 +1,128 @@
+-- A request that is OpenURL 1.0 stays as it is.
+use Rattle.std.proofs.Common.{◌≡◌, List, [], ◌∷◌, ◌++◌, false, None, Some, Option, refl, ap, ◌∙◌, inl, inr, ◌⊎◌, get_or, take, drop, map}
+use Rattle.std.specs.Prelude.{codes, slice_get}
+use Rattle.std.specs.List.{All, flat_map}
+use Rattle.std.proofs.lemmas.List.Elements.{All-head, All-tail, All-take}
+use Rattle.text_model.specs.Texts.{Text}
+use Rattle.kev_read.specs.Pairs.{KeyValue, all_of}
+use Rattle.kev_read.specs.Refusal.{is_other_version}
+use Rattle.standard_numbers.specs.Issn.{issns_in}
+use Rattle.standard_numbers.specs.Isbn.{isbns_in}
+use Rattle.publication_dates.specs.Dates.{date_in}
+use Rattle.openurl_reading.specs.Steps.{unchanged, replacing}
+use Rattle.openurl_reading.specs.Values.{most_values, searched, led}
+use Rattle.openurl_reading.specs.OldKeys.{OldKey, old_keys, filled, copied}
+use Rattle.openurl_reading.specs.Referrers.{referrer_of, referred}
+use Rattle.openurl_reading.specs.Numbers.{eissn_among, other_than}
+use Rattle.openurl_reading.specs.Dates.{led_or_none}
+use Rattle.openurl_reading.specs.Canonical.{Lacks, Under, IsVersion}
+use Rattle.openurl_reading.proofs.DateLed.{date_among, rest_of, IsSettledAmong}
+use Rattle.openurl_reading.proofs.FoundAgain.{issn_among, further_among, isbn_among}
+use Rattle.openurl_reading.proofs.Settled.{IsSettled, led-same, filled-none}
+use Rattle.openurl_reading.proofs.Others.{bytes_eq-same}
+
+-- versions
+version-known : (values : List Text) → All IsVersion values → is_other_version (slice_get values 0) ≡ false
+version-known [] all = refl
+version-known (v ∷ vs) all = rw (All-head IsVersion v vs all) refl
+
+-- keys that nothing fills
+copies_settled : (keys : List OldKey) (pairs : List KeyValue) → All (λ key. Lacks pairs key.old) keys → All (λ key. copied key pairs ≡ unchanged) keys
+copies_settled keys pairs all k d h =
+    let key = get_or keys k d in
+    ap (λ values. filled (take most_values values) (all_of pairs key.new)) (all k d h) ∙ filled-none (all_of pairs key.new)
+
+referrer_settled : (pairs : List KeyValue) → Lacks pairs (codes "sid") → referred pairs ≡ unchanged
+referrer_settled pairs none =
+    let known = all_of pairs (codes "rfr_id") in
+    ap (λ sids. filled (map referrer_of (take 1 sids)) known) none ∙ filled-none known
+
+-- ---- numbers that are found as they are
+
+abbrev pub IsKept : (Text → List Text) → Text → Type 0
+IsKept find value = find (searched value) ≡ value ∷ []
+
+issn_leads : (values : List Text) → All (IsKept issns_in) values → issn_among values ≡ slice_get values 0
+issn_leads [] all = refl
+issn_leads (v ∷ vs) all =
+    ap (λ found. slice_get (found ++ flat_map (λ x. issns_in (searched x)) (take 19 vs)) 0) (All-head (IsKept issns_in) v vs all)
+
+no_further : (values : List Text) → All (IsKept issns_in) values → flat_map (λ v. drop 1 (issns_in (searched v))) values ≡ []
+no_further [] all = refl
+no_further (v ∷ vs) all =
+    ap (λ found. drop 1 found ++ flat_map (λ x. drop 1 (issns_in (searched x))) vs) (All-head (IsKept issns_in) v vs all)
+    ∙ no_further vs (All-tail (IsKept issns_in) v vs all)
+
+none_among : (number : Option Text) → other_than number [] ≡ None
+none_among None = refl
+none_among (Some n) = refl
+
+eissn_leads : (issns values : List Text) → All (IsKept issns_in) issns → All (IsKept issns_in) values
+    → eissn_among values (further_among issns) ≡ slice_get values 0
+eissn_leads issns [] all own =
+    ap (other_than (issn_among issns)) (no_further (take most_values issns) (All-take (IsKept issns_in) most_values issns all))
+    ∙ none_among (issn_among issns)
+eissn_leads issns (v ∷ vs) all own = issn_leads (v ∷ vs) own
+
+isbn_leads : (others values : List Text) → others ≡ [] → All (IsKept isbns_in) values → isbn_among others values ≡ slice_get values 0
+isbn_leads others [] none all = ap (λ vs. isbn_among vs []) none
+isbn_leads others (v ∷ vs) none all =
+    let f : Text → List Text = λ x. isbns_in (searched x) in
+    ap (λ found. slice_get (found ++ flat_map f (take 19 vs) ++ flat_map f (take most_values others)) 0) (All-head (IsKept isbns_in) v vs all)
+
+-- ---- a date that is read as it is
+
+abbrev pub IsDateKept : Text → Type 0
+IsDateKept value = date_in (searched value) ≡ Some value
+
+led_or_none-same : (values : List Text)
+    → (led_or_none (slice_get values 0) (slice_get values 0) ≡ unchanged)
+    ⊎ ((led_or_none (slice_get values 0) (slice_get values 0) ≡ replacing []) × (values ≡ []))
+led_or_none-same [] = inr (refl, refl)
+led_or_none-same (v ∷ vs) = inl (rw (bytes_eq-same v) refl)
+
+date_leads : (values : List Text) → All IsDateKept values → date_among None values ≡ slice_get values 0
+date_leads [] all = refl
+date_leads (v ∷ vs) all = rw (All-head IsDateKept v vs all) refl
+
+date_settled : (values years dates old_years : List Text) → years ≡ [] → dates ≡ [] → old_years ≡ [] → All IsDateKept values
+    → IsSettledAmong (rest_of years dates old_years) values
+date_settled values years dates old_years a b c all =
+    let e : date_among (rest_of years dates old_years) values ≡ slice_get values 0 = rw (a, b, c) (date_leads values all) in
+    elim (led_or_none-same values) [
+      | inl same ↦ inl (ap (λ d. led_or_none d (slice_get values 0)) e ∙ same)
+      | inr none ↦ inr (ap (λ d. led_or_none d (slice_get values 0)) e ∙ none.0, none.1)
+    ]
+
+-- ---- all
+
+-- what a canonical request has, with its numbers and dates as the steps find them
+pub record HasKept (pairs : List KeyValue) : Type 0 where
+  pub context : Under pairs (codes "ctx_ver") IsVersion
+  pub transport : Under pairs (codes "url_ver") IsVersion
+  pub no_old_keys : All (λ key. Lacks pairs key.old) old_keys
+  pub no_source : Lacks pairs (codes "sid")
+  pub no_date : Lacks pairs (codes "date")
+  pub no_year : Lacks pairs (codes "rft.year")
+  pub no_old_year : Lacks pairs (codes "year")
+  pub no_eisbn : Lacks pairs (codes "rft.eisbn")
+  pub issns : Under pairs (codes "rft.issn") (IsKept issns_in)
+  pub eissns : Under pairs (codes "rft.eissn") (IsKept issns_in)
+  pub isbns : Under pairs (codes "rft.isbn") (IsKept isbns_in)
+  pub dates : Under pairs (codes "rft.date") IsDateKept
+
+pub kept_settled : (pairs : List KeyValue) → HasKept pairs → IsSettled pairs
+kept_settled pairs has =
+    let issns = all_of pairs (codes "rft.issn") in
+    let eissns = all_of pairs (codes "rft.eissn") in
+    let isbns = all_of pairs (codes "rft.isbn") in
+    record {
+      context = version-known (all_of pairs (codes "ctx_ver")) has.context;
+      transport = version-known (all_of pairs (codes "url_ver")) has.transport;
+      copies = copies_settled old_keys pairs has.no_old_keys;
+      referrer = referrer_settled pairs has.no_source;
+      issn = ap (λ n. led n (slice_get issns 0)) (issn_leads issns has.issns) ∙ led-same (slice_get issns 0);
+      eissn = ap (λ n. led n (slice_get eissns 0)) (eissn_leads issns eissns has.issns has.eissns) ∙ led-same (slice_get eissns 0);
+      isbn = ap (λ n. led n (slice_get isbns 0)) (isbn_leads (all_of pairs (codes "rft.eisbn")) isbns has.no_eisbn has.isbns) ∙ led-same (slice_get isbns 0);
+      date = date_settled (all_of pairs (codes "rft.date")) _ _ _ has.no_year has.no_date has.no_old_year has.dates;
+    }

@@ -1,0 +1,83 @@
+-- After all steps, those of versions and old keys change nothing.
+use Rattle.std.proofs.Common.{◌≡◌, List, [], ◌∷◌, Bool, true, false, cond, not, refl, sym, ◌∙◌, subst, inl, inr, get_or, take, map, arith}
+use Rattle.std.specs.Prelude.{codes, slice_get}
+use Rattle.std.specs.List.{All, list_all}
+use Rattle.std.specs.Str.{bytes_eq}
+use Rattle.std.proofs.lemmas.Bool.{not-true}
+use Rattle.std.proofs.lemmas.List.Sums.{AllPass-from_list_all}
+use Rattle.std.proofs.lemmas.List.Elements.{All-cons}
+use Rattle.text_model.specs.Texts.{Text}
+use Rattle.kev_read.specs.Pairs.{KeyValue, all_of, first_of}
+use Rattle.kev_read.specs.Refusal.{is_other_version}
+use Rattle.openurl_reading.specs.Steps.{Step, unchanged, replacing, taken, after}
+use Rattle.openurl_reading.specs.Values.{most_values}
+use Rattle.openurl_reading.specs.Versions.{version, correction}
+use Rattle.openurl_reading.specs.OldKeys.{OldKey, old_keys, copies, copied}
+use Rattle.openurl_reading.specs.Referrers.{referrer_of, referrer_step}
+use Rattle.openurl_reading.specs.Numbers.{first_issn, first_eissn, first_isbn, issn_step, eissn_step, isbn_step}
+use Rattle.openurl_reading.specs.Dates.{date_step}
+use Rattle.openurl_reading.proofs.Filled.{MakesSome, KeepsKey, filled_unchanged, filled-keeps, all_keep_filled, copies_fill}
+use Rattle.openurl_reading.proofs.Led.{led-keeps}
+use Rattle.openurl_reading.proofs.Stages.{last_steps}
+use Rattle.openurl_reading.proofs.Values.{values_after, all_of-taken-own, all_of-after}
+
+-- steps of other keys, by a test over a list
+pub apart : (steps : List Step) (key : Text) → list_all (λ step. not (bytes_eq step.key key)) steps ≡ true → All (λ step. bytes_eq step.key key ≡ false) steps
+apart steps key h k d g = not-true _ (AllPass-from_list_all (λ step. not (bytes_eq step.key key)) steps h k d g)
+
+-- steps of other keys leave the values of a key
+pub same_after : (steps : List Step) (pairs : List KeyValue) (key : Text) → list_all (λ step. not (bytes_eq step.key key)) steps ≡ true
+    → all_of (after steps pairs) key ≡ all_of pairs key
+same_after steps pairs key h = all_of-after steps pairs key (apart steps key h)
+
+-- ---- versions
+
+corrected-own : (values : List Text) (b : Bool) → is_other_version (slice_get values 0) ≡ b
+    → is_other_version (slice_get (values_after (cond b (replacing (version ∷ [])) unchanged) values) 0) ≡ false
+corrected-own values true h = refl
+corrected-own values false h = h
+
+pub version_settles : (key : Text) (before now : List KeyValue) → all_of now key ≡ all_of (taken before (correction key)) key
+    → is_other_version (first_of now key) ≡ false
+version_settles key before now e =
+    subst (λ values. is_other_version (slice_get values 0) ≡ false) (sym (e ∙ all_of-taken-own (correction key) before))
+    (corrected-own (all_of before key) (is_other_version (first_of before key)) refl)
+
+-- ---- keys that are filled from others
+
+first_values : MakesSome (take most_values)
+first_values v vs = (v, take 19 vs, refl)
+
+pub first_referrer : MakesSome (λ sids. map referrer_of (take 1 sids))
+first_referrer v vs = (referrer_of v, map referrer_of (take 0 vs), refl)
+
+abbrev pub referral : OldKey
+referral = record { old = codes "sid"; new = codes "rfr_id" }
+
+pub last_keep : (key : Text) → bytes_eq (codes "rft.date") key ≡ false → All (KeepsKey key) last_steps
+last_keep key h =
+    All-cons (KeepsKey key) referrer_step (issn_step ∷ eissn_step ∷ isbn_step ∷ date_step ∷ []) (inr (λ p. filled-keeps _ (all_of p (codes "rfr_id"))))
+    (All-cons (KeepsKey key) issn_step (eissn_step ∷ isbn_step ∷ date_step ∷ []) (inr (λ p. led-keeps (first_issn p) (first_of p (codes "rft.issn"))))
+    (All-cons (KeepsKey key) eissn_step (isbn_step ∷ date_step ∷ []) (inr (λ p. led-keeps (first_eissn p) (first_of p (codes "rft.eissn"))))
+    (All-cons (KeepsKey key) isbn_step (date_step ∷ []) (inr (λ p. led-keeps (first_isbn p) (first_of p (codes "rft.isbn"))))
+    (All-cons (KeepsKey key) date_step [] (inl h) (λ k d g. absurd (omega arith))))))
+
+old_apart : All (λ key. list_all (λ step. not (bytes_eq step.key key.old)) last_steps ≡ true) old_keys
+old_apart = AllPass-from_list_all (λ key. list_all (λ step. not (bytes_eq step.key key.old)) last_steps) old_keys refl
+
+new_apart : All (λ key. bytes_eq (codes "rft.date") key.new ≡ false) old_keys
+new_apart k d h = not-true _ (AllPass-from_list_all (λ key. not (bytes_eq (codes "rft.date") key.new)) old_keys refl k d h)
+
+pub all_apart : All (λ key. All (λ other. bytes_eq other.new key.old ≡ false) old_keys) old_keys
+all_apart k d h j e g =
+    let key = get_or old_keys k d in
+    not-true _ (AllPass-from_list_all (λ other. not (bytes_eq other.new key.old)) old_keys
+    (AllPass-from_list_all (λ key. list_all (λ other. not (bytes_eq other.new key.old)) old_keys) old_keys refl k d h) j e g)
+
+pub copies_settle : (before : List KeyValue) → All (λ key. copied key (after last_steps (after copies before)) ≡ unchanged) old_keys
+copies_settle before k d h =
+    let key = get_or old_keys k d in
+    let copied_all = after copies before in
+    filled_unchanged (take most_values) key (after last_steps copied_all) refl
+    (all_keep_filled key last_steps copied_all (apart last_steps key.old (old_apart k d h)) (last_keep key.new (new_apart k d h))
+    (copies_fill old_keys before first_values all_apart k d h))

@@ -1,0 +1,106 @@
+-- Nothing in a reading is invented.
+use Rattle.std.proofs.Common.{◌≡◌, List, [], ◌∷◌, ◌++◌, take, drop, Option, Some, None, sym, subst, inl, inr, get_or, arith}
+use Rattle.std.specs.Prelude.{Contains}
+use Rattle.std.specs.List.{All, flat_map}
+use Rattle.std.specs.Option.{option_or}
+use Rattle.std.proofs.lemmas.List.Elements.{All-append, All-take, All-drop, Contains-get_or}
+use Rattle.text_model.specs.Texts.{Text}
+use Rattle.standard_numbers.specs.Issn.{issns_in}
+use Rattle.standard_numbers.specs.Isbn.{isbns_in}
+use Rattle.openurl_reading.specs.Values.{most_values, searched, led}
+use Rattle.openurl_reading.specs.Numbers.{eissn_among, other_than}
+use Rattle.openurl_reading.specs.Origins.{HasOrigin, issn_in, isbn_in, date_of}
+use Rattle.openurl_reading.proofs.DateLed.{date_of_first}
+use Rattle.openurl_reading.proofs.Each.{none_has, one_has, each_after, each_found}
+use Rattle.openurl_reading.proofs.FoundAgain.{IsIssnAgain, IsIsbnAgain, first_has, other_has, issn_among, further_among, isbn_among}
+use Rattle.openurl_reading.proofs.Values.{values_after}
+
+-- ---- values of which each number that is found in them has an origin
+
+abbrev pub GivesIssns : List Text → Text → Type 0
+GivesIssns sent value = All (HasOrigin sent) (issns_in (searched value))
+
+abbrev pub GivesIsbns : List Text → Text → Type 0
+GivesIsbns sent value = All (HasOrigin sent) (isbns_in (searched value))
+
+pub sent_gives_issns : (sent : List Text) (value : Text) → Contains sent value → GivesIssns sent value
+sent_gives_issns sent value h k d g = issn_in value (get_or (issns_in (searched value)) k d) h (Contains-get_or (issns_in (searched value)) k d g)
+
+pub sent_gives_isbns : (sent : List Text) (value : Text) → Contains sent value → GivesIsbns sent value
+sent_gives_isbns sent value h k d g = isbn_in value (get_or (isbns_in (searched value)) k d) h (Contains-get_or (isbns_in (searched value)) k d g)
+
+again_gives_issns : (sent : List Text) (issn : Text) → HasOrigin sent issn → IsIssnAgain issn → GivesIssns sent issn
+again_gives_issns sent issn has (inl one) = subst (All (HasOrigin sent)) (sym one) (one_has (HasOrigin sent) issn has)
+again_gives_issns sent issn has (inr none) = subst (All (HasOrigin sent)) (sym none) (none_has (HasOrigin sent))
+
+again_gives_isbns : (sent : List Text) (isbn : Text) → HasOrigin sent isbn → IsIsbnAgain isbn → GivesIsbns sent isbn
+again_gives_isbns sent isbn has one = subst (All (HasOrigin sent)) (sym one) (one_has (HasOrigin sent) isbn has)
+
+pub issns_have : (sent values : List Text) → All (GivesIssns sent) values
+    → All (HasOrigin sent) (flat_map (λ v. issns_in (searched v)) (take most_values values))
+issns_have sent values all =
+    each_found (HasOrigin sent) (λ v. issns_in (searched v)) (take most_values values) (All-take (GivesIssns sent) most_values values all)
+
+further_have : (sent values : List Text) → All (GivesIssns sent) values
+    → All (HasOrigin sent) (flat_map (λ v. drop 1 (issns_in (searched v))) (take most_values values))
+further_have sent values all =
+    each_found (HasOrigin sent) (λ v. drop 1 (issns_in (searched v))) (take most_values values)
+    (λ k d h. All-drop (HasOrigin sent) 1 _ (All-take (GivesIssns sent) most_values values all k d h))
+
+isbns_have : (sent values : List Text) → All (GivesIsbns sent) values
+    → All (HasOrigin sent) (flat_map (λ v. isbns_in (searched v)) (take most_values values))
+isbns_have sent values all =
+    each_found (HasOrigin sent) (λ v. isbns_in (searched v)) (take most_values values) (All-take (GivesIsbns sent) most_values values all)
+
+-- ---- what leads
+
+abbrev Has : List Text → Option Text → Type 0
+Has sent found = (n : Text) → found ≡ Some n → HasOrigin sent n
+
+pub issn_has : (sent values : List Text) → All (GivesIssns sent) values → Has sent (issn_among values)
+issn_has sent values all n e = first_has (HasOrigin sent) _ n (issns_have sent values all) e
+
+pub eissn_has : (sent issns values : List Text) → All (GivesIssns sent) issns → All (GivesIssns sent) values
+    → Has sent (eissn_among values (further_among issns))
+eissn_has sent issns [] all own n e = other_has (HasOrigin sent) (issn_among issns) _ n (further_have sent issns all) e
+eissn_has sent issns (v ∷ vs) all own n e = issn_has sent (v ∷ vs) own n e
+
+pub isbn_has : (sent others values : List Text) → All (GivesIsbns sent) others → All (GivesIsbns sent) values → Has sent (isbn_among others values)
+isbn_has sent others values more all n e =
+    first_has (HasOrigin sent) _ n (All-append (HasOrigin sent) _ _ (isbns_have sent values all) (isbns_have sent others more)) e
+
+pub second_has : (sent issns eissns : List Text) (first : Option Text) → All (GivesIssns sent) issns → All (GivesIssns sent) eissns
+    → Has sent (other_than first (flat_map (λ v. issns_in (searched v)) (take most_values issns)
+    ++ flat_map (λ v. issns_in (searched v)) (take most_values eissns)))
+second_has sent issns eissns first all more n e =
+    other_has (HasOrigin sent) first _ n (All-append (HasOrigin sent) _ _ (issns_have sent issns all) (issns_have sent eissns more)) e
+
+none_found : (sent : List Text) → Has sent None
+none_found sent n e = cc
+
+date_has : (sent values : List Text) → All (Contains sent) values → Has sent (date_of_first values)
+date_has sent [] all n e = none_found sent n e
+date_has sent (v ∷ vs) all n e = date_of v n (all 0 v (omega arith)) e
+
+or_has : (sent : List Text) (a b : Option Text) → Has sent a → Has sent b → Has sent (option_or a b)
+or_has sent None b p q = q
+or_has sent (Some t) b p q = p
+
+pub dates_have : (sent dates years old old_years : List Text) → All (Contains sent) dates → All (Contains sent) years → All (Contains sent) old
+    → All (Contains sent) old_years
+    → Has sent (option_or (date_of_first dates) (option_or (date_of_first years) (option_or (date_of_first old) (option_or (date_of_first old_years) None))))
+dates_have sent dates years old old_years a b c d =
+    or_has sent _ _ (date_has sent dates a)
+    (or_has sent _ _ (date_has sent years b) (or_has sent _ _ (date_has sent old c) (or_has sent _ _ (date_has sent old_years d) (none_found sent))))
+
+-- ---- values after a number leads them
+
+pub led_gives_issns : (sent : List Text) (found first : Option Text) (values : List Text) → Has sent found → ((n : Text) → found ≡ Some n → IsIssnAgain n)
+    → All (GivesIssns sent) values → All (GivesIssns sent) (values_after (led found first) values)
+led_gives_issns sent found first values has again all =
+    each_after (GivesIssns sent) found first values (λ n e. again_gives_issns sent n (has n e) (again n e)) all
+
+pub led_gives_isbns : (sent : List Text) (found first : Option Text) (values : List Text) → Has sent found → ((n : Text) → found ≡ Some n → IsIsbnAgain n)
+    → All (GivesIsbns sent) values → All (GivesIsbns sent) (values_after (led found first) values)
+led_gives_isbns sent found first values has again all =
+    each_after (GivesIsbns sent) found first values (λ n e. again_gives_isbns sent n (has n e) (again n e)) all

@@ -1,0 +1,88 @@
+-- Pairs that no step changes.
+use Rattle.std.proofs.Common.{◌≡◌, List, [], ◌∷◌, map, filter, false, Option, Some, None, refl, ap, ◌∙◌, inl, inr, ◌⊎◌}
+use Rattle.std.specs.Prelude.{codes}
+use Rattle.std.specs.List.{All}
+use Rattle.std.proofs.lemmas.List.Elements.{All-head, All-tail}
+use Rattle.text_model.specs.Texts.{Text}
+use Rattle.kev_read.specs.Pairs.{KeyValue, has_key, all_of, first_of}
+use Rattle.kev_read.specs.Refusal.{is_other_version}
+use Rattle.openurl_reading.specs.Steps.{Change, Step, unchanged, replacing, others, changed, taken, after}
+use Rattle.openurl_reading.specs.Values.{led}
+use Rattle.openurl_reading.specs.Versions.{correction}
+use Rattle.openurl_reading.specs.OldKeys.{OldKey, old_keys, filled, copied, copy, copies}
+use Rattle.openurl_reading.specs.Referrers.{referred, referrer_step}
+use Rattle.openurl_reading.specs.Numbers.{first_issn, first_eissn, first_isbn, issn_step, eissn_step, isbn_step}
+use Rattle.openurl_reading.specs.Dates.{date_keys, first_date, led_or_none, date_step}
+use Rattle.openurl_reading.specs.Reading.{normal_form}
+use Rattle.openurl_reading.proofs.Firsts.{not_first}
+use Rattle.openurl_reading.proofs.Others.{bytes_eq-same}
+use Rattle.openurl_reading.proofs.Stages.{last_steps, with_versions, normal_form-is}
+
+-- the change of the date leaves all values
+abbrev pub IsDateSettled : Change → List Text → Type 0
+IsDateSettled change values = (change ≡ unchanged) ⊎ ((change ≡ replacing []) × (values ≡ []))
+
+pub record IsSettled (pairs : List KeyValue) : Type 0 where
+  pub context : is_other_version (first_of pairs (codes "ctx_ver")) ≡ false
+  pub transport : is_other_version (first_of pairs (codes "url_ver")) ≡ false
+  pub copies : All (λ key. copied key pairs ≡ unchanged) old_keys
+  pub referrer : referred pairs ≡ unchanged
+  pub issn : led (first_issn pairs) (first_of pairs (codes "rft.issn")) ≡ unchanged
+  pub eissn : led (first_eissn pairs) (first_of pairs (codes "rft.eissn")) ≡ unchanged
+  pub isbn : led (first_isbn pairs) (first_of pairs (codes "rft.isbn")) ≡ unchanged
+  pub date : IsDateSettled (led_or_none (first_date date_keys pairs) (first_of pairs (codes "rft.date"))) (all_of pairs (codes "rft.date"))
+
+pub led-same : (first : Option Text) → led first first ≡ unchanged
+led-same None = refl
+led-same (Some t) = rw (bytes_eq-same t) refl
+
+pub filled-none : (values : List Text) → filled [] values ≡ unchanged
+filled-none [] = refl
+filled-none (v ∷ vs) = refl
+
+-- ---- each step, where nothing is put first and all is kept, or nothing has the key
+
+stays-unchanged : (step : Step) (pairs : List KeyValue) → step.change pairs ≡ unchanged → taken pairs step ≡ pairs
+stays-unchanged step pairs h = ap (λ change. changed step.key change pairs) h
+
+others-none : (key : Text) (pairs : List KeyValue) → all_of pairs key ≡ [] → others key pairs ≡ pairs
+others-none key [] h = refl
+others-none key (pair ∷ pairs) h =
+    let parts = not_first pair (filter (has_key key) pairs) (has_key key pair) h in
+    rw parts.0 (ap (λ rest. pair ∷ rest) (others-none key pairs parts.1))
+
+stays-replaced : (step : Step) (pairs : List KeyValue) → step.change pairs ≡ replacing [] → all_of pairs step.key ≡ [] → taken pairs step ≡ pairs
+stays-replaced step pairs h none = ap (λ change. changed step.key change pairs) h ∙ others-none step.key pairs none
+
+correction-stays : (key : Text) (pairs : List KeyValue) → is_other_version (first_of pairs key) ≡ false → taken pairs (correction key) ≡ pairs
+correction-stays key pairs h = stays-unchanged (correction key) pairs (rw h refl)
+
+copies-stay : (keys : List OldKey) (pairs : List KeyValue) → All (λ key. copied key pairs ≡ unchanged) keys → after (map copy keys) pairs ≡ pairs
+copies-stay [] pairs all = refl
+copies-stay (key ∷ keys) pairs all =
+    let P : OldKey → Type 0 = λ key. copied key pairs ≡ unchanged in
+    ap (λ p. after (map copy keys) p) (stays-unchanged (copy key) pairs (All-head P key keys all))
+    ∙ copies-stay keys pairs (All-tail P key keys all)
+
+date-stays : (pairs : List KeyValue) → IsSettled pairs → taken pairs date_step ≡ pairs
+date-stays pairs is =
+    elim is.date [
+      | inl same ↦ stays-unchanged date_step pairs same
+      | inr none ↦ stays-replaced date_step pairs none.0 none.1
+    ]
+
+last-stay : (pairs : List KeyValue) → IsSettled pairs → after last_steps pairs ≡ pairs
+last-stay pairs is =
+    ap (after (issn_step ∷ eissn_step ∷ isbn_step ∷ date_step ∷ [])) (stays-unchanged referrer_step pairs is.referrer)
+    ∙ ap (after (eissn_step ∷ isbn_step ∷ date_step ∷ [])) (stays-unchanged issn_step pairs is.issn)
+    ∙ ap (after (isbn_step ∷ date_step ∷ [])) (stays-unchanged eissn_step pairs is.eissn)
+    ∙ ap (after (date_step ∷ [])) (stays-unchanged isbn_step pairs is.isbn)
+    ∙ date-stays pairs is
+
+pub settled_stays : (pairs : List KeyValue) → IsSettled pairs → normal_form pairs ≡ pairs
+settled_stays pairs is =
+    let first : with_versions pairs ≡ pairs =
+    ap (λ p. taken p (correction (codes "url_ver"))) (correction-stays (codes "ctx_ver") pairs is.context)
+    ∙ correction-stays (codes "url_ver") pairs is.transport in
+    normal_form-is pairs ∙ ap (λ p. after last_steps (after copies p)) first ∙ ap (after last_steps) (copies-stay old_keys pairs is.copies)
+    ∙ last-stay pairs is

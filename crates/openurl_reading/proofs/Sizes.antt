@@ -1,0 +1,138 @@
+-- How large a reading is.
+use Rattle.std.proofs.Common.{◌≡◌, ℕ, ◌+◌, ◌≤◌, ◌*◌, List, [], ◌∷◌, ◌++◌, map, take, Bool, true, false, cond}
+use Rattle.std.proofs.Common.{Option, Some, None, refl, ap, subst, sym, length, arith}
+use Rattle.std.specs.Prelude.{codes, nat_eq}
+use Rattle.std.specs.List.{sum_by, starts_with}
+use Rattle.std.proofs.lemmas.List.Sums.{sum_by-take-le, sum_by-cons, sum_by-append}
+use Rattle.std.proofs.lemmas.List.{length-append}
+use Rattle.text_model.specs.Texts.{Text}
+use Rattle.kev_read.specs.Pairs.{KeyValue, all_of, first_of}
+use Rattle.kev_read.specs.Refusal.{is_other_version}
+use Rattle.openurl_reading.specs.Counting.{is_accepted, most_pairs, accepted, counting}
+use Rattle.openurl_reading.specs.Steps.{unchanged, replacing, taken, after}
+use Rattle.openurl_reading.specs.Versions.{version, correction}
+use Rattle.openurl_reading.specs.OldKeys.{old_keys, copies}
+use Rattle.openurl_reading.specs.Referrers.{namespace, referrer_of, referrer_step}
+use Rattle.openurl_reading.specs.Numbers.{first_number, first_issn, first_eissn, first_isbn, issn_step, eissn_step, isbn_step}
+use Rattle.openurl_reading.specs.Dates.{date_keys, first_date, led_or_none, date_step}
+use Rattle.openurl_reading.specs.Reading.{normal_form, added, issns_of, second_issn, with_derived}
+use Rattle.openurl_reading.proofs.FoundAre.{AreFound}
+use Rattle.openurl_reading.proofs.KeysSettle.{all_apart, same_after}
+use Rattle.openurl_reading.proofs.Stages.{last_steps, with_versions, normal_form-is}
+use Rattle.openurl_reading.proofs.Totals.{total, total_taken, filled_weighs, led_weighs, shares-le, olds, copies_weigh}
+
+-- numbers and dates that are found weigh at most so much, and so does the namespace of a source
+pub record AreLight (g : Text → ℕ) (m : ℕ) : Type 0 where
+  pub found : AreFound (λ n. g n ≤ m)
+  pub version : g version ≤ m
+  pub source : (sid : Text) → g (referrer_of sid) ≤ m + g sid
+
+-- ---- versions
+
+version_weighs : (g : Text → ℕ) (m : ℕ) → AreLight g m → (key : Text) (pairs : List KeyValue) → total g (taken pairs (correction key)) ≤ m + total g pairs
+version_weighs g m light key pairs =
+    omega (arith, total_taken g (correction key) pairs, by_test (is_other_version (first_of pairs key)))
+  where
+    by_test : (b : Bool) → sum_by g (cond b (replacing (version ∷ [])) unchanged).values ≤ m
+    by_test true = omega (arith, sum_by-cons g version [], light.version)
+    by_test false = omega arith
+
+-- ---- old keys and the source
+
+source_weighs : (g : Text → ℕ) (m : ℕ) → AreLight g m → (sids : List Text) → sum_by g (map referrer_of (take 1 sids)) ≤ m + sum_by g sids
+source_weighs g m light [] = omega arith
+source_weighs g m light (sid ∷ sids) = omega (arith, sum_by-cons g (referrer_of sid) [], sum_by-cons g sid sids, light.source sid)
+
+keys_weigh : (g : Text → ℕ) (m : ℕ) → AreLight g m → (pairs : List KeyValue) → total g (taken (after copies pairs) referrer_step) ≤ m + 2 * total g pairs
+keys_weigh g m light pairs =
+    let copied = after copies pairs in
+    let sids = all_of copied (codes "sid") in
+    let all = total_taken g referrer_step copied in
+    let few = filled_weighs g (map referrer_of (take 1 sids)) (all_of copied (codes "rfr_id")) in
+    let same : sum_by g sids ≡ sum_by g (all_of pairs (codes "sid")) = ap (sum_by g) (same_after copies pairs (codes "sid") refl) in
+    let each = shares-le g (codes "sid" ∷ olds old_keys) pairs refl in
+    omega (arith, all, few, source_weighs g m light sids, same, copies_weigh g old_keys pairs all_apart, each)
+
+-- ---- all
+
+last_weigh : (g : Text → ℕ) (m : ℕ) → AreLight g m → (pairs : List KeyValue)
+    → total g (after (issn_step ∷ eissn_step ∷ isbn_step ∷ date_step ∷ []) pairs) ≤ 4 * m + total g pairs
+last_weigh g m light pairs =
+    let issns = taken pairs issn_step in
+    let eissns = taken issns eissn_step in
+    let isbns = taken eissns isbn_step in
+    omega (
+      arith,
+      total_taken g issn_step pairs,
+      led_weighs g m (first_issn pairs) (first_of pairs (codes "rft.issn")) (light.found.issn pairs),
+      total_taken g eissn_step issns,
+      led_weighs g m (first_eissn issns) (first_of issns (codes "rft.eissn")) (light.found.eissn issns),
+      total_taken g isbn_step eissns,
+      led_weighs g m (first_isbn eissns) (first_of eissns (codes "rft.isbn")) (light.found.isbn eissns),
+      total_taken g date_step isbns,
+      date_weighs (first_date date_keys isbns) (first_of isbns (codes "rft.date")) (light.found.date isbns),
+    )
+  where
+    date_weighs : (found first : Option Text) → ((n : Text) → found ≡ Some n → g n ≤ m) → sum_by g (led_or_none found first).values ≤ m
+    date_weighs None first h = omega arith
+    date_weighs (Some d) first h = led_weighs g m (Some d) first h
+
+added_weighs : (g : Text → ℕ) (m : ℕ) (key : Text) (value : Option Text) → ((n : Text) → value ≡ Some n → g n ≤ m) → total g (added key value) ≤ m
+added_weighs g m key None h = omega arith
+added_weighs g m key (Some v) h = omega (arith, sum_by-cons (λ (p : KeyValue). g p.value) (record { key = key; value = v }) [], h v refl)
+
+derived_weigh : (g : Text → ℕ) (m : ℕ) → AreLight g m → (pairs : List KeyValue) → total g (with_derived pairs) ≤ 3 * m + total g pairs
+derived_weigh g m light pairs =
+    let w : KeyValue → ℕ = λ p. g p.value in
+    let issn = added (codes "x.issn") (first_number (issns_of pairs)) in
+    let eissn = added (codes "x.eissn") (second_issn pairs) in
+    let isbn = added (codes "x.isbn") (first_isbn pairs) in
+    omega (
+      arith,
+      sum_by-append w (issn ++ eissn ++ isbn) pairs,
+      sum_by-append w (issn ++ eissn) isbn,
+      sum_by-append w issn eissn,
+      added_weighs g m (codes "x.issn") (first_number (issns_of pairs)) (light.found.one pairs),
+      added_weighs g m (codes "x.eissn") (second_issn pairs) (light.found.other pairs),
+      added_weighs g m (codes "x.isbn") (first_isbn pairs) (light.found.isbn pairs),
+    )
+
+-- twice the request, and some numbers and dates
+pub reading_weighs : (g : Text → ℕ) (m : ℕ) → AreLight g m → (pairs : List KeyValue)
+    → total g (with_derived (normal_form pairs)) ≤ 2 * total g pairs + 12 * m
+reading_weighs g m light pairs =
+    let first = taken pairs (correction (codes "ctx_ver")) in
+    let second = with_versions pairs in
+    let named = taken (after copies second) referrer_step in
+    subst (λ normal. total g (with_derived normal) ≤ 2 * total g pairs + 12 * m) (sym (normal_form-is pairs))
+    (omega (
+      arith,
+      derived_weigh g m light (after last_steps (after copies second)),
+      last_weigh g m light named,
+      keys_weigh g m light second,
+      version_weighs g m light (codes "url_ver") first,
+      version_weighs g m light (codes "ctx_ver") pairs,
+    ))
+
+accepted_weigh : (g : Text → ℕ) (pairs : List KeyValue) → total g (accepted pairs) ≤ total g pairs
+accepted_weigh g [] = omega arith
+accepted_weigh g (pair ∷ pairs) = by_test (is_accepted pair) (accepted_weigh g pairs)
+  where
+    by_test : (b : Bool) → total g (accepted pairs) ≤ total g pairs → total g (cond b (pair ∷ accepted pairs) (accepted pairs)) ≤ total g (pair ∷ pairs)
+    by_test true rest =
+        let w : KeyValue → ℕ = λ p. g p.value in omega (arith, sum_by-cons w pair (accepted pairs), sum_by-cons w pair pairs, rest)
+    by_test false rest = omega (arith, sum_by-cons (λ (p : KeyValue). g p.value) pair pairs, rest)
+
+pub counting_weighs : (g : Text → ℕ) (pairs : List KeyValue) → total g (counting pairs) ≤ total g pairs
+counting_weighs g pairs = omega (arith, sum_by-take-le (λ (p : KeyValue). g p.value) (accepted pairs) most_pairs, accepted_weigh g pairs)
+
+pub total-one : (pairs : List KeyValue) → total (λ n. 1) pairs ≡ length pairs
+total-one [] = refl
+total-one (pair ∷ pairs) = omega (arith, sum_by-cons (λ (p : KeyValue). 1) pair pairs, total-one pairs)
+
+pub source_short : (sid : Text) → length (referrer_of sid) ≤ 13 + length sid
+source_short sid = by_test (starts_with nat_eq sid namespace)
+  where
+    by_test : (b : Bool) → length (cond b sid (namespace ++ sid)) ≤ 13 + length sid
+    by_test true = omega arith
+    by_test false = omega (arith, length-append namespace sid)

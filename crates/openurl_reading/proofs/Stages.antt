@@ -1,0 +1,22 @@
+-- The steps in three parts: versions, old keys, and the others.
+use Rattle.std.proofs.Common.{◌≡◌, List, [], ◌∷◌}
+use Rattle.std.specs.Prelude.{codes}
+use Rattle.std.proofs.lemmas.List.Sums.{fold-append}
+use Rattle.kev_read.specs.Pairs.{KeyValue}
+use Rattle.openurl_reading.specs.Steps.{Step, taken, after}
+use Rattle.openurl_reading.specs.Versions.{correction}
+use Rattle.openurl_reading.specs.OldKeys.{copies}
+use Rattle.openurl_reading.specs.Referrers.{referrer_step}
+use Rattle.openurl_reading.specs.Numbers.{issn_step, eissn_step, isbn_step}
+use Rattle.openurl_reading.specs.Dates.{date_step}
+use Rattle.openurl_reading.specs.Reading.{steps, normal_form}
+
+abbrev pub last_steps : List Step
+last_steps = referrer_step ∷ issn_step ∷ eissn_step ∷ isbn_step ∷ date_step ∷ []
+
+abbrev pub with_versions : List KeyValue → List KeyValue
+with_versions pairs = taken (taken pairs (correction (codes "ctx_ver"))) (correction (codes "url_ver"))
+
+pub normal_form-is : (pairs : List KeyValue) → normal_form pairs ≡ after last_steps (after copies (with_versions pairs))
+unfolding steps
+normal_form-is pairs = fold-append taken (with_versions pairs) copies last_steps

@@ -1,0 +1,28 @@
+use Rattle.std.proofs.Common.{[], ap, ◌∙◌, lit<}
+use Rattle.openurl_reading.specs.Reading.{normal_form, with_derived}
+use Rattle.openurl_reading.proofs.CanonicalStays.{kept_settled}
+use Rattle.openurl_reading.proofs.LowerLaws.{issn_kept, isbn_kept, date_kept}
+use Rattle.openurl_reading.proofs.Settled.{settled_stays}
+use Rattle.openurl_reading.proofs.laws.canonical_requests_stay.Goals as goal
+
+pub returns-clause-steps : goal.returns-clause-steps
+returns-clause-steps c pairs is =
+    let missing = is.no_other_keys in
+    settled_stays pairs (kept_settled pairs record {
+      context = is.context;
+      transport = is.transport;
+      no_old_keys = is.no_old_keys;
+      no_source = missing 0 [] (lit< tt);
+      no_date = missing 1 [] (lit< tt);
+      no_old_year = missing 2 [] (lit< tt);
+      no_year = missing 3 [] (lit< tt);
+      no_eisbn = missing 4 [] (lit< tt);
+      issns = λ k d h. let one = is.issns k d h in issn_kept c.issns_stay.ensures _ one.0 one.1;
+      eissns = λ k d h. let one = is.eissns k d h in issn_kept c.issns_stay.ensures _ one.0 one.1;
+      isbns = λ k d h. isbn_kept c.isbns_stay.ensures _ (is.isbns k d h);
+      dates = λ k d h. date_kept c.dates_stay.ensures _ (is.dates k d h);
+    })
+
+pub returns-clause-reading : goal.returns-clause-reading
+returns-clause-reading c pairs is all =
+    ap (λ counted. with_derived (normal_form counted)) all ∙ ap with_derived (returns-clause-steps c pairs is)

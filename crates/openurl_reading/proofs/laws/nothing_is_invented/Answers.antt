@@ -1,0 +1,9 @@
+use Rattle.openurl_reading.proofs.LowerLaws.{found_again}
+use Rattle.openurl_reading.proofs.NothingInvented.{nothing_invented}
+use Rattle.openurl_reading.proofs.laws.nothing_is_invented.Goals as goal
+
+pub returns : goal.returns
+returns c =
+    nothing_invented
+    (found_again c.issns_are_issns.ensures c.issns_are_found_alone.ensures c.isbns_are_isbns.ensures c.isbns_stay.ensures
+    c.dates_are_read.ensures c.dates_stay.ensures)

@@ -1,0 +1,32 @@
+use Rattle.std.proofs.Common.{◌≤◌, length, arith}
+use Rattle.std.proofs.lemmas.List.{length-take}
+use Rattle.openurl_reading.specs.Counting.{accepted, counting, most_pairs}
+use Rattle.openurl_reading.specs.Reading.{normal_form, with_derived}
+use Rattle.openurl_reading.proofs.FoundAre.{AreFoundIn, found_are}
+use Rattle.openurl_reading.proofs.LowerLaws.{found_short}
+use Rattle.openurl_reading.proofs.Sizes.{AreLight, reading_weighs, counting_weighs, total-one, source_short}
+use Rattle.openurl_reading.proofs.laws.readings_are_bounded.Goals as goal
+
+pub returns-clause-few : goal.returns-clause-few
+returns-clause-few c pairs =
+    let counted = counting pairs in
+    let each : AreFoundIn (λ n. 1 ≤ 1) = record {
+      issns = λ value k d h. omega arith;
+      isbns = λ value k d h. omega arith;
+      dates = λ value date e. omega arith;
+    } in
+    let light : AreLight (λ n. 1) 1 = record { found = found_are (λ n. 1 ≤ 1) each; version = omega arith; source = λ sid. omega arith } in
+    omega (arith, reading_weighs (λ n. 1) 1 light counted, total-one counted, total-one (with_derived (normal_form counted)))
+
+pub returns-clause-counting : goal.returns-clause-counting
+returns-clause-counting c pairs = omega (arith, length-take most_pairs (accepted pairs))
+
+pub returns-clause-bytes : goal.returns-clause-bytes
+returns-clause-bytes c pairs =
+    let counted = counting pairs in
+    let light : AreLight (λ n. length n) 13 = record {
+      found = found_are (λ n. length n ≤ 13) (found_short c.issns_are_issns.ensures c.isbns_are_isbns.ensures c.dates_are_read.ensures);
+      version = omega arith;
+      source = source_short;
+    } in
+    omega (arith, reading_weighs (λ n. length n) 13 light counted, counting_weighs (λ n. length n) pairs)

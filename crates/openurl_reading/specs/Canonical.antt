@@ -1,0 +1,37 @@
+-- Requests that are OpenURL 1.0 (ANSI/NISO Z39.88-2004, and the guidelines for KEV ContextObjects).
+use Rattle.std.specs.Prelude.{◌≡◌, false, List, [], ◌∷◌, codes, All}
+use Rattle.text_model.specs.Texts.{Text}
+use Rattle.kev_read.specs.Pairs.{KeyValue, all_of}
+use Rattle.standard_numbers.specs.Issn.{IsIssn, is_doubtful}
+use Rattle.standard_numbers.specs.Isbn.{IsIsbn}
+use Rattle.publication_dates.specs.Forms.{IsDate}
+use Rattle.openurl_reading.specs.OldKeys.{old_keys}
+
+-- no pair has the key
+abbrev pub Lacks : List KeyValue → Text → Type 0
+Lacks pairs key = all_of pairs key ≡ []
+
+-- what holds of all values of a key
+abbrev pub Under : List KeyValue → Text → (Text → Type 0) → Type 0
+Under pairs key P = All P (all_of pairs key)
+
+abbrev pub IsVersion : Text → Type 0
+IsVersion value = value ≡ codes "Z39.88-2004"
+
+-- an ISSN, and neither zeros nor a span of years
+abbrev pub IsSureIssn : Text → Type 0
+IsSureIssn issn = IsIssn issn × (is_doubtful issn ≡ false)
+
+-- keys of OpenURL 0.1 that have no key in their place, and such as no format of OpenURL 1.0 has
+abbrev pub other_keys : List Text
+other_keys = codes "sid" ∷ codes "date" ∷ codes "year" ∷ codes "rft.year" ∷ codes "rft.eisbn" ∷ []
+
+pub record IsCanonical (pairs : List KeyValue) : Type 0 where
+  pub context : Under pairs (codes "ctx_ver") IsVersion
+  pub transport : Under pairs (codes "url_ver") IsVersion
+  pub no_old_keys : All (λ key. Lacks pairs key.old) old_keys
+  pub no_other_keys : All (Lacks pairs) other_keys
+  pub issns : Under pairs (codes "rft.issn") IsSureIssn
+  pub eissns : Under pairs (codes "rft.eissn") IsSureIssn
+  pub isbns : Under pairs (codes "rft.isbn") IsIsbn
+  pub dates : Under pairs (codes "rft.date") IsDate

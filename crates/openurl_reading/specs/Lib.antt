@@ -1,0 +1,11 @@
+pub mod Counting
+pub mod Steps
+pub mod Values
+pub mod Versions
+pub mod OldKeys
+pub mod Referrers
+pub mod Numbers
+pub mod Dates
+pub mod Reading
+pub mod Canonical
+pub mod Origins

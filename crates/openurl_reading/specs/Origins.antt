@@ -1,0 +1,22 @@
+-- Where the values of a reading come from.
+use Rattle.std.specs.Prelude.{◌≡◌, List, Some, map, Contains}
+use Rattle.text_model.specs.Texts.{Text}
+use Rattle.kev_read.specs.Pairs.{KeyValue}
+use Rattle.standard_numbers.specs.Issn.{issns_in}
+use Rattle.standard_numbers.specs.Isbn.{isbns_in}
+use Rattle.publication_dates.specs.Dates.{date_in}
+use Rattle.openurl_reading.specs.Values.{searched}
+use Rattle.openurl_reading.specs.Versions.{version}
+use Rattle.openurl_reading.specs.Referrers.{referrer_of}
+
+abbrev pub all_values : List KeyValue → List Text
+all_values pairs = map (λ pair. pair.value) pairs
+
+-- a value of the request, the version, or what is read in one value of the request
+pub data HasOrigin (sent : List Text) : Text → Type 0 where
+  from_request : (value : Text) → Contains sent value → HasOrigin sent value
+  version_of_openurl : HasOrigin sent version
+  source_in : (value : Text) → Contains sent value → HasOrigin sent (referrer_of value)
+  issn_in : (value issn : Text) → Contains sent value → Contains (issns_in (searched value)) issn → HasOrigin sent issn
+  isbn_in : (value isbn : Text) → Contains sent value → Contains (isbns_in (searched value)) isbn → HasOrigin sent isbn
+  date_of : (value date : Text) → Contains sent value → date_in (searched value) ≡ Some date → HasOrigin sent date

@@ -1,0 +1,48 @@
+-- A request of any source, read as OpenURL 1.0.
+use Rattle.std.specs.Prelude.{ℕ, List, [], ◌∷◌, ◌++◌, codes, Option, Some, None}
+use Rattle.text_model.specs.Texts.{Text}
+use Rattle.kev_read.specs.Pairs.{KeyValue}
+use Rattle.openurl_reading.specs.Counting.{counting, left_out}
+use Rattle.openurl_reading.specs.Steps.{Step, after}
+use Rattle.openurl_reading.specs.Versions.{versions}
+use Rattle.openurl_reading.specs.OldKeys.{copies}
+use Rattle.openurl_reading.specs.Referrers.{referrer_step}
+use Rattle.openurl_reading.specs.Numbers.{issns_under, first_number, other_than, issn_step, eissn_step, isbn_step, first_isbn}
+use Rattle.openurl_reading.specs.Dates.{date_step}
+
+unfoldable pub steps : List Step
+steps = versions ++ copies ++ referrer_step ∷ issn_step ∷ eissn_step ∷ isbn_step ∷ date_step ∷ []
+
+-- the pairs of OpenURL 1.0
+abbrev pub normal_form : List KeyValue → List KeyValue
+normal_form pairs = after steps pairs
+
+-- ---- keys that the resolver adds for the rules of targets
+
+abbrev pub added : Text → Option Text → List KeyValue
+added key None = []
+added key (Some value) = record { key = key; value = value } ∷ []
+
+-- the ISSNs of a request, those of the online edition last
+abbrev pub issns_of : List KeyValue → List Text
+issns_of pairs = issns_under pairs (codes "rft.issn") ++ issns_under pairs (codes "rft.eissn")
+
+abbrev pub second_issn : List KeyValue → Option Text
+second_issn pairs = other_than (first_number (issns_of pairs)) (issns_of pairs)
+
+abbrev pub derived : List KeyValue → List KeyValue
+derived pairs =
+    added (codes "x.issn") (first_number (issns_of pairs)) ++ added (codes "x.eissn") (second_issn pairs) ++ added (codes "x.isbn") (first_isbn pairs)
+
+abbrev pub with_derived : List KeyValue → List KeyValue
+with_derived pairs = derived pairs ++ pairs
+
+-- ---- the reading
+
+-- pairs, and how many of the request were left out
+pub record ReadRequest : Type 0 where
+  pub pairs : List KeyValue
+  pub left_out : ℕ
+
+abbrev pub reading_of : List KeyValue → ReadRequest
+reading_of pairs = record { pairs = with_derived (normal_form (counting pairs)); left_out = left_out pairs }

@@ -1,0 +1,149 @@
+//! Which pairs of a source count.
+
+ghost use Rattle.std.specs.Prelude.{◌≡◌, ◌-◌, IfOk, length};
+ghost use Rattle.std.specs.Str.{str_eq_ignore_ascii_case};
+ghost use Rattle.text_model.specs.Texts.{texts_of};
+ghost use Rattle.openurl_reading.specs.Counting as spec;
+
+use crate::pairs::{Pair, Pairs, copy};
+use kev_read::QueryPairs;
+use standard_names::known_columns;
+use std::alloc::{AllocError, Global};
+
+/// The maximum number of pairs that count.
+const MOST_PAIRS: usize = 300;
+
+/// The pairs that count, and how many are left out beyond their maximum number.
+pub(crate) fn counting(alloc: Global, query: &QueryPairs) -> Result<(Pairs, usize), AllocError>
+    ensures counting { IfOk result (λ read. read.0 ≡ spec.counting query.now) }
+    ensures left_out { IfOk result (λ read. read.1 ≡ spec.left_out query.now) }
+{
+    let mut list = Vec::new(alloc);
+    let mut left_out = 0;
+    for index in 0..query.len() {
+        let (key, value) = query.pair(index);
+        if is_accepted(alloc, key, value)? {
+            if list.len() < MOST_PAIRS {
+                list.push(Pair::new(copy(alloc, key)?, copy(alloc, value)?))?;
+            } else {
+                left_out += 1;
+            }
+        }
+    }
+    Ok((Pairs::new(list), left_out))
+}
+
+/// Whether a pair counts.
+fn is_accepted(alloc: Global, key: &str, value: &str) -> Result<bool, AllocError>
+    ensures { IfOk result (λ is. is ≡ spec.is_accepted record { key = key.now; value = value.now }) }
+{
+    let is_free = !is_added_key(key.as_bytes()) && !is_column(key);
+    let is_void = is_void(alloc, key, value)?;
+    Ok(is_free && !is_void)
+}
+
+/// Whether the key is one of those that the resolver adds.
+fn is_added_key(key: &[u8]) -> bool
+    ensures { result ≡ spec.is_added_key key.now }
+{
+    key.len() >= 2 && key[0] == b'x' && key[1] == b'.'
+}
+
+/// Whether the key is a column of holdings tables.
+fn is_column(key: &str) -> bool
+    ensures { result ≡ spec.is_column key.now }
+{
+    is_one_of(known_columns(), key) || key == "title_page"
+}
+
+fn is_one_of(texts: &[&str], text: &str) -> bool
+    ensures { result ≡ spec.is_one_of (texts_of texts.now) text.now }
+{
+    texts.iter().any(|one| *one == text)
+}
+
+/// Whether the value says nothing under the key.
+fn is_void(alloc: Global, key: &str, value: &str) -> Result<bool, AllocError>
+    ensures { IfOk result (λ is. is ≡ spec.is_void record { key = key.now; value = value.now }) }
+{
+    if is_blank(value.as_bytes()) {
+        return Ok(true);
+    }
+    if is_one_of(row_keys(), key) {
+        let is_any = is_any(alloc, value.as_bytes())?;
+        return Ok(is_any);
+    }
+    Ok(key == "rft_id" && is_prefix(value))
+}
+
+fn is_blank(value: &[u8]) -> bool
+    ensures { result ≡ spec.is_blank value.now }
+{
+    value.iter().all(|byte| *byte <= b' ')
+}
+
+/// The keys that find rows, with their names in OpenURL 0.1.
+fn row_keys() -> &'static [&'static str]
+    ensures { texts_of result.now ≡ spec.row_keys }
+{
+    &["rft.issn", "rft.eissn", "rft.isbn", "issn", "eissn", "isbn"]
+}
+
+/// Whether the value is the number of the rows of targets that answer every request.
+fn is_any(alloc: Global, value: &[u8]) -> Result<bool, AllocError>
+    ensures { IfOk result (λ is. is ≡ spec.is_any value.now) }
+{
+    let plain = plain(alloc, value)?;
+    Ok(plain.as_slice() == b"ANY".as_slice())
+}
+
+/// The value without hyphens and spaces, in upper case.
+fn plain(alloc: Global, value: &[u8]) -> Result<Vec<u8>, AllocError>
+    ensures { IfOk result (λ bytes. bytes.items ≡ spec.plain value.now) }
+{
+    value
+        .iter()
+        .filter(|byte| !(**byte == b'-' || **byte == b' '))
+        .map(|byte| byte.to_ascii_uppercase())
+        .collect(alloc)
+}
+
+/// Whether the value is what identifiers begin with, and no more.
+fn is_prefix(value: &str) -> bool
+    ensures { result ≡ spec.is_prefix value.now }
+{
+    prefixes().iter().any(|prefix| is_same(prefix, value))
+}
+
+/// Whether two texts differ at most in upper and lower case.
+fn is_same(text: &str, other: &str) -> bool
+    ensures { result ≡ str_eq_ignore_ascii_case text.now other.now }
+{
+    text.eq_ignore_ascii_case(other)
+}
+
+/// What identifiers begin with.
+fn prefixes() -> &'static [&'static str]
+    ensures { texts_of result.now ≡ spec.prefixes }
+{
+    &[
+        "info:doi/",
+        "info:pmid/",
+        "info:oclcnum/",
+        "info:lccn/",
+        "info:bibcode/",
+        "info:arxiv/",
+        "info:hdl/",
+        "info:eric/",
+        "urn:issn:",
+        "urn:isbn:",
+        "doi:",
+        "pmid:",
+        "oclc:",
+        "info:doi/doi:",
+        "http://doi.org/",
+        "https://doi.org/",
+        "http://dx.doi.org/",
+        "https://dx.doi.org/",
+    ]
+}

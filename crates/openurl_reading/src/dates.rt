@@ -1,0 +1,52 @@
+//! The date of a request.
+
+ghost use Rattle.std.specs.Prelude.{◌≡◌, IfOk, min, take};
+ghost use Rattle.openurl_reading.specs.Steps.{taken};
+ghost use Rattle.openurl_reading.specs.Dates as spec;
+
+use crate::change::{Change, changed};
+use crate::pairs::Pairs;
+use crate::searched::searched;
+use publication_dates::date_in;
+use std::alloc::{AllocError, Global};
+use uri_text::Text;
+
+/// The first date that can be read leads. If none can, `rft.date` goes.
+pub(crate) fn lead_date(alloc: Global, pairs: Pairs) -> Result<Pairs, AllocError>
+    ensures { IfOk result (λ after. after ≡ taken pairs spec.date_step) }
+{
+    let date = first_date(alloc, &pairs)?;
+    let change = if date.is_none() {
+        Change::replacing(Vec::new(alloc))
+    } else {
+        Change::led(alloc, date, pairs.first("rft.date"))?
+    };
+    changed(alloc, "rft.date", change, pairs)
+}
+
+/// The first date that can be read.
+fn first_date(alloc: Global, pairs: &Pairs) -> Result<Option<Text>, AllocError>
+    ensures { IfOk result (λ date. date ≡ spec.first_date spec.date_keys pairs.now) }
+{
+    if let Some(date) = date_under(alloc, pairs, "rft.date")? {
+        return Ok(Some(date));
+    }
+    if let Some(date) = date_under(alloc, pairs, "rft.year")? {
+        return Ok(Some(date));
+    }
+    if let Some(date) = date_under(alloc, pairs, "date")? {
+        return Ok(Some(date));
+    }
+    let date = date_under(alloc, pairs, "year")?;
+    Ok(date)
+}
+
+/// The date in the first value of a key.
+fn date_under(alloc: Global, pairs: &Pairs, key: &str) -> Result<Option<Text>, AllocError>
+    ensures { IfOk result (λ date. date ≡ spec.date_under pairs.now key.now) }
+{
+    match pairs.first(key) {
+        Some(value) => date_in(alloc, searched(value)),
+        None => Ok(None),
+    }
+}

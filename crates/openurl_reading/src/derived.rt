@@ -1,0 +1,64 @@
+//! Keys that the resolver adds for the rules of targets.
+
+ghost use Rattle.std.specs.Prelude.{◌≡◌, ◌++◌, IfOk, OnOk};
+ghost use Rattle.openurl_reading.specs.Reading as spec;
+
+use crate::numbers::{first, first_isbn, issns_under, other_than, push_all};
+use crate::pairs::{Pair, Pairs, copy};
+use std::alloc::{AllocError, Global};
+use uri_text::Text;
+
+/// The pairs after those that are derived from them.
+pub(crate) fn with_derived(alloc: Global, pairs: Pairs) -> Result<Pairs, AllocError>
+    ensures { IfOk result (λ all. all ≡ spec.with_derived pairs) }
+{
+    let mut list = derived(alloc, &pairs)?;
+    for pair in pairs.into_list() {
+        list.push(pair)?;
+    }
+    Ok(Pairs::new(list))
+}
+
+/// The pairs that are derived from others.
+fn derived(alloc: Global, pairs: &Pairs) -> Result<Vec<Pair>, AllocError>
+    ensures { IfOk result (λ list. list.items ≡ spec.derived pairs.now) }
+{
+    let mut list = Vec::new(alloc);
+    push_added(alloc, &mut list, "x.issn", first(issns_of(alloc, pairs)?))?;
+    push_added(alloc, &mut list, "x.eissn", second_issn(alloc, pairs)?)?;
+    push_added(alloc, &mut list, "x.isbn", first_isbn(alloc, pairs)?)?;
+    Ok(list)
+}
+
+/// The second ISSN of a request.
+fn second_issn(alloc: Global, pairs: &Pairs) -> Result<Option<Text>, AllocError>
+    ensures { IfOk result (λ issn. issn ≡ spec.second_issn pairs.now) }
+{
+    let issn = first(issns_of(alloc, pairs)?);
+    let issns = issns_of(alloc, pairs)?;
+    Ok(other_than(issn, issns))
+}
+
+/// The ISSNs of a request, those of the online edition last.
+fn issns_of(alloc: Global, pairs: &Pairs) -> Result<Vec<Text>, AllocError>
+    ensures { IfOk result (λ issns. issns.items ≡ spec.issns_of pairs.now) }
+{
+    let mut issns = issns_under(alloc, pairs, "rft.issn")?;
+    push_all(&mut issns, issns_under(alloc, pairs, "rft.eissn")?)?;
+    Ok(issns)
+}
+
+/// Appends a pair of the key if there is a value.
+fn push_added(
+    alloc: Global,
+    list: &mut Vec<Pair>,
+    key: &str,
+    value: Option<Text>,
+) -> Result<(), AllocError>
+    ensures { OnOk result (list.new.items ≡ list.old.items ++ spec.added key.now value) }
+{
+    if let Some(value) = value {
+        list.push(Pair::new(copy(alloc, key)?, value))?;
+    }
+    Ok(())
+}

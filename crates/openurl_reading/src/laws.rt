@@ -1,0 +1,79 @@
+//! What follows from the definitions. These functions have empty bodies, apart from the laws that they use; each
+//! contract is a theorem.
+
+ghost use Rattle.std.specs.Prelude.{◌≡◌, ◌≤◌, ◌+◌, ◌*◌, List, All, false, filter, length};
+ghost use Rattle.kev_read.specs.Pairs.{KeyValue, value_bytes};
+ghost use Rattle.openurl_reading.specs.Canonical.{IsCanonical};
+ghost use Rattle.openurl_reading.specs.Counting.{counting, is_added_key, is_column, most_pairs};
+ghost use Rattle.openurl_reading.specs.Origins.{HasOrigin, all_values};
+ghost use Rattle.openurl_reading.specs.Reading.{derived, normal_form, reading_of, with_derived};
+ghost use Rattle.openurl_reading.specs.Steps.{Step, others, taken};
+
+use publication_dates::laws::{dates_are_read, dates_stay};
+use standard_numbers::laws::{
+    isbns_are_isbns, isbns_stay, issns_are_found_alone, issns_are_issns, issns_stay,
+};
+
+/// A step leaves the pairs of all other keys as they are, in their order.
+pub fn steps_touch_their_key()
+    ensures { (step : Step) (pairs : List KeyValue) → others step.key (taken pairs step) ≡ others step.key pairs }
+{}
+
+/// Whatever a source sends, no pair of the reading names a column of holdings tables, and its keys that begin with `x.`
+/// are those that the resolver derives from the others.
+pub fn sources_write_no_column()
+    ensures columns { (pairs : List KeyValue) → All (λ pair. is_column pair.key ≡ false) (reading_of pairs).pairs }
+    ensures added { (pairs : List KeyValue) → filter (λ pair. is_added_key pair.key) (reading_of pairs).pairs
+        ≡ derived (normal_form (counting pairs)) }
+{}
+
+/// A request that is OpenURL 1.0 stays as it is. If all its pairs count, its reading has them after the derived ones.
+pub fn canonical_requests_stay()
+    ensures steps { (pairs : List KeyValue) → IsCanonical pairs → normal_form pairs ≡ pairs }
+    ensures reading { (pairs : List KeyValue) → IsCanonical pairs → counting pairs ≡ pairs
+        → (reading_of pairs).pairs ≡ with_derived pairs }
+{
+    issns_stay();
+    isbns_stay();
+    dates_stay();
+}
+
+/// Reading twice is reading once. A reading is read as it is if its pairs, without the derived ones, are few enough.
+pub fn readings_are_read_as_they_are()
+    ensures steps { (pairs : List KeyValue) → normal_form (normal_form pairs) ≡ normal_form pairs }
+    ensures reading { (pairs : List KeyValue) → length (normal_form (counting pairs)) ≤ most_pairs
+        → reading_of (reading_of pairs).pairs ≡ record { pairs = (reading_of pairs).pairs; left_out = 0 } }
+{
+    issns_are_issns();
+    issns_are_found_alone();
+    isbns_are_isbns();
+    isbns_stay();
+    dates_are_read();
+    dates_stay();
+}
+
+/// Nothing is invented: each value of a reading is one of the request, the version of OpenURL, or what is read in one
+/// value of the request.
+pub fn nothing_is_invented()
+    ensures { (pairs : List KeyValue) → All (λ pair. HasOrigin (all_values pairs) pair.value) (reading_of pairs).pairs }
+{
+    issns_are_issns();
+    issns_are_found_alone();
+    isbns_are_isbns();
+    isbns_stay();
+    dates_are_read();
+    dates_stay();
+}
+
+/// A reading has at most twice the pairs that count, of which there are at most 300, and twice the bytes of the values
+/// of the request, and what the resolver adds.
+pub fn readings_are_bounded()
+    ensures few { (pairs : List KeyValue) → length (reading_of pairs).pairs ≤ 2 * length (counting pairs) + 12 }
+    ensures counting { (pairs : List KeyValue) → length (counting pairs) ≤ most_pairs }
+    ensures bytes { (pairs : List KeyValue)
+        → value_bytes (reading_of pairs).pairs ≤ 2 * value_bytes pairs + 156 }
+{
+    issns_are_issns();
+    isbns_are_isbns();
+    dates_are_read();
+}

@@ -1,0 +1,27 @@
+//! All steps, in order.
+
+ghost use Rattle.std.specs.Prelude.{◌≡◌, IfOk};
+ghost use Rattle.openurl_reading.specs.Reading as spec;
+
+use crate::dates::lead_date;
+use crate::numbers::{lead_eissn, lead_isbn, lead_issn};
+use crate::old_keys::copy_old_keys;
+use crate::pairs::Pairs;
+use crate::referrer::name_referrer;
+use crate::versions::correct;
+use std::alloc::{AllocError, Global};
+
+/// The pairs after all steps.
+pub(crate) fn normal_form(alloc: Global, pairs: Pairs) -> Result<Pairs, AllocError>
+    ensures { IfOk result (λ after. after ≡ spec.normal_form pairs) }
+{
+    let pairs = correct(alloc, "ctx_ver", pairs)?;
+    let pairs = correct(alloc, "url_ver", pairs)?;
+    let pairs = copy_old_keys(alloc, pairs)?;
+    let pairs = name_referrer(alloc, pairs)?;
+    let pairs = lead_issn(alloc, pairs)?;
+    let pairs = lead_eissn(alloc, pairs)?;
+    let pairs = lead_isbn(alloc, pairs)?;
+    let pairs = lead_date(alloc, pairs)?;
+    Ok(pairs)
+}

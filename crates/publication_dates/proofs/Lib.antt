@@ -1,0 +1,6 @@
+pub mod NthParts
+pub mod Trimmed
+pub mod MonthNames
+pub mod Written
+pub mod Read
+pub mod AsciiDates

@@ -1,0 +1,4 @@
+pub mod Calendar
+pub mod Forms
+pub mod Months
+pub mod Dates

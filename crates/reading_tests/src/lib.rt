@@ -1,0 +1,15 @@
+//! Tests of numbers and dates in texts as sources send them, with examples of the standards, and of whole requests.
+#![tactic(auto)]
+
+#[cfg(test)]
+mod counted;
+#[cfg(test)]
+mod dates;
+#[cfg(test)]
+mod isbns;
+#[cfg(test)]
+mod issns;
+#[cfg(test)]
+mod requests;
+#[cfg(test)]
+mod shared;

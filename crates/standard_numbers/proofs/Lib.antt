@@ -1,0 +1,12 @@
+pub mod SpellingSteps
+pub mod Forms
+pub mod Steps
+pub mod IssnForms
+pub mod IsbnForms
+pub mod IsbnPlaces
+pub mod Ascii
+pub mod CheckSums
+pub mod Ranking
+pub mod RightFirst
+pub mod Found
+pub mod Stay

@@ -1,0 +1,5 @@
+pub mod Spellings
+pub mod CheckDigits
+pub mod Issn
+pub mod Isbn
+pub mod Private
