@@ -431,6 +431,10 @@ async function testSearch(words) {
         await search.search(of, 'j', counted(most, issn).concat(counted(most, isbn)).join(' '), 1);
         expect('search', most + ' numbers of each kind', readBelow(of, '/index/keys/'), 4);
     }
+    // The key of a title ends before its numbers.
+    const known = [{ lines: ['Tides\t1000-0010\t', 'Tides 05\t1000-0029\t'] }];
+    const first = await search.firstPlace({ known }, 0, 2, (key) => key < 'tides 05');
+    expect('search', 'the place of a title that begins as a shorter one', first, 1);
 }
 
 testIdentifiers();
