@@ -427,9 +427,9 @@ async function testSearch(words) {
     // Two ISSNs and two ISBNs of a text are sought.
     const isbn = (number) => '97812345601' + (10 + number);
     for (let most = 2; most <= 3; most++) {
-        const of = requestWith('', {});
-        await search.search(of, 'j', counted(most, issn).concat(counted(most, isbn)).join(' '), 1);
-        expect('search', most + ' numbers of each kind', readBelow(of, '/index/keys/'), 4);
+        const asked = requestWith('', {});
+        await search.search(asked, 'j', counted(most, issn).concat(counted(most, isbn)).join(' '), 1);
+        expect('search', most + ' numbers of each kind', readBelow(asked, '/index/keys/'), 4);
     }
     // The key of a title ends before its numbers.
     const known = [{ lines: ['Tides\t1000-0010\t', 'Tides 05\t1000-0029\t'] }];
