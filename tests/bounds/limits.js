@@ -215,6 +215,11 @@ function testNotices() {
     };
     expect('notices', 'a retraction after 199 corrections', kinds(199), 'retraction');
     expect('notices', 'a retraction after 200 corrections', kinds(200), 'correction');
+    [0, 1].forEach((most) => {
+        const data = {};
+        notices.addTo(data, { notices: counted(most, () => ({ kind: 'correction', doi: '', source: '' })), about: [] });
+        expect('notices', most + ' as data', JSON.stringify(data), most ? '{"notices":[{"kind":"correction"}]}' : '{}');
+    });
 }
 
 // ---------------------------------------------------------------- Texts of a request
