@@ -143,4 +143,4 @@ async function joined(list, key, letters, sets, page) {
     return { titles: its, page: part.page, pages: part.pages, count, isMore };
 }
 
-export default { search };
+export default { firstPlace, search };

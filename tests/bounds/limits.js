@@ -215,6 +215,11 @@ function testNotices() {
     };
     expect('notices', 'a retraction after 199 corrections', kinds(199), 'retraction');
     expect('notices', 'a retraction after 200 corrections', kinds(200), 'correction');
+    [0, 1].forEach((most) => {
+        const data = {};
+        notices.addTo(data, { notices: counted(most, () => ({ kind: 'correction', doi: '', source: '' })), about: [] });
+        expect('notices', most + ' as data', JSON.stringify(data), most ? '{"notices":[{"kind":"correction"}]}' : '{}');
+    });
 }
 
 // ---------------------------------------------------------------- Texts of a request
@@ -431,6 +436,10 @@ async function testSearch(words) {
         await search.search(asked, 'j', counted(most, issn).concat(counted(most, isbn)).join(' '), 1);
         expect('search', most + ' numbers of each kind', readBelow(asked, '/index/keys/'), 4);
     }
+    // The key of a title ends before its numbers.
+    const known = [{ lines: ['Tides\t1000-0010\t', 'Tides 05\t1000-0029\t'] }];
+    const first = await search.firstPlace({ known }, 0, 2, (key) => key < 'tides 05');
+    expect('search', 'the place of a title that begins as a shorter one', first, 1);
 }
 
 testIdentifiers();

@@ -8,6 +8,7 @@ from fixtures.made_titles import issn
 from fixtures.made_versions import table
 from openlink_update.slips import guards
 from openlink_update.slips import kinds
+from openlink_update.slips import odd_cells
 from openlink_update.slips import slip_judge
 
 from openlink_update.slips.material import Material
@@ -376,6 +377,26 @@ class FirstTables(Case):
             said = [line.endswith(": allowed from now on") for line in judge.lines("press") if words in line]
             self.expect(f"{words}: said", said, [is_used])
             self.expect(f"{words}: remembered", f"press\t{words}\t9\t9\n" in judge.limits_text(["press"]), is_used)
+
+    def test_kept(self) -> None:
+        """What the table in use has is allowed from then on if its files are used again."""
+        header = ("publication_title", "print_identifier", "date_first_issue_online")
+        judge = slip_judge.SlipJudge(None, DAY, OtherTitles(tuple))
+        judge.keep("press", lambda: Material(Table(header, [["T", "0028-0836", ""]] * 9), [], [], 9, None, "", ""))
+        wanted = "press\tno first date in any row\t9\t9\n"
+        self.expect("remembered", wanted in judge.limits_text(["press"]), True)
+        self.expect("what it has", wanted[:-1] in judge.text(["press"]), True)
+        said = [line for line in judge.lines("press") if line.startswith("no first date in any row: 9 of 9 rows")]
+        self.expect("said", len(said), 1)
+
+    def test_same_number(self) -> None:
+        """Two titles may share a number that most rows have, and three not."""
+        header = ("publication_title", "print_identifier")
+        for titles in (2, 3):
+            rows = [[f"T{at % titles}", "0028-0836"] for at in range(100)]
+            now = Material(Table(header, rows), [], [], 100, None, "", "")
+            found = odd_cells.same_number(Pair(now, None, DAY, lambda numbers: {}))
+            self.expect(f"{titles} titles", found is not None, titles == 3)
 
 
 class OtherTables(Case):

@@ -6,6 +6,7 @@ import datetime
 import io
 import json
 import os
+import resource
 import subprocess
 import tempfile
 import zipfile
@@ -24,6 +25,7 @@ from openlink_update.input_files import InputFolder
 from openlink_update.outcome import Refused
 from openlink_update.received import archives
 from openlink_update.received import headers
+from openlink_update.rights import filters
 from openlink_update.rights import handover
 from openlink_update.run_notes import ProbeResult
 from openlink_update.run_notes import TargetState
@@ -257,3 +259,17 @@ class Received(FolderCase):
         self.write("other/.fetch/own.txt", b"")
         FetchFolder(InputFolder(self.folder / "other"))
         self.expect("a file of others", os.listdir(self.folder / "other/.fetch"), ["own.txt"])
+
+    def test_most_bytes_of_a_child(self) -> None:
+        """A child writes no longer files than it may, nor than the machine allows."""
+        _, hard = resource.getrlimit(resource.RLIMIT_FSIZE)
+        for most, limit, wanted in ((4096, hard, 4096), (4096, 8192, 4096), (8192, 4096, 4096)):
+            with mock.patch.object(resource, "getrlimit", return_value=(limit, limit)):
+                child = children.start(["cat", "/proc/self/limits"], self.folder, most, stdout=subprocess.PIPE)
+            lines = child.communicate()[0].decode().splitlines()
+            found = [line.split()[3] for line in lines if line.startswith("Max file size")]
+            self.expect(f"{most} of {limit}", found, [str(wanted)])
+
+    def test_what_a_filter_may_take(self) -> None:
+        found = filters.limits_in(self.folder)
+        self.expect("memory and disk", (found.memory, found.disk, found.folders), (2**30, 2**30, (self.folder,)))
