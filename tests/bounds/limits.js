@@ -8,6 +8,7 @@ import completion from './completion.js';
 import contact from './contact.js';
 import copies from './copies.js';
 import door from './find.js';
+import exchange from './exchange.js';
 import folding from './fold.js';
 import form from './form.js';
 import identifying from './identifiers.js';
@@ -412,6 +413,11 @@ function testForm() {
         expect('form', 'a genre of ' + length + ' characters', found && found[1], repeated('a', 30));
     });
 }
+function testLanguageOf() {
+    ['lang=fr&issn=1', 'issn=1&lang=fr', 'issn=1'].forEach((sent) => {
+        expect('exchange', sent + ' without its language', exchange.argsOf({ sent }), 'issn=1');
+    });
+}
 function testBrowser() {
     const r = { headersIn: { Host: 'e.org' }, variables: { scheme: 'https' } };
     [16, 17].forEach((length) => {
@@ -458,6 +464,7 @@ testTitlePages();
 testPages();
 testMenu();
 testForm();
+testLanguageOf();
 testBrowser();
 async function testAll() {
     await testCompletion();

@@ -120,6 +120,7 @@ class Tables(Case):
         self.expect("none", read("<html><p>Sign in</p></html>"), "a web page without a table")
         self.expect("a login", read(LOGIN), "a web page that asks for a password")
         self.expect("a login beside one", read(PAGE + LOGIN), "a web page that asks for a password")
+        self.expect("a search beside one", read(PAGE + "<input type=search>"), read(PAGE))
         says = "a web page with 2 tables, of which {} have a header of known names"
         self.expect("two without a header", read(other + other), says.format(0))
         self.expect("two with one", read(TABLE + TABLE), says.format(2))
