@@ -19,7 +19,7 @@ sys.path.insert(0, f"{TOP}/edits")
 import record
 import stored
 
-MOST_EDITS, MOST_CRATES = 64, 14
+MOST_EDITS, MOST_CRATES = 67, 15
 Edits = list[tuple[str, str]]
 
 
