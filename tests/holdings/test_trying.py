@@ -71,7 +71,7 @@ class Trying(RunCase):
         for module, name, by in (
             (weekly_run, "Trial", self.trial),
             (site_probes, "links", self.links),
-            (site_probes, "differences", self.differences),
+            (site_probes, "differences_of", self.differences_of),
         ):
             patch = mock.patch.object(module, name, by)
             patch.start()
@@ -89,8 +89,9 @@ class Trying(RunCase):
         self.expect(f"what {door} asks is served", self.served, door)
         return self.menus[door].get(query, {})
 
-    def differences(self, door: str, reports: str, probe: Probe) -> list[str]:
-        names = {*self.links(door, probe.query)} ^ {*probe.targets}
+    def differences_of(self, menu: dict[str, str] | None, reports: str, probe: Probe) -> list[str]:
+        self.expect("what is asked for reports", reports, self.served)
+        names = {*(menu or {})} ^ {*probe.targets}
         return [f"  other: {name}" for name in sorted(names)]
 
     def tried(self, text: str, old: str | None = OLD, tries_all: bool = True) -> tuple[object, str]:
