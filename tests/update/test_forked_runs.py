@@ -92,7 +92,7 @@ class ForkedRuns(Case):
         for send, number in (
             (forked_runs.Forked.terminate, signal.SIGTERM),
             (forked_runs.Forked.kill, signal.SIGKILL),
-            (lambda it: it.send_signal(signal.SIGHUP), signal.SIGHUP),
+            (lambda it: it.send_signal(signal.SIGUSR2), signal.SIGUSR2),
         ):
             child, other = (forked_runs.begin([str(self.script)]) for _ in "12")
             self.expect("it runs", child.poll(), None)
