@@ -1,5 +1,5 @@
-"""What the commands of the operator say of their arguments has the words of their manual pages, so that neither has a
-slip or another name for a thing."""
+"""The help of the operator's commands agrees with their manual pages: each word of it stands there too, so that neither
+has a misspelt word or another name for a thing."""
 from __future__ import annotations
 
 import contextlib
@@ -38,7 +38,7 @@ PAGES: tuple[tuple[str, Callable[[list[str]], object], tuple[str, ...], str], ..
 
 
 def words_of_page(name: str) -> set[str]:
-    """The words of a manual page, without the names of its macros."""
+    """All words of a manual page, in small letters. The names of its macros are none."""
     page = Path(fixtures.TOP, "docs/man", name).read_text(encoding="utf-8")
     return {*_WORD.findall(re.sub(r"^\.[A-Z][a-z]\b", "", page, flags=re.M).lower())}
 

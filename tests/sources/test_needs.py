@@ -25,7 +25,7 @@ _tree = functools.lru_cache(maxsize=None)(ast.parse)
 
 
 def faults(path: str, text: str) -> Iterator[str]:
-    """What is wrong in a file of tests. It is parsed only if it has one of the words."""
+    """What is wrong in a file of tests. Only a file that mentions skipping is parsed."""
     for node in ast.walk(_tree(text)) if _A_SKIP.search(text) else ():
         name = node.attr if isinstance(node, ast.Attribute) else node.id if isinstance(node, ast.Name) else ""
         if name in SKIPS:
