@@ -11,7 +11,7 @@ use Rattle.rule_parser.specs.Meaning.{meaning}
 use Rattle.compiler_model.specs.Compiled.{code_of}
 use Rattle.compiler.specs.Limits.{limit_passed}
 use Rattle.compiler.specs.declared.error.CompileError.{CompileError}
-use Rattle.safe_runs.specs.Ending.{IsAcceptedFile}
+use Rattle.verifier.specs.Accepted.{IsAcceptedFile}
 use Rattle.answers.specs.Reading.{IsNoRules}
 use Rattle.answers.specs.declared.refusal.Refusal.{Refusal}
 use Rattle.answers.specs.declared.refusal.Refusal.TheVariants.{Compile, Memory}

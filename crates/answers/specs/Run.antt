@@ -10,7 +10,8 @@ use Rattle.kev_read.specs.Refusal.{refusal}
 use Rattle.kev_read.specs.Filling.{filled}
 use Rattle.verified_runs.specs.RunValue.{most_bytes}
 use Rattle.verified_runs.specs.declared.run.TheConstants.{MAX_LINK_BYTES}
-use Rattle.safe_runs.specs.Ending.{EndsSafely, IsAcceptedFile}
+use Rattle.verifier.specs.Accepted.{IsAcceptedFile}
+use Rattle.safe_runs.specs.Ending.{EndsSafely}
 use Rattle.answers.specs.Reading.{IsNotAccepted, IsNoRequest}
 use Rattle.answers.specs.declared.refusal.Refusal.{Refusal}
 use Rattle.answers.specs.declared.refusal.Refusal.TheVariants.{OverBudget, NoLink, Memory}

@@ -4,7 +4,7 @@ use Rattle.std.specs.Fmt.{decimal}
 use Rattle.text_model.specs.Texts.{Text}
 use Rattle.code_model.specs.Code.{Code}
 use Rattle.machine_model.specs.Budget.{Sums, sums_of}
-use Rattle.safe_runs.specs.Ending.{IsAcceptedFile}
+use Rattle.verifier.specs.Accepted.{IsAcceptedFile}
 use Rattle.answers.specs.Reading.{IsNotAccepted}
 use Rattle.answers.specs.declared.refusal.Refusal.{Refusal}
 use Rattle.answers.specs.declared.refusal.Refusal.TheVariants.{Memory}

@@ -7,8 +7,8 @@ use crate::reading::rules_of;
 use crate::refusal::Refusal;
 use compiler::{CompileError, compile};
 use compiler_model::laws::compiled_code_is_accepted;
-use safe_runs::laws::accepted_file_has_no_fault;
 use std::alloc::Global;
+use verifier::laws::accepted_file_has_no_fault;
 
 /// The code file of the rules of a rule text. The verifier accepts it, and it gives what the rules mean.
 pub fn code_of(alloc: Global, bytes: &[u8]) -> Result<Vec<u8>, Refusal>

@@ -4,14 +4,13 @@ ghost use Rattle.std.specs.Prelude.{◌≡◌, IfOk, IfErr};
 ghost use Rattle.rule_parser.specs.Grammar.{IsRuleText};
 ghost use Rattle.code_file.specs.Grammar.{IsCodeFile};
 ghost use Rattle.kbart_rows.specs.Reading.{IsTable};
-ghost use Rattle.safe_runs.specs.Ending.{IsAcceptedFile};
+ghost use Rattle.verifier.specs.Accepted.{IsAcceptedFile};
 ghost use Rattle.answers.specs.Reading.{IsNoRules, IsNoCodeFile, IsNotAccepted, IsNoTable};
 
 use crate::refusal::Refusal;
 use code_file::{Code, CodeErrorKind};
 use kbart_rows::{Keys, Table, TableError};
 use rule_parser::{RuleErrorKind, Rules};
-use safe_runs::laws::accepted_file_has_no_fault;
 use std::alloc::Global;
 use verifier::{LoadError, Verified, load};
 
@@ -44,12 +43,8 @@ pub(crate) fn accepted_code(alloc: Global, bytes: &[u8]) -> Result<Verified, Ref
     ensures ok { IfOk result (IsAcceptedFile bytes.now) }
     ensures err { IfErr result (IsNotAccepted bytes.now) }
 {
-    accepted_file_has_no_fault();
     match load(alloc, bytes) {
-        Ok(code) => {
-            let _known = code.code();
-            Ok(code)
-        }
+        Ok(code) => Ok(code),
         Err(e) if e == LoadError::NoMemory => Err(Refusal::Memory),
         Err(e) => Err(Refusal::Load(e)),
     }

@@ -17,7 +17,8 @@ use Rattle.verified_runs.specs.declared.run.TheConstants.{MAX_LINK_BYTES}
 use Rattle.verified_runs.specs.declared.error.PrepareError.TheVariants as prepare
 use Rattle.safe_runs.specs.declared.error.RunError.{RunError}
 use Rattle.safe_runs.specs.declared.error.RunError.TheVariants.{Load, Prepare}
-use Rattle.safe_runs.specs.Ending.{IsAcceptedFile, EndsSafely, FileEndsSafely}
+use Rattle.verifier.specs.Accepted.{IsAcceptedFile}
+use Rattle.safe_runs.specs.Ending.{EndsSafely, FileEndsSafely}
 use Rattle.safe_runs.specs.Causes.{IsCause}
 use Rattle.end_to_end.specs.declared.error.RulesError.TheVariants.{Run}
 use Rattle.end_to_end.specs.Ending.{AreCompiled, RulesEndSafely}

@@ -11,7 +11,8 @@ use Rattle.compiler_model.specs.Answer.{answer}
 use Rattle.compiler.specs.Limits.{limit_passed}
 use Rattle.verified_runs.specs.RunValue.{most_bytes}
 use Rattle.verified_runs.specs.declared.run.TheConstants.{MAX_LINK_BYTES}
-use Rattle.safe_runs.specs.Ending.{IsAcceptedFile, EndsSafely}
+use Rattle.verifier.specs.Accepted.{IsAcceptedFile}
+use Rattle.safe_runs.specs.Ending.{EndsSafely}
 
 -- rules that have a code file
 pub record AreCompiled (set : RuleSet) : Type 0 where

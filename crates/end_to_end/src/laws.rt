@@ -10,11 +10,11 @@ ghost use Rattle.rule_parser.specs.Rules.{RuleSet, IsSound};
 ghost use Rattle.rule_parser.specs.Meaning.{meaning};
 ghost use Rattle.compiler_model.specs.Compiled.{code_of};
 ghost use Rattle.compiler_model.specs.Answer.{answer};
-ghost use Rattle.safe_runs.specs.Ending.{IsAcceptedFile};
+ghost use Rattle.verifier.specs.Accepted.{IsAcceptedFile};
 
 use code_file::laws::file_has_one_code;
 use compiler_model::laws::{code_gives_what_rules_mean, compiled_code_is_accepted};
-use safe_runs::laws::accepted_file_has_no_fault;
+use verifier::laws::accepted_file_has_no_fault;
 
 /// The verifier accepts the file of the code of rules: it can only run out of memory. The code that is read from the
 /// file gives what the rules mean on every environment: the link of the first rule whose guards all hold, or no link if

@@ -2,8 +2,7 @@
 use Rattle.std.specs.Prelude.{◌≡◌, ◌≢◌, ℕ, ◌+◌, ◌≤◌, ◌⊎◌, List, [], ◌∷◌, ◌++◌, length, string_bytes}
 use Rattle.text_model.specs.Texts.{Text}
 use Rattle.code_model.specs.Code.{Code}
-use Rattle.code_file.specs.Grammar.{IsCodeFile}
-use Rattle.machine_model.specs.Safe.{IsSafe}
+use Rattle.verifier.specs.Accepted.{IsAcceptedFile}
 use Rattle.verifier.specs.Faults.{IsLoadFault}
 use Rattle.verifier.specs.declared.error.LoadError.TheVariants as load
 use Rattle.files.specs.Found.{Found, Disk, Gives, OfFile, IsLong}
@@ -26,14 +25,9 @@ use Rattle.registry_file.specs.declared.error.TargetError.{TargetError}
 use Rattle.registry_file.specs.declared.error.TargetFault.{TargetFault}
 use Rattle.registry_file.specs.declared.error.TargetFault.TheVariants as fault
 
--- the bytes are the code file of safe code
-pub record IsSafeFile (bytes : Text) (code : Code) : Type 0 where
-  pub file : IsCodeFile bytes code
-  pub safe : IsSafe code
-
--- there is a code file of safe code
+-- there is the file of a code that the verifier accepts
 abbrev pub HasCode : Found → Type 0
-HasCode found = OfFile found (λ bytes. (code : Code) × IsSafeFile bytes code)
+HasCode found = OfFile found (λ bytes. (code : Code) × IsAcceptedFile bytes code)
 
 -- there is the file of a table
 abbrev pub HasTable : Found → Type 0
@@ -46,7 +40,7 @@ pub record IsTargetAt (disk : Disk) (keys : Keys) (row : Row) (target : TargetVa
   pub code_path : Text
   pub table_path : Text
   pub line : IsTargetLine row target.name code_path table_path
-  pub code : OfFile (disk code_path) (λ bytes. IsSafeFile bytes target.code)
+  pub code : OfFile (disk code_path) (λ bytes. IsAcceptedFile bytes target.code)
   pub table : OfFile (disk table_path) (λ bytes. IsTable bytes target.table)
   pub keyed : target.table.keys ≡ keys
 

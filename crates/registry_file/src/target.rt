@@ -5,9 +5,10 @@ ghost use Rattle.files.specs.Changes.{Unchanged};
 ghost use Rattle.files.specs.Found.{Absent, OfFile};
 ghost use Rattle.kbart_rows.specs.Reading.{IsTable};
 ghost use Rattle.registry.specs.Targets.{TargetValue};
-ghost use Rattle.registry_file.specs.Loading.{IsSafeFile, fails_on};
+ghost use Rattle.registry_file.specs.Loading.{fails_on};
 ghost use Rattle.registry_file.specs.Private.Stops.{IsNoCode, IsNoTable, IsNotAdded, IsStop, IsTargetOf};
 ghost use Rattle.registry_file.specs.declared.stop.Stop.TheVariants.{Device};
+ghost use Rattle.verifier.specs.Accepted.{IsAcceptedFile};
 
 use crate::lines::TargetLine;
 use crate::stop::Stop;
@@ -65,7 +66,7 @@ fn load_code<'a, F: Files>(
     files: &mut F,
     path: &'a str,
 ) -> Result<Verified, Stop<'a>>
-    ensures ok { IfOk result (λ code. OfFile (F.at files.old path.now) (λ bytes. IsSafeFile bytes code)) }
+    ensures ok { IfOk result (λ code. OfFile (F.at files.old path.now) (λ bytes. IsAcceptedFile bytes code)) }
     ensures err { IfErr result (IsNoCode (fails_on F.at F.fails (F.at files.old)) (F.at files.old path.now) path.now) }
     ensures absent { F.at files.old path.now ≡ Absent → result ≡ Err (Device path.entry) }
     ensures same { Unchanged (F.at files.old) (F.at files.new) }

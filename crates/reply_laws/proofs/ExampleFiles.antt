@@ -12,9 +12,13 @@ use Rattle.text_model.specs.Texts.{Text, is_reserved, is_unreserved}
 use Rattle.text_model.specs.Writing.{written_ur}
 use Rattle.code_model.specs.Code as code
 use Rattle.code_model.specs.declared.code.Instr.{Instr}
-use Rattle.machine_model.specs.Safe.{IsSafe}
+use Rattle.machine_model.proofs.Faults.{form_decided}
+use Rattle.machine_laws.proofs.Least.{mismatch_untypable}
 use Rattle.machine_laws.proofs.OutputBounds.{safe}
 use Rattle.code_file.specs.Grammar.{IsCode, IsCodeFile, IsInstr, IsLiteral, IsCodeName, IsNameByte, IsTextOf, spelled}
+use Rattle.code_file.proofs.FileLaws.{file_no_fault, file_one_code}
+use Rattle.verifier.specs.Accepted.{IsAcceptedFile}
+use Rattle.verifier.proofs.Faultless.{AreLaws, has_no_fault}
 use Rattle.kbart_rows.specs.Cells.{Holdings, Row}
 use Rattle.kbart_rows.specs.Reading.{IsTable}
 use Rattle.kbart_rows.specs.declared.keys.Keys.{Keys}
@@ -132,11 +136,6 @@ visible b t =
 abbrev pub code_file : Text
 code_file = spelled (code_of rules)
 
-pub code_is_safe : IsSafe (code_of rules)
-code_is_safe =
-    safe (code_of rules) (code_is_file template_sound rules rules_are_sound) (code_good template_sound rules rules_are_sound)
-    (code_typable template_sound rules rules_are_sound)
-
 texts_are_utf8 : IsUtf8 [] × IsUtf8 (codes "1")
 unfolding kbart_rows_on_literals
 texts_are_utf8 = (IsUtf8-from_is_utf8 [] refl, IsUtf8-from_is_utf8 (codes "1") refl)
@@ -177,6 +176,18 @@ is_code =
 pub is_code_file : IsCodeFile code_file (code_of rules)
 unfolding is_small
 is_code_file = record { is_code = is_code; fields = all_of IsInstr is_small small (code_of rules).instrs refl; spells = refl }
+
+pub code_is_accepted : IsAcceptedFile code_file (code_of rules)
+code_is_accepted =
+    let file = code_is_file template_sound rules rules_are_sound in
+    let form = code_good template_sound rules rules_are_sound in
+    let typable = code_typable template_sound rules rules_are_sound in
+    let laws : AreLaws = record { no_fault = file_no_fault; one_code = file_one_code; form = form_decided; untypable = mismatch_untypable } in
+    record {
+      is_file = is_code_file;
+      accepted = record { is_code = is_code; form = form; typable = typable; file = file; safe = safe (code_of rules) file form typable };
+      no_fault = has_no_fault laws code_file (code_of rules) is_code_file form typable;
+    }
 
 -- ---- its table
 

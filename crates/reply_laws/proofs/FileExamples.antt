@@ -41,7 +41,7 @@ use Rattle.rule_menus.specs.RuleMenus.{RuleTarget, menu_by_rules}
 use Rattle.reply_laws.specs.Files.{AreLinesOf, IsRegistryOf}
 use Rattle.reply_laws.specs.Peers.{Gets}
 use Rattle.reply_laws.specs.Written.{IsWrittenByRules, to_request}
-use Rattle.reply_laws.proofs.ExampleFiles.{all_of, code_file, code_is_safe, is_code_file, is_rule_text, is_table, keys, rule_text, rules, table, table_text}
+use Rattle.reply_laws.proofs.ExampleFiles.{all_of, code_file, code_is_accepted, is_code_file, is_rule_text, is_table, keys, rule_text, rules, table, table_text}
 
 -- ---- the files of the service
 
@@ -102,7 +102,7 @@ is_target = record {
   code_path = codes "alpha.olk";
   table_path = codes "alpha.tsv";
   line = record { three = refl; utf8 = cells_are_utf8 };
-  code = (code_file, refl, record { file = is_code_file; safe = code_is_safe });
+  code = (code_file, refl, code_is_accepted);
   table = (table_text, refl, is_table);
   keyed = refl;
 }

@@ -1,6 +1,5 @@
 -- What the lines of a registry file decide of what is loaded.
 use Rattle.std.proofs.Common.{List, [], ◌∷◌, sym, subst}
-use Rattle.csv.specs.declared.parser.State.TheVariants as state
 use Rattle.text_model.specs.Texts.{Text}
 use Rattle.kbart_rows.specs.Cells.{Row}
 use Rattle.kbart_rows.specs.Reading.{AreLines}

@@ -50,7 +50,7 @@ read_target disk keys row files target l t =
       name = name;
       file = l.code_file;
       is_of_rules = l.compiled;
-      read = subst (λ (bytes : Text). IsCodeFile bytes target.code) (sym code) t.code.2.file;
+      read = subst (λ (bytes : Text). IsCodeFile bytes target.code) (sym code) t.code.2.is_file;
       table = subst (λ (bytes : Text). IsTable bytes target.table) (sym table) t.table.2;
     }
 

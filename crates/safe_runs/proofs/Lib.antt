@@ -1,2 +1,1 @@
 pub mod Safely
-pub mod Faultless

@@ -12,6 +12,7 @@ use Rattle.machine_model.specs.Runs.{After, EndsAfter, HasOutcome}
 use Rattle.machine_model.specs.Runs as run
 use Rattle.machine_model.specs.Safe.{IsSafe}
 use Rattle.target_vars.specs.EnvValue.{EnvValue}
+use Rattle.verifier.specs.Accepted.{IsAcceptedFile}
 use Rattle.verified_runs.specs.RunValue.{most_steps, most_bytes, outcome_value}
 use Rattle.verified_runs.specs.declared.outcome.Outcome.{Outcome}
 use Rattle.verified_runs.specs.declared.outcome.Outcome.TheVariants.{Link, NoLink}
@@ -19,7 +20,7 @@ use Rattle.verified_runs.specs.declared.run.TheConstants.{MAX_LINK_BYTES}
 use Rattle.verified_runs.specs.declared.error.PrepareError.{PrepareError}
 use Rattle.verified_runs.specs.declared.error.PrepareError.TheVariants.{OverBudget, NoMemory}
 use Rattle.safe_runs.specs.declared.error.RunError.TheVariants.{Prepare}
-use Rattle.safe_runs.specs.Ending.{EndsSafely, IsAcceptedFile}
+use Rattle.safe_runs.specs.Ending.{EndsSafely}
 use Rattle.safe_runs.specs.Causes.{IsCause}
 
 abbrev pub EndsOnce : Type 0

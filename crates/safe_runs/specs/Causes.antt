@@ -3,11 +3,11 @@ use Rattle.std.specs.Prelude.{◌≡◌, ℕ, ◌<◌, ◌≤◌}
 use Rattle.text_model.specs.Texts.{Text}
 use Rattle.code_model.specs.Code.{Code}
 use Rattle.target_vars.specs.EnvValue.{EnvValue}
+use Rattle.verifier.specs.Accepted.{IsAcceptedFile}
 use Rattle.verifier.specs.Faults.{IsLoadFault}
 use Rattle.verified_runs.specs.RunValue.{most_bytes}
 use Rattle.verified_runs.specs.declared.run.TheConstants.{MAX_LINK_BYTES}
 use Rattle.verified_runs.specs.declared.error.PrepareError.TheVariants.{OverBudget, NoMemory}
-use Rattle.safe_runs.specs.Ending.{IsAcceptedFile}
 use Rattle.safe_runs.specs.declared.error.RunError.{RunError}
 use Rattle.safe_runs.specs.declared.error.RunError.TheVariants.{Load, Prepare}
 

@@ -7,26 +7,9 @@ use Rattle.machine_model.specs.States.{State}
 use Rattle.machine_model.specs.Runs.{Outcome, Link, After, EndsWith}
 use Rattle.machine_model.specs.Safe.{output_of}
 use Rattle.target_vars.specs.EnvValue.{EnvValue}
-use Rattle.code_file.specs.Grammar.{IsCodeFile}
-use Rattle.verifier.specs.Accepted.{IsAccepted}
-use Rattle.verifier.specs.Faults.{IsLoadFault}
-use Rattle.verifier.specs.declared.error.LoadError.{LoadError}
-use Rattle.verifier.specs.declared.error.LoadError.TheVariants as load
+use Rattle.verifier.specs.Accepted.{IsAcceptedFile}
 use Rattle.verified_runs.specs.RunValue.{most_steps, most_bytes}
 use Rattle.verified_runs.specs.declared.run.TheConstants.{MAX_LINK_BYTES}
-
--- the verifier finds no error of the file, of form or of kinds in the bytes: it can only run out of memory
-abbrev pub HasNoFault : Text → Type 0
-HasNoFault bytes = (e : LoadError) → IsLoadFault bytes e → e ≡ load.NoMemory
-
--- the bytes are the file of a code that the verifier accepts
-pub record IsAcceptedFile (bytes : Text) (c : Code) : Type 0 where
-  -- the bytes are the file of this code
-  pub is_file : IsCodeFile bytes c
-  -- the code has good form, is typable, and is safe on every environment
-  pub accepted : IsAccepted c
-  -- the verifier finds no error in the bytes
-  pub no_fault : HasNoFault bytes
 
 -- the run of a code on an environment, with its outcome
 pub record EndsSafely (c : Code) (e : EnvValue) (o : Outcome) : Type 0 where

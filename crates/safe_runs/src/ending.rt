@@ -8,7 +8,6 @@ ghost use Rattle.safe_runs.specs.Ending.{EndsSafely, FileEndsSafely};
 ghost use Rattle.safe_runs.specs.Causes.{IsCause};
 
 use crate::error::RunError;
-use crate::laws::accepted_file_has_no_fault;
 use machine_laws::run_ends_once;
 use std::alloc::Global;
 use target_vars::Env;
@@ -48,7 +47,6 @@ pub fn run_file(alloc: Global, bytes: &[u8], env: &Env) -> Result<Outcome, RunEr
     ensures ends { IfOk result (λ outcome. FileEndsSafely bytes.now env.now (outcome_value outcome)) }
     ensures refused { IfErr result (IsCause bytes.now env.now) }
 {
-    accepted_file_has_no_fault();
     let code = load(alloc, bytes)?;
     match run_verified(alloc, &code, env) {
         Ok(outcome) => Ok(outcome),

@@ -3,7 +3,6 @@
 
 mod ending;
 mod error;
-pub mod laws;
 
 pub use ending::{run_file, run_verified};
 pub use error::RunError;

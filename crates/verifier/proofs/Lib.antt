@@ -5,6 +5,7 @@ pub mod Pushes
 pub mod GrowingTables
 pub mod Listed
 pub mod Loads
+pub mod Faultless
 pub mod ComparedTexts
 pub mod Firsts
 pub mod GoodEdges

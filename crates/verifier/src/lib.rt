@@ -14,6 +14,7 @@ mod compared;
 mod edges;
 mod error;
 mod form;
+pub mod laws;
 mod layout;
 mod loading;
 mod mismatch;

@@ -6,18 +6,19 @@ ghost use Rattle.code_file.specs.Grammar.{IsCodeFile};
 ghost use Rattle.machine_model.specs.First.{Located};
 ghost use Rattle.machine_model.specs.Form.{HasGoodForm};
 ghost use Rattle.machine_model.specs.Typable.{IsTypable};
-ghost use Rattle.machine_model.specs.Safe.{IsSafe};
+ghost use Rattle.verifier.specs.Accepted.{IsAcceptedFile};
 ghost use Rattle.verifier.specs.Faults.{IsLoadFault, IsCodeRefusal, mismatch_error};
 ghost use Rattle.verifier.specs.Private.Layouts.{AreInstructions};
 
 use crate::compared::join_compared;
 use crate::error::LoadError;
+use crate::laws::accepted_file_has_no_fault;
 use crate::layout::Layout;
 use crate::mismatch::first_mismatch;
 use crate::verified::Verified;
 use crate::walk::least_table;
 use code_file::Code;
-use code_file::laws::{file_has_no_fault, file_has_one_code};
+use code_file::laws::file_has_one_code;
 use code_model::Instruction;
 use machine_laws::{form_is_decided, least_table_decides, mismatch_is_exact, typable_code_is_safe};
 use std::alloc::Global;
@@ -49,10 +50,7 @@ fn check(alloc: Global, code: &Code) -> Result<Vec<Instruction>, LoadError>
 /// in the order of the places. `NoMemory` is returned only for bytes that are a code file; other bytes are rejected
 /// without an allocation. A loop's body is walked again only if a kind changed at its first place.
 pub fn load(alloc: Global, bytes: &[u8]) -> Result<Verified, LoadError>
-    ensures code { IfOk result (IsCodeFile bytes.now) }
-    ensures form { IfOk result HasGoodForm }
-    ensures typable { IfOk result IsTypable }
-    ensures safe { IfOk result IsSafe }
+    ensures accepted { IfOk result (IsAcceptedFile bytes.now) }
     ensures refused { IfErr result (IsLoadFault bytes.now) }
     ensures exact { IfErr result (λ e. (m : Located ℕ) (c : Code) → e ≡ mismatch_error m → IsCodeFile bytes.now c
         → IsTypable c → ⊥) }
@@ -60,6 +58,7 @@ pub fn load(alloc: Global, bytes: &[u8]) -> Result<Verified, LoadError>
     typable_code_is_safe();
     mismatch_is_exact();
     file_has_one_code();
+    accepted_file_has_no_fault();
     let code = Code::read(alloc, bytes)?;
     let instructions = check(alloc, &code)?;
     let compared = join_compared(alloc, &code)?;

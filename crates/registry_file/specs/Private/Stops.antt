@@ -2,6 +2,7 @@
 use Rattle.std.specs.Prelude.{◌≡◌, ◌≢◌, List, string_bytes}
 use Rattle.std.specs.Borrow.{Bor}
 use Rattle.text_model.specs.Texts.{Text}
+use Rattle.verifier.specs.Accepted.{IsAcceptedFile}
 use Rattle.verifier.specs.Faults.{IsLoadFault}
 use Rattle.verifier.specs.declared.error.LoadError.{LoadError}
 use Rattle.verifier.specs.declared.error.LoadError.TheVariants as load
@@ -21,7 +22,7 @@ use Rattle.registry.specs.Targets.{TargetValue}
 use Rattle.registry.specs.Refusals.{IsAddRefusal}
 use Rattle.registry.specs.declared.error.AddErrorKind.{AddErrorKind}
 use Rattle.registry.specs.declared.error.AddErrorKind.TheVariants as add
-use Rattle.registry_file.specs.Loading.{IsSafeFile, IsTargetFault, IsUnread}
+use Rattle.registry_file.specs.Loading.{IsTargetFault, IsUnread}
 use Rattle.registry_file.specs.declared.error.RegistryError.{RegistryError}
 use Rattle.registry_file.specs.declared.error.RegistryError.TheVariants as error
 use Rattle.registry_file.specs.declared.error.TargetFault.{TargetFault}
@@ -102,6 +103,6 @@ IsFaultOf stop (fault.Add kind) = stop ≡ Add kind
 -- the target has this name, and the code and the table of the files at the two paths
 pub record IsTargetOf (disk : Disk) (keys : Keys) (name code_path table_path : Text) (target : TargetValue) : Type 0 where
   pub named : target.name ≡ name
-  pub code : OfFile (disk code_path) (λ bytes. IsSafeFile bytes target.code)
+  pub code : OfFile (disk code_path) (λ bytes. IsAcceptedFile bytes target.code)
   pub table : OfFile (disk table_path) (λ bytes. IsTable bytes target.table)
   pub keyed : target.table.keys ≡ keys

@@ -4,15 +4,6 @@ use Rattle.answers.specs.Reading.{IsNotAccepted}
 use Rattle.answers.proofs.RefusalLemmas.{is_file}
 use Rattle.answers.proofs.reading.accepted_code.Goals as goal
 
-pub returns-in-Ok-clause-ok : goal.returns-in-Ok-clause-ok
-returns-in-Ok-clause-ok c =
-    let known = c.code-known.ensures in
-    record {
-      is_file = c.in-Ok.ensures.code;
-      accepted = record { is_code = known.is_code; form = known.form; typable = known.typable; file = known.file; safe = known.safe };
-      no_fault = c.accepted_file_has_no_fault.ensures _ _ c.in-Ok.ensures.code c.in-Ok.ensures.form c.in-Ok.ensures.typable;
-    }
-
 pub returns-in-Err-clause-err : goal.returns-in-Err-clause-err
 returns-in-Err-clause-err c =
     let same : c.in-Err.e ≡ NoMemory = search rules in

@@ -3,7 +3,7 @@ use Rattle.std.proofs.lemmas.Result.{err_from_is_err_and}
 use Rattle.code_file.specs.Fault.{fault, too_long}
 use Rattle.code_file.specs.declared.error.CodeErrorKind.TheVariants.{TooLong}
 use Rattle.code_file.specs.declared.limits.TheConstants.{MAX_BYTES}
-use Rattle.code_file.specs.Grammar.{IsCodeFile}
+use Rattle.verifier.specs.Accepted.{IsAcceptedFile}
 use Rattle.verifier.specs.Faults.{IsLoadFault, no_code}
 use Rattle.registry_file.specs.Loading.{fails_on}
 use Rattle.registry_file.proofs.StopLemmas.{code_refused, exists}
@@ -26,10 +26,7 @@ pub returns-in_ok-load-in-Ok-clause-ok : goal.returns-in_ok-load-in-Ok-clause-ok
 returns-in_ok-load-in-Ok-clause-ok g c = (
   c.in-Ok.bytes.items,
   c.in-Ok.ensures.whole,
-  record {
-    file = subst (λ bytes. IsCodeFile bytes c.in_ok-load-in-Ok.field-0) c.deref.ensures.value c.in_ok-load-in-Ok.ensures.code;
-    safe = c.in_ok-load-in-Ok.ensures.safe;
-  },
+  subst (λ bytes. IsAcceptedFile bytes c.in_ok-load-in-Ok.field-0) c.deref.ensures.value c.in_ok-load-in-Ok.ensures.accepted,
 )
 
 pub returns-in_ok-load-in-Ok-clause-absent : goal.returns-in_ok-load-in-Ok-clause-absent

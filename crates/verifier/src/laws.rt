@@ -5,7 +5,7 @@ ghost use Rattle.code_model.specs.Code.{Code};
 ghost use Rattle.code_file.specs.Grammar.{IsCodeFile};
 ghost use Rattle.machine_model.specs.Form.{HasGoodForm};
 ghost use Rattle.machine_model.specs.Typable.{IsTypable};
-ghost use Rattle.safe_runs.specs.Ending.{HasNoFault};
+ghost use Rattle.verifier.specs.Accepted.{HasNoFault};
 
 use code_file::laws::{file_has_no_fault, file_has_one_code};
 use machine_laws::{form_is_decided, mismatch_is_exact};

@@ -1,5 +1,5 @@
-use Rattle.safe_runs.proofs.Faultless.{has_no_fault}
-use Rattle.safe_runs.proofs.laws.accepted_file_has_no_fault.Goals as goal
+use Rattle.verifier.proofs.Faultless.{has_no_fault}
+use Rattle.verifier.proofs.laws.accepted_file_has_no_fault.Goals as goal
 
 pub returns : goal.returns
 returns c = λ bytes code file form typable.

@@ -10,10 +10,10 @@ use Rattle.machine_model.specs.First.{Located}
 use Rattle.machine_model.specs.Form.{HasGoodForm, first_form_fault}
 use Rattle.machine_model.specs.Mismatch.{IsFirstMismatch}
 use Rattle.machine_model.specs.Typable.{IsTypable}
+use Rattle.verifier.specs.Accepted.{HasNoFault}
 use Rattle.verifier.specs.Faults.{IsLoadFault, no_code, bad_form, mismatch, no_memory}
 use Rattle.verifier.specs.declared.error.LoadError.{LoadError}
 use Rattle.verifier.specs.declared.error.LoadError.TheVariants.{NoMemory}
-use Rattle.safe_runs.specs.Ending.{HasNoFault}
 
 -- what the laws of code files, of form and of kinds say
 pub record AreLaws : Type 0 where
