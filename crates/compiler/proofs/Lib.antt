@@ -6,5 +6,6 @@ pub mod ReachLemmas
 pub mod NameBytes
 pub mod CodeParts
 pub mod RuleSteps
+pub mod RuleTables
 pub mod LimitLemmas
 pub mod BlockSteps

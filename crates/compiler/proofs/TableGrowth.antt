@@ -1,21 +1,18 @@
 -- The place of an entry in a table. A table that grows by the entries that are used has each of them once, in the order of first use.
-use Rattle.std.proofs.Common.{Bool, List, None, Option, Some, [], drop, false, get_or, length, refl, sym, true, ℕ, ◌++◌, ◌+◌, ◌<◌, ◌∷◌, ◌≡◌}
+use Rattle.std.proofs.Common.{Bool, List, None, Option, Some, [], false, refl, sym, true, ◌++◌, ◌∷◌, ◌≡◌}
 use Rattle.std.proofs.Common.{ap, ◌∙◌, subst}
 use Rattle.std.specs.Prelude.{◌||◌, not, filter, if◌then◌else◌}
-use Rattle.std.specs.List.{cons_option, filter_map, flat_map, list_any}
+use Rattle.std.specs.List.{cons_option, filter_map, list_any}
 use Rattle.std.specs.Bool.{Decides}
 use Rattle.std.proofs.lemmas.Bool.{false≢true}
-use Rattle.std.proofs.lemmas.List.{append_assoc, append-nil, drop_more}
-use Rattle.text_model.specs.Texts.{Text}
-use Rattle.rule_parser.specs.declared.rule.Rule.{Rule}
+use Rattle.std.proofs.lemmas.List.{append_assoc, append-nil}
 use Rattle.std.proofs.lemmas.List.Elements.{filter-append, filter_map-append}
-use Rattle.rule_parser.specs.Rules.{RuleSet}
 use Rattle.compiler_model.specs.declared.lines.Line.{Line}
-use Rattle.compiler_model.specs.declared.lines.Line.TheVariants.{Fails}
 use Rattle.compiler_model.specs.Tables.{is_same_name, is_same_literal, name_used, literal_used, firsts, names_of, literals_of}
-use Rattle.compiler_model.specs.Compiled.{rule_lines, all_lines}
 use Rattle.compiler_model.proofs.Entries.{same_names, same_literals}
 use Rattle.compiler.specs.Private.Growth.{added, gathered, with_entry}
+use Rattle.compiler.specs.Private.RuleLines.{with_fail}
+use Rattle.compiler.proofs.RuleSteps.{with_fail_more}
 
 pub gathered_entry : {X : Type 0} (same : X → X → Bool) (xs : List X) (o : Option X) (ys : List X) → gathered same xs (cons_option o ys)
     ≡ gathered same (with_entry same xs o) ys
@@ -71,28 +68,18 @@ pub gathered_lines : {X : Type 0} (same : X → X → Bool) (used : Line → Opt
     ≡ gathered same (gathered same xs (filter_map used a)) (filter_map used b)
 gathered_lines same used xs a b = ap (gathered same xs) (filter_map-append used a b) ∙ gathered-append same xs (filter_map used a) (filter_map used b)
 
--- FAIL after all lines uses no entry
-unused_end : {X : Type 0} (used : Line → Option X) (ls : List Line) → used Fails ≡ None → filter_map used (ls ++ Fails ∷ []) ≡ filter_map used ls
-unused_end used ls e = filter_map-append used ls (Fails ∷ []) ∙ rw e (append-nil (filter_map used ls))
+pub all_names : (ls : List Line) → gathered is_same_name [] (filter_map name_used ls) ≡ names_of ls
+all_names ls = gathered_firsts is_same_name same_names [] (filter_map name_used ls)
 
-pub all_names : (rules : RuleSet) → gathered is_same_name [] (filter_map name_used (flat_map (rule_lines rules.lists) rules.rules)) ≡ names_of (all_lines rules)
-all_names rules = gathered_firsts is_same_name same_names [] _
-    ∙ ap (firsts is_same_name) (sym (unused_end name_used (flat_map (rule_lines rules.lists) rules.rules) refl))
+pub all_literals : (ls : List Line) → gathered is_same_literal [] (filter_map literal_used ls) ≡ literals_of ls
+all_literals ls = gathered_firsts is_same_literal same_literals [] (filter_map literal_used ls)
 
-pub all_literals : (rules : RuleSet) → gathered is_same_literal [] (filter_map literal_used (flat_map (rule_lines rules.lists) rules.rules))
-    ≡ literals_of (all_lines rules)
-all_literals rules = gathered_firsts is_same_literal same_literals [] _
-    ∙ ap (firsts is_same_literal) (sym (unused_end literal_used (flat_map (rule_lines rules.lists) rules.rules) refl))
-
--- one more rule
-pub gather_step : {X : Type 0} (same : X → X → Bool) (used : Line → Option X) (lists : List Text) (all : List Rule) (i : ℕ) (rule : Rule) (table new : List X)
-    (ls : List Line) (whole : List X) → i < length all → rule ≡ get_or all i rule → ls ≡ rule_lines lists rule → new ≡ gathered same table (filter_map used ls)
-    → gathered same table (filter_map used (flat_map (rule_lines lists) (drop i all))) ≡ whole
-    → gathered same new (filter_map used (flat_map (rule_lines lists) (drop (i + 1) all))) ≡ whole
-gather_step same used lists all i rule table new ls whole lt is lines grown before =
-    let rest = flat_map (rule_lines lists) (drop (i + 1) all) in
-    let next : drop i all ≡ rule ∷ drop (i + 1) all = drop_more all i rule lt ∙ ap (λ (r : Rule). r ∷ drop (i + 1) all) (sym is) in
-    ap (λ t. gathered same t (filter_map used rest)) (grown ∙ ap (λ x. gathered same table (filter_map used x)) lines)
-    ∙ sym (gathered_lines same used table (rule_lines lists rule) rest)
-    ∙ sym (ap (λ rs. gathered same table (filter_map used (flat_map (rule_lines lists) rs))) next)
-    ∙ before
+-- the lines of one more rule
+pub gather_step : {X : Type 0} (same : X → X → Bool) (used : Line → Option X) (table new : List X) (before rest : List (List Line)) (ls lines : List Line)
+    (whole : List X) → before ≡ lines ∷ rest → ls ≡ lines → new ≡ gathered same table (filter_map used ls)
+    → gathered same table (filter_map used (with_fail before)) ≡ whole → gathered same new (filter_map used (with_fail rest)) ≡ whole
+gather_step same used table new before rest ls lines whole next made grown so_far =
+    ap (λ t. gathered same t (filter_map used (with_fail rest))) (grown ∙ ap (λ x. gathered same table (filter_map used x)) made)
+    ∙ sym (gathered_lines same used table lines (with_fail rest))
+    ∙ sym (ap (λ x. gathered same table (filter_map used x)) (ap with_fail next ∙ with_fail_more lines rest))
+    ∙ so_far

@@ -14,20 +14,23 @@ ghost use Rattle.machine_model.specs.Runs.{Outcome, HasOutcome};
 ghost use Rattle.rule_parser.specs.Rules.{IsSound};
 ghost use Rattle.rule_parser.specs.Meaning.{meaning};
 ghost use Rattle.compiler_model.specs.Answer.{answer};
-ghost use Rattle.compiler_model.specs.Compiled.{all_lines, rules_instructions, is_counts};
+ghost use Rattle.compiler_model.specs.Compiled.{is_counts};
 ghost use Rattle.compiler_model.specs.Compiled.{has_counts as has_guard_counts, code_of};
 ghost use Rattle.compiler_model.specs.Size.{file_size};
 ghost use Rattle.compiler.specs.Private.Growth.{IsUtf8Literal};
+ghost use Rattle.compiler.specs.Private.Reach.{StayWithin};
+ghost use Rattle.compiler.specs.Private.RuleLines.{instructions_of, lines_in, with_fail};
 ghost use Rattle.compiler.specs.Limits.{limit_passed};
 ghost use Rattle.compiler.specs.declared.error.CompileError.TheVariants.{NoMemory, FileTooLong};
 
 use crate::code_tables::Tables;
 use crate::error::CompileError;
 use crate::instructions::{push_instr, push_rule};
-use crate::rule_lines::rule_lines;
+use crate::rule_lines::lines_of_rules;
 use code_file::laws::file_has_no_fault;
 use code_file::{Code, CodeErrorKind, Instr, Literal, Name, spelling};
 use code_model::Instruction;
+use compiler_model::Line;
 use compiler_model::laws::{code_gives_what_rules_mean, compiled_code_is_accepted};
 use rule_parser::{Guard, Rule, Rules};
 use std::alloc::{AllocError, Global};
@@ -51,21 +54,23 @@ fn has_counts(rules: &Rules) -> bool
     rules.rules().iter().any(|rule| rule_counts(rule))
 }
 
-/// The instructions of all rules, and FAIL after them.
-fn instructions(alloc: Global, rules: &Rules, tables: &Tables) -> Result<Vec<Instr>, AllocError>
+/// The instructions of the lines of all rules, and FAIL after them.
+fn instructions(
+    alloc: Global,
+    rules: &[Vec<Line>],
+    tables: &Tables,
+) -> Result<Vec<Instr>, AllocError>
     requires names { length tables.now.names.items ≤ MAX_NAMES }
     requires literals { length tables.now.literals.items ≤ MAX_LITERALS }
-    requires room { length (all_lines rules.now) ≤ MAX_INSTRS }
+    requires room { length (with_fail (lines_in rules.now)) ≤ MAX_INSTRS }
+    requires within { All (StayWithin 0) (lines_in rules.now) }
     ensures pushed { IfOk result (λ instrs. instrs.items
-        ≡ map spelled_as (rules_instructions tables.now.names.items tables.now.literals.items rules.now.lists 0
-        rules.now.rules)) }
+        ≡ map spelled_as (instructions_of tables.now.names.items tables.now.literals.items 0 (lines_in rules.now))) }
     ensures fields { IfOk result (λ instrs. All IsInstr instrs.items) }
 {
     let mut instrs = Vec::new(alloc);
-    let all = rules.rules();
-    for rule in all {
-        let lines = rule_lines(alloc, rules, rule)?;
-        push_rule(&tables.names, &tables.literals, &mut instrs, &lines)?;
+    for lines in rules {
+        push_rule(&tables.names, &tables.literals, &mut instrs, lines)?;
     }
     push_instr(&mut instrs, spelling(Instruction::Fail))?;
     Ok(instrs)
@@ -131,8 +136,9 @@ pub fn compile(alloc: Global, rules: &Rules) -> Result<Code, CompileError>
 {
     compiled_code_is_accepted();
     code_gives_what_rules_mean();
-    let tables = Tables::of_rules(alloc, rules)?;
+    let lines = lines_of_rules(alloc, rules)?;
+    let tables = Tables::of_lines(alloc, &lines)?;
     tables.check()?;
-    let instrs = instructions(alloc, rules, &tables)?;
+    let instrs = instructions(alloc, &lines, &tables)?;
     finish(rules, tables, instrs)
 }

@@ -1,19 +1,17 @@
-//! The tables of all rules.
+//! The tables of the lines of all rules.
 
 ghost use Rattle.std.specs.Prelude.{◌≡◌, ◌+◌, ◌≤◌, ℕ, Some, All, length, min, IfOk, IfErr, OnOk};
 ghost use Rattle.std.specs.List.{filter_map};
 ghost use Rattle.compiler_model.specs.Tables.{is_same_name, is_same_literal, name_used, literal_used, names_of};
 ghost use Rattle.compiler_model.specs.Tables.{literals_of};
-ghost use Rattle.compiler_model.specs.Compiled.{all_lines};
 ghost use Rattle.compiler.specs.Private.Growth.{gathered, IsUtf8Literal};
+ghost use Rattle.compiler.specs.Private.RuleLines.{lines_in, with_fail};
 ghost use Rattle.compiler.specs.Limits.{first_passed};
 
 use crate::error::CompileError;
-use crate::rule_lines::rule_lines;
 use crate::tables::{add_literals, add_names};
 use code_file::{Literal, MAX_INSTRS, MAX_LITERALS, MAX_NAMES, Name};
 use compiler_model::Line;
-use rule_parser::Rules;
 use std::alloc::{AllocError, Global};
 
 /// The names and the literals that lines use, and how many lines there are.
@@ -41,21 +39,21 @@ impl Tables {
     }
 
     /// The tables of the lines of all rules, with FAIL after them.
-    pub(crate) fn of_rules(alloc: Global, rules: &Rules) -> Result<Tables, AllocError>
-        ensures names { IfOk result (λ tables. tables.names.items ≡ names_of (all_lines rules.now)) }
-        ensures literals { IfOk result (λ tables. tables.literals.items ≡ literals_of (all_lines rules.now)) }
+    pub(crate) fn of_lines(alloc: Global, rules: &[Vec<Line>]) -> Result<Tables, AllocError>
+        ensures names { IfOk result (λ tables. tables.names.items ≡ names_of (with_fail (lines_in rules.now))) }
+        ensures literals { IfOk result
+            (λ tables. tables.literals.items ≡ literals_of (with_fail (lines_in rules.now))) }
         ensures utf8 { IfOk result (λ tables. All IsUtf8Literal tables.literals.items) }
-        ensures lines { IfOk result (λ tables. tables.lines ≡ min (length (all_lines rules.now)) usize.MAX) }
+        ensures lines { IfOk result
+            (λ tables. tables.lines ≡ min (length (with_fail (lines_in rules.now))) usize.MAX) }
     {
         let mut tables = Tables {
             names: Vec::new(alloc),
             literals: Vec::new(alloc),
             lines: 1,
         };
-        let all = rules.rules();
-        for rule in all {
-            let lines = rule_lines(alloc, rules, rule)?;
-            tables.add(alloc, &lines)?;
+        for lines in rules {
+            tables.add(alloc, lines)?;
         }
         Ok(tables)
     }

@@ -1,40 +1,45 @@
-use Rattle.std.proofs.Common.{◌≡◌, ◌+◌, ◌++◌, List, length, map, sym, ap, ◌∙◌, subst, arith}
+use Rattle.std.proofs.Common.{◌≡◌, ◌+◌, ◌++◌, List, All, drop, length, map, sym, ap, ◌∙◌, subst, arith}
+use Rattle.std.proofs.lemmas.List.Elements.{All-head, All-tail}
 use Rattle.code_model.specs.Code.{Name, Literal, spelling}
-use Rattle.compiler_model.specs.Shapes.{rule_block}
-use Rattle.compiler_model.specs.Compiled.{rule_lines, instructions_from}
+use Rattle.compiler_model.specs.Compiled.{instructions_from}
 use Rattle.compiler.specs.Private.Reach.{StayWithin}
-use Rattle.compiler.proofs.ReachLemmas.{rule_within}
-use Rattle.compiler.proofs.RuleSteps.{length_step, length-instructions, instructions_step}
+use Rattle.compiler.specs.Private.RuleLines.{lines_in}
+use Rattle.compiler.proofs.RuleSteps.{length_step, length-instructions, instructions_step, next_lines}
 use Rattle.compiler.proofs.code.instructions.Goals as goal
 
 pub push_rule-requires-clause-within : goal.push_rule-requires-clause-within
 push_rule-requires-clause-within c =
-    subst (StayWithin 0) (sym (c.deref-in-loop-rule-2.ensures.value ∙ c.in_ok-lines.ensures))
-    (rule_within (rule_block c.args.rules.now.lists c.rule-item.result))
+    let rules = c.args.rules.now in
+    let lines = c.lines-item.result in
+    let next = next_lines rules c.loop-lines.lines-index lines c.loop-lines-test.true c.lines-item.is in
+    subst (StayWithin 0) (sym c.deref-in-loop-lines-2.ensures.value)
+    (All-head (StayWithin 0) lines.items _ (subst (All (StayWithin 0)) next c.loop-lines.invariant.within))
 
-pub loop-rule-preserved : goal.loop-rule-preserved
-loop-rule-preserved c =
-    let lists = c.args.rules.now.lists in
-    let all = c.rules-all.result.now in
-    let i = c.loop-rule.rule-index in
-    let rule = c.rule-item.result in
-    let ls = c.deref-in-loop-rule-2.result.now in
-    let made : ls ≡ rule_lines lists rule = c.deref-in-loop-rule-2.ensures.value ∙ c.in_ok-lines.ensures in
-    let old = c.loop-rule.instrs.items in
+pub loop-lines-preserved : goal.loop-lines-preserved
+loop-lines-preserved c =
+    let rules = c.args.rules.now in
+    let i = c.loop-lines.lines-index in
+    let lines = c.lines-item.result in
+    let ls = c.deref-in-loop-lines-2.result.now in
+    let rest = lines_in (drop (i + 1) rules) in
+    let next = next_lines rules i lines c.loop-lines-test.true c.lines-item.is in
+    let made : ls ≡ lines.items = c.deref-in-loop-lines-2.ensures.value in
+    let old = c.loop-lines.instrs.items in
     let new = c.push_rule.new.instrs.items in
     let names = c.args.tables.now.names.items in
     let literals = c.args.tables.now.literals.items in
-    let pushed = c.in_ok-push_rule.ensures.pushed in
-    let longer = length_step lists all i rule ls c.loop-rule-test.true c.rule-item.is made in
-    let built : new ≡ old ++ map spelling (instructions_from names literals (length old + length ls) (length old) ls) =
-    pushed
-    ∙ ap (λ (ns : List Name). old ++ map spelling (instructions_from ns c.deref-in-loop-rule.result.now (length old + length ls) (length old) ls))
+    let longer = length_step (lines_in (drop i rules)) rest ls lines.items next made in
+    let built : new ≡ old ++ map spelling (instructions_from names literals (length old + length lines.items) (length old) lines.items) =
+    c.in_ok-push_rule.ensures.pushed
+    ∙ ap (λ (ns : List Name). old ++ map spelling (instructions_from ns c.deref-in-loop-lines.result.now (length old + length ls) (length old) ls))
     c.deref.ensures.value
     ∙ ap (λ (xs : List Literal). old ++ map spelling (instructions_from names xs (length old + length ls) (length old) ls))
-    c.deref-in-loop-rule.ensures.value in
-    let count = length-instructions names literals old new (length old + length ls) ls built in
+    c.deref-in-loop-lines.ensures.value
+    ∙ ap (λ x. old ++ map spelling (instructions_from names literals (length old + length x) (length old) x)) made in
+    let count = length-instructions names literals old new (length old + length lines.items) lines.items built in
     record {
-      whole = instructions_step names literals lists all i rule old new ls _ c.loop-rule-test.true c.rule-item.is made built c.loop-rule.invariant.whole;
-      room = omega (arith, longer, count, c.loop-rule.invariant.room);
+      whole = instructions_step names literals old new (lines_in (drop i rules)) rest lines.items _ next built c.loop-lines.invariant.whole;
+      room = omega (arith, longer, count, ap length made, c.loop-lines.invariant.room);
+      within = All-tail (StayWithin 0) lines.items rest (subst (All (StayWithin 0)) next c.loop-lines.invariant.within);
       fields = c.in_ok-push_rule.ensures.fields;
     }
