@@ -1,5 +1,5 @@
 -- The link that a rule gives on a row of the table, and what a request can do to its host.
-use Rattle.std.specs.Prelude.{◌≡◌, ◌≢◌, ◌⊎◌, ℕ, Bool, true, false, List, [], Option, Some, codes, get_or}
+use Rattle.std.specs.Prelude.{◌≡◌, ◌≢◌, ◌⊎◌, ◌<◌, ℕ, Bool, true, false, List, [], Option, Some, codes, get_or, length}
 use Rattle.std.specs.List.{find, list_any}
 use Rattle.text_model.specs.Texts.{Text}
 use Rattle.environment_model.specs.Environment.{Environment}
@@ -74,8 +74,10 @@ pub record IsHostOfRow (rules : RuleSet) (table : Holdings) (parts : List Part) 
   pub plain : IsPlainHost (host_of link)
   pub browser : browsers_host link ≡ host_of link
 
--- the rule that is taken on the row gives the link, and the row alone decides the link's host, which is plain
+-- the row is in the table, the rule that is taken on it gives the link, and the row alone decides the link's host, which is plain
 pub record HasHostOfRow (rules : RuleSet) (table : Holdings) (row : ℕ) (pairs : List KeyValue) (link : Text) : Type 0 where
+  pub there : row < length table.rows
   pub rule : Rule
   pub taken : rule_on_row rules table row pairs ≡ Some rule
+  pub gives : link_on_row rules table rule.template.parts row pairs ≡ link
   pub host : IsHostOfRow rules table rule.template.parts row link

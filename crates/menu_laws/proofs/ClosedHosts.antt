@@ -16,7 +16,7 @@ use Rattle.registry.specs.Entries.{menu_of, resolution_of}
 use Rattle.lint_laws.specs.RowLinks.{HasHostOfRow, environment_of_cells, has_open_hosts}
 use Rattle.rule_menus.specs.FirstLinks.{IsFirstWebLink}
 use Rattle.rule_menus.specs.RuleMenus.{HasSoundRules, RuleTarget, coded}
-use Rattle.menu_laws.specs.Hosts.{HasHostOfItsRow, HasHostOfSomeRow, HasClosedHosts}
+use Rattle.menu_laws.specs.Hosts.{HasClosedHosts, HasHostOfFirstRow, HasHostOfItsRow}
 
 -- what lower crates say
 pub record LawsOfHosts : Type 0 where
@@ -47,7 +47,7 @@ module _ (laws : LawsOfHosts) (pairs : List KeyValue) where
   module _ (all : List RuleTarget) where
     links_from : (targets : List RuleTarget) → AllByRecursion HasSoundRules targets → AllByRecursion HasClosedHosts targets
         → AllByRecursion (Contains all) targets
-        → AllByRecursion (HasHostOfSomeRow all pairs) (links (menu_of (map coded targets) pairs))
+        → AllByRecursion (HasHostOfFirstRow all pairs) (links (menu_of (map coded targets) pairs))
     links_from [] sound closed among = tt
     links_from (target ∷ targets) sound closed among =
         by_resolution (resolution_of (coded target) pairs) refl (links_from targets sound.1 closed.1 among.1)
@@ -55,14 +55,15 @@ module _ (laws : LawsOfHosts) (pairs : List KeyValue) where
         rest : List NamedLink
         rest = links (menu_of (map coded targets) pairs)
 
-        by_resolution : (r : Resolution) → resolution_of (coded target) pairs ≡ r → AllByRecursion (HasHostOfSomeRow all pairs) rest
-            → AllByRecursion (HasHostOfSomeRow all pairs) (cons_option (link_under target.name r) rest)
+        by_resolution : (r : Resolution) → resolution_of (coded target) pairs ≡ r → AllByRecursion (HasHostOfFirstRow all pairs) rest
+            → AllByRecursion (HasHostOfFirstRow all pairs) (cons_option (link_under target.name r) rest)
         by_resolution (resolution.Link row link) is later = (
           record {
             target = target;
             among = among.0;
             name = refl;
             row = row;
+            first = (laws.chosen target pairs row link sound.0).0 is;
             host = closed_target target row link sound.0 closed.0 is;
           },
           later,
@@ -73,8 +74,8 @@ module _ (laws : LawsOfHosts) (pairs : List KeyValue) where
         by_resolution (resolution.OverBudget bytes) is later = later
 
   pub closed_links : (targets : List RuleTarget) → All HasSoundRules targets → All HasClosedHosts targets
-      → All (HasHostOfSomeRow targets pairs) (links (menu_of (map coded targets) pairs))
+      → All (HasHostOfFirstRow targets pairs) (links (menu_of (map coded targets) pairs))
   closed_links targets sound closed =
-      All-from_recursion (HasHostOfSomeRow targets pairs) (links (menu_of (map coded targets) pairs))
+      All-from_recursion (HasHostOfFirstRow targets pairs) (links (menu_of (map coded targets) pairs))
       (links_from targets targets (recursion_from_All HasSoundRules targets sound) (recursion_from_All HasClosedHosts targets closed)
       (recursion_from_All (Contains targets) targets (All-contains_itself targets)))

@@ -22,8 +22,10 @@ returns c =
           let is = (sound_rule rules look taken.rule sound first).template in
           let closed_here = closed_link rules table look taken.rule closed first in
           record {
+            there = within;
             rule = taken.rule;
             taken = taken.found;
+            gives = taken.gives;
             host = subst (IsHostOfRow rules table taken.rule.template.parts row) taken.gives
                 (hosts rules table (place.Link (0 + length first.before + 1)) taken.rule.template.text taken.rule.template.parts row pairs is closed_here within
                 (ap is_web_link taken.gives ∙ web));

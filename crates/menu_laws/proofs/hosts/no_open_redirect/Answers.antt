@@ -1,5 +1,5 @@
 use Rattle.std.proofs.Common.{map, All, sym, subst}
-use Rattle.menu_laws.specs.Hosts.{HasHostOfSomeRow}
+use Rattle.menu_laws.specs.Hosts.{HasHostOfFirstRow}
 use Rattle.menu_laws.proofs.ClosedHosts.{LawsOfHosts, closed_entries, closed_links, closed_target}
 use Rattle.rule_menus.specs.RuleMenus.{coded}
 use Rattle.menu_laws.proofs.hosts.no_open_redirect.Goals as goal
@@ -12,6 +12,6 @@ returns c =
       menu = λ targets pairs sound. closed_entries laws pairs targets sound;
       links = λ targets pairs sound closed. closed_links laws pairs targets sound closed;
       text = λ targets pairs sound closed registry.
-          subst (All (HasHostOfSomeRow targets pairs)) (sym (c.text_is_read_as_its_links.ensures.registry (map coded targets) pairs registry))
+          subst (All (HasHostOfFirstRow targets pairs)) (sym (c.text_is_read_as_its_links.ensures.registry (map coded targets) pairs registry))
           (closed_links laws pairs targets sound closed);
     }
