@@ -11,6 +11,7 @@ use Rattle.std.proofs.lemmas.List.{take-append-drop}
 use Rattle.std.proofs.lemmas.List.Elements.{filter-append}
 use Rattle.std.proofs.lemmas.List.Folds.{list_any-append}
 use Rattle.std.proofs.lemmas.List.Sums.{count_by-le-length, sum_by-append, sum_by-cons}
+use Rattle.std.proofs.lemmas.Slice.Eq.{bytes_eq-Decides}
 use Rattle.std.proofs.Math.Bool.{or-false}
 use Rattle.text_model.specs.Texts.{Text}
 use Rattle.kbart_rows.specs.Cells.{Row, cell_in, defined}
@@ -110,6 +111,26 @@ row_counted columns rows cells first second number new_number known new_known co
 pub having_few : (columns : List (Option ℕ)) (rows : List Row) (id : Text) → rows_having columns rows id ≤ length rows
 unfolding rows_having
 having_few columns rows id = count_by-le-length (λ cells. list_any (bytes_eq id) (row_identifiers columns cells)) rows
+
+-- ---- two identifiers of a row that differ
+
+same_as : (id text : Text) → is_same_id id (defined text) ≡ true → id ≡ text
+same_as id [] e = absurd (cc (e))
+same_as id (b ∷ text) e = (bytes_eq-Decides id (b ∷ text)).0 e
+
+pub counted_apart : (id print online : Text) (n : ℕ) → bytes_eq online print ≡ false
+    → (n + (if is_same_id id (defined print) then 1 else 0)) + (if is_same_id id (defined online) then 1 else 0)
+    ≡ n + (if is_same_id id (defined print) || is_same_id id (defined online) then 1 else 0)
+counted_apart id print online n apart = by_case (is_same_id id (defined print)) (is_same_id id (defined online)) refl refl
+  where
+    by_case : (a b : Bool) → is_same_id id (defined print) ≡ a → is_same_id id (defined online) ≡ b
+        → (n + (if a then 1 else 0)) + (if b then 1 else 0) ≡ n + (if a || b then 1 else 0)
+    by_case true true e f =
+        let equal : bytes_eq online print ≡ true = (bytes_eq-Decides online print).1 (sym (same_as id online f) ∙ same_as id print e) in
+        absurd (cc (equal, apart))
+    by_case true false e f = omega arith
+    by_case false true e f = omega arith
+    by_case false false e f = omega arith
 
 -- ---- identifiers that may be empty
 

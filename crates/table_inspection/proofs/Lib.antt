@@ -7,5 +7,6 @@ pub mod SpellingLemmas
 pub mod CellLemmas
 pub mod NameLemmas
 pub mod RowCells
+pub mod NormalForms
 mod TextExamples
 mod TableExamples

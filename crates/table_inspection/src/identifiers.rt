@@ -48,7 +48,7 @@ pub(crate) fn identify<'a>(alloc: Global, table: &'a Table) -> Result<Identified
         unidentified.add_if(are_empty(print_id, online_id), row);
         add_number(&mut bad_numbers, row, print_cell, print_id);
         add_number(&mut bad_numbers, row, online_cell, online_id);
-        let rows = count_row(alloc, &mut counts, print_id, online_id)?;
+        let rows = count_row(&mut counts, print, online)?;
         most = rows.max(most);
     }
     Ok(Identified {

@@ -4,8 +4,9 @@ ghost use Rattle.std.specs.Prelude.{◌≡◌, ◌<◌, IfOk, string_bytes};
 ghost use Rattle.std.specs.List.{list_all};
 ghost use Rattle.std.specs.Char.{is_ascii_digit};
 ghost use Rattle.std.specs.Option.{option_copied};
+ghost use Rattle.kbart_rows.specs.Identifiers.{normalised as in_normal_form};
 ghost use Rattle.table_inspection.specs.Identifiers as spec;
-ghost use Rattle.table_inspection.specs.Private.Forms.{normal_form};
+ghost use Rattle.table_inspection.specs.Private.Forms.{is_normal_byte as stays, normal_form};
 
 use kbart_rows::normalised;
 use std::alloc::{AllocError, Global};
@@ -16,9 +17,32 @@ pub(crate) fn normal_form(alloc: Global, cell: Option<&str>) -> Result<String, A
     ensures { IfOk result (λ id. string_bytes id ≡ normal_form (option_copied cell.entry)) }
 {
     match cell {
-        Some(text) => normalised(alloc, text),
+        Some(text) => normal_text(alloc, text),
         None => Ok(String::new(alloc)),
     }
+}
+
+/// The normal form of a text, which is most often the text itself.
+fn normal_text(alloc: Global, text: &str) -> Result<String, AllocError>
+    ensures { IfOk result (λ id. string_bytes id ≡ in_normal_form text.now) }
+{
+    if is_normal(text) {
+        return String::from_str(alloc, text);
+    }
+    normalised(alloc, text)
+}
+
+/// Whether no byte changes in the normal form.
+fn is_normal(text: &str) -> bool
+    ensures { result ≡ list_all stays text.now }
+{
+    text.as_bytes().iter().all(|b| is_normal_byte(*b))
+}
+
+fn is_normal_byte(b: u8) -> bool
+    ensures { result ≡ stays b }
+{
+    b != b'-' && b != b' ' && !b.is_ascii_lowercase()
 }
 
 /// Whether an identifier in normal form is an ISSN or an ISBN, or the one that stands for any title. Check digits are

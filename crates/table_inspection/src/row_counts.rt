@@ -1,6 +1,7 @@
 //! How many rows have each identifier.
 
-ghost use Rattle.std.specs.Prelude.{◌≡◌, ◌+◌, ◌≤◌, ◌||◌, ℕ, IfOk, OnOk, Some, if◌then◌else◌};
+ghost use Rattle.std.specs.Prelude.{◌≡◌, ◌+◌, ◌≤◌, ◌||◌, ℕ, IfOk, OnOk, Some, string_bytes};
+ghost use Rattle.std.specs.Prelude.{if◌then◌else◌};
 ghost use Rattle.std.specs.HashMap.{hash_map_len};
 ghost use Rattle.std.specs.Str.{bytes_eq};
 ghost use Rattle.text_model.specs.Texts.{Text};
@@ -9,7 +10,7 @@ ghost use Rattle.kbart_rows.specs.declared.read.TheConstants.{MAX_ROWS};
 ghost use Rattle.table_inspection.specs.Private.Counting.{is_same_id, is_in, new_among, number_in};
 
 use kbart_rows::Keys;
-use std::alloc::{AllocError, Global};
+use std::alloc::AllocError;
 use std::collections::HashMap;
 
 /// From each identifier to the number of rows that have it.
@@ -18,65 +19,63 @@ pub(crate) type RowCounts = HashMap<String, usize, Keys>;
 /// Counts a row with these identifiers, one that it has twice only once; an empty one is none. Returns the larger
 /// number of rows that one of them has now.
 pub(crate) fn count_row(
-    alloc: Global,
     counts: &mut RowCounts,
-    print: &str,
-    online: &str,
+    print: String,
+    online: String,
 ) -> Result<usize, AllocError>
     requires { (id : Text) → number_in counts.old id ≤ MAX_ROWS }
     ensures numbers { OnOk result ((id : Text) → number_in counts.new id ≡ number_in counts.old id
-        + (if (is_same_id id (defined print.now) || is_same_id id (defined online.now)) then 1 else 0)) }
+        + (if (is_same_id id (defined (string_bytes print)) || is_same_id id (defined (string_bytes online)))
+        then 1 else 0)) }
     ensures known { OnOk result ((id : Text) → is_in counts.new id ≡ (is_in counts.old id
-        || (is_same_id id (defined print.now) || is_same_id id (defined online.now)))) }
+        || (is_same_id id (defined (string_bytes print)) || is_same_id id (defined (string_bytes online))))) }
     ensures count { OnOk result (hash_map_len counts.new ≡ hash_map_len counts.old
-        + (new_among (is_in counts.old) (defined print.now)
-        + new_among (λ id. is_in counts.old id || is_same_id id (defined print.now)) (defined online.now))) }
+        + (new_among (is_in counts.old) (defined (string_bytes print))
+        + new_among (λ id. is_in counts.old id || is_same_id id (defined (string_bytes print)))
+        (defined (string_bytes online)))) }
     ensures most { IfOk result (λ most. (id : Text) (n : ℕ)
         → number_in counts.old id ≤ n → most ≤ n → number_in counts.new id ≤ n) }
 {
-    let print_rows = count_identifier(alloc, counts, print)?;
-    let is_same = online == print;
+    let is_same = online.as_str() == print.as_str();
+    let print_rows = count_identifier(counts, print)?;
     if is_same {
         return Ok(print_rows);
     }
-    let online_rows = count_identifier(alloc, counts, online)?;
+    let online_rows = count_identifier(counts, online)?;
     Ok(print_rows.max(online_rows))
 }
 
 /// Counts a row with the identifier, unless it is empty. Returns the number of rows that it has now.
-fn count_identifier(alloc: Global, counts: &mut RowCounts, id: &str) -> Result<usize, AllocError>
+fn count_identifier(counts: &mut RowCounts, id: String) -> Result<usize, AllocError>
     requires { (id : Text) → number_in counts.old id ≤ MAX_ROWS + 1 }
     ensures numbers { OnOk result ((other : Text) → number_in counts.new other ≡ number_in counts.old other
-        + (if is_same_id other (defined id.now) then 1 else 0)) }
+        + (if is_same_id other (defined (string_bytes id)) then 1 else 0)) }
     ensures known { OnOk result ((other : Text)
-        → is_in counts.new other ≡ (is_in counts.old other || is_same_id other (defined id.now))) }
+        → is_in counts.new other ≡ (is_in counts.old other || is_same_id other (defined (string_bytes id)))) }
     ensures count { OnOk result (hash_map_len counts.new
-        ≡ hash_map_len counts.old + new_among (is_in counts.old) (defined id.now)) }
+        ≡ hash_map_len counts.old + new_among (is_in counts.old) (defined (string_bytes id))) }
     ensures most { IfOk result (λ most. (other : Text) (n : ℕ)
         → number_in counts.old other ≤ n → most ≤ n → number_in counts.new other ≤ n) }
 {
-    if id.is_empty() {
+    if id.as_str().is_empty() {
         return Ok(0);
     }
-    count_one(alloc, counts, id)
+    count_one(counts, id)
 }
 
-fn count_one(alloc: Global, counts: &mut RowCounts, id: &str) -> Result<usize, AllocError>
-    requires { number_in counts.old id.now ≤ MAX_ROWS + 1 }
+fn count_one(counts: &mut RowCounts, id: String) -> Result<usize, AllocError>
+    requires { number_in counts.old (string_bytes id) ≤ MAX_ROWS + 1 }
     ensures numbers { OnOk result ((other : Text) → number_in counts.new other ≡ number_in counts.old other
-        + (if bytes_eq other id.now then 1 else 0)) }
+        + (if bytes_eq other (string_bytes id) then 1 else 0)) }
     ensures known { OnOk result ((other : Text)
-        → is_in counts.new other ≡ (is_in counts.old other || bytes_eq other id.now)) }
+        → is_in counts.new other ≡ (is_in counts.old other || bytes_eq other (string_bytes id))) }
     ensures count { OnOk result (hash_map_len counts.new
-        ≡ hash_map_len counts.old + new_among (is_in counts.old) (Some id.now)) }
-    ensures number { IfOk result (λ rows. rows ≡ number_in counts.new id.now) }
+        ≡ hash_map_len counts.old + new_among (is_in counts.old) (Some (string_bytes id))) }
+    ensures number { IfOk result (λ rows. rows ≡ number_in counts.new (string_bytes id)) }
 {
-    if let Some(rows) = counts.get_mut(id) {
-        *rows += 1;
-        return Ok(*rows);
-    }
-    counts.insert(String::from_str(alloc, id)?, 1)?;
-    Ok(1)
+    let rows = counts.entry(id)?.or_insert(0);
+    *rows += 1;
+    Ok(*rows)
 }
 
 /// How many rows have the identifier.

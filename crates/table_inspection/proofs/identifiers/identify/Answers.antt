@@ -1,7 +1,7 @@
 use Rattle.std.proofs.Common.{◌==◌, ◌<◌, [], length, take, get_or, codes, sym, ap, ◌∙◌, arith}
 use Rattle.std.proofs.lemmas.Grind.{common_steps}
 use Rattle.std.proofs.lemmas.List.{take_more, length-take-le}
-use Rattle.kbart_rows.specs.Cells.{cell_in, column_of, defined, Row}
+use Rattle.kbart_rows.specs.Cells.{cell_in, column_of, Row}
 use Rattle.kbart_rows.specs.Identifiers.{identifier_columns}
 use Rattle.table_inspection.specs.Cells.{cell_faults, has_no_identifier, is_numbered, row_faults}
 use Rattle.table_inspection.specs.Identifiers.{distinct, identifiers_of, rows_having}
@@ -36,14 +36,17 @@ loop-row-preserved c =
     ∙ ap (cell_in cells) c.column-print_column.ensures.first in
     let online_cell = c.cell_in-online_cell.ensures ∙ ap (λ (cells : Row). cell_in cells c.column-online_column.result) c.line-line.ensures.cells
     ∙ ap (cell_in cells) c.column-online_column.ensures.first in
-    let first = c.as_str-print_id.ensures.value ∙ c.in_ok-print.ensures ∙ ap normal_form print_cell in
-    let second = c.as_str-online_id.ensures.value ∙ c.in_ok-online.ensures ∙ ap normal_form online_cell in
-    let ids = identifiers_of_two print online cells _ _ first second in
+    let first = c.in_ok-print.ensures ∙ ap normal_form print_cell in
+    let second = c.in_ok-online.ensures ∙ ap normal_form online_cell in
+    let own_ids = identifiers_of_two print online cells _ _ first second in
+    let ids = identifiers_of_two print online cells _ _ (c.as_str-print_id.ensures.value ∙ first) (c.as_str-online_id.ensures.value ∙ second) in
     let none = c.are_empty.ensures ∙ none_of_two c.as_str-print_id.result.now c.as_str-online_id.result.now
     ∙ ap (λ (ids : _). length ids == 0) (sym ids) in
     record {
-      counted = rw more (row_counted columns (take row table.rows) cells (defined c.as_str-print_id.result.now) (defined c.as_str-online_id.result.now)
-          _ _ _ _ _ _ ids inv.counted c.in_ok-rows.ensures.numbers c.in_ok-rows.ensures.known c.in_ok-rows.ensures.count);
+      counted = rw more (
+          row_counted columns (take row table.rows) cells _ _ _ _ _ _ _ _ own_ids inv.counted c.in_ok-rows.ensures.numbers
+          c.in_ok-rows.ensures.known c.in_ok-rows.ensures.count
+          );
       most = λ id. c.in_ok-rows.ensures.most id _ (omega (arith, inv.most id, c.max-most.ensures)) (omega (arith, c.max-most.ensures));
       unidentified = rows_step (has_no_identifier table.header) table row _ _ _ _ c.are_empty.result none c.add_if.ensures.count c.add_if.ensures.first
           inv.unidentified;

@@ -7,9 +7,3 @@ returns-clause-numbers c = λ other. grind (arith, text_keys)
 
 pub returns-clause-known : goal.returns-clause-known
 returns-clause-known c = λ other. grind (arith, text_keys)
-
-pub returns-in-Some-clause-numbers : goal.returns-in-Some-clause-numbers
-returns-in-Some-clause-numbers c = λ other. grind (arith, text_keys)
-
-pub returns-in-Some-clause-known : goal.returns-in-Some-clause-known
-returns-in-Some-clause-known c = λ other. grind (arith, text_keys)
