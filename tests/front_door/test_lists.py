@@ -63,6 +63,13 @@ class Lists(TitlesCase):
         wanted = {"q": 'inputmode="search" autocapitalize="none" spellcheck="false"'}
         self.expect("the field of a search", found, wanted)
 
+    def test_footers(self) -> None:
+        """Each page for readers ends with links to the form and to the lists."""
+        links = [("/find", "Find by citation"), ("/journals", "Journals A to Z"), ("/books", "Books A to Z")]
+        for target in ("/find", f"/find?{ARTICLE}", "/journals?q=tid", "/none"):
+            footer = self.site.get(target).text.partition("<footer>")[2]
+            self.expect(f"the end of {target}", re.findall(r'<a href="([^"]*)">([^<]*)</a>', footer)[:3], links)
+
     def test_form_of_a_request(self) -> None:
         filled = self.site.get(f"/cite?issn=2901-0012&{ARTICLE}&au=O%27Neill&id=doi:10.5555/a%22b")
         self.tidy("the form of a request", filled.text)
