@@ -1,12 +1,12 @@
-"""Which statements of the crates below it a crate depends on: those that its sources and its edits name, and those
-that these name, and so on. A statement is a definition of a file of `specs`, or what a file of `src` states."""
+"""Which statements of the crates below it a part of a crate depends on: those that it names, and those that these name,
+and so on. A statement is a definition of a file of `specs`, or what a file of `src` states."""
 import functools
 import glob
 import os
 import re
 
 from statements import lines_stated_in, stated_in
-from stored import PARTS, text_of
+from stored import text_of
 
 DEFINITIONS = re.compile(r"Rattle\.(\w+)\.specs\.([\w.]*\w)(?:\.\{([^}]*)\})?(?: as (\w+))?")
 IMPORT = re.compile(r"^ *(?:pub )?use ([\w:{},\s]*);", re.M)
@@ -20,13 +20,9 @@ TYPE = re.compile(r"^(?:pub(?:\(crate\))? )?(?:struct|enum|trait|const|type) (\w
 IMPLEMENTED = re.compile(r"^impl(?:<[^{]*?>)? (?:([\w:]+)[^{\n]*? for )?(\w+)", re.M)
 
 
-def statements(crate, crates, edits):
-    """Returns the statements of lower crates that a crate depends on: a dictionary from a path and a name to the text.
-    `crates` are all crates of the repository, and `edits` the texts of its edits."""
-    parts = [glob.glob(f"crates/{crate}/{part}/**", recursive=True) for part in PARTS]
-    paths = [path for part in parts for path in part if os.path.isfile(path)]
-    texts = [text_of(path) for path in paths] + edits
-    sources = [text_of(path) for path in paths if path.endswith(".rt")] + edits
+def statements(crate, crates, texts, sources):
+    """Returns the statements of lower crates that texts of a crate depend on: a dictionary from a path and a name to
+    the text. `crates` are all crates of the repository, and the texts of `sources` call methods."""
     calls = {method or function for text in sources for method, function in CALL.findall(text)}
     found, left = {}, {it for text in texts for it in named_in(text, crate, crates, None)}
     while left:

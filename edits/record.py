@@ -1,44 +1,57 @@
-"""The file `tried`: of which crates all edits of this folder were refused, for which sources, by which toolchain."""
-import glob
+"""The file `tried`: which edits of this folder were refused, for which sources, by which toolchain."""
 import hashlib
 import os
 import sys
 
+import parts
 import reached
-from stored import PARTS, name_of, text_of
+import stored
+from stored import text_of
 
 sys.path.insert(0, "tools/prove")
 from crates import read
 
 TRIED = "edits/tried"
 HEAD = """\
-# edits/try writes this file: a crate, the sum of what its edits of this folder depend on when all of them were
-# refused, and the toolchain that refused them.
+# edits/try writes this file: an edit, the sum of what decides about it when it was refused, and the toolchain that
+# refused it.
 """
 
 
 class Sums:
-    """The sums of the crates as they are now."""
+    """The sums of the edits as they are now."""
 
     def __init__(self):
-        self.crates = frozenset(read(".")[1])
+        self._all = frozenset(read(".")[1])
+        self._crates, self._below = {}, {}
 
-    def of(self, crate):
-        """Returns a sum of the crate's sources without their lines of comments, its edits of this folder, and the
-        statements of lower crates that these depend on."""
-        found = hashlib.sha256()
-        edits = {name_of(path): text_of(path) for path in sorted(glob.glob(f"edits/{crate}/*.edit"))}
-        for path in sources(crate):
-            found.update(repr((path, without_comments(text_of(path)))).encode())
-        found.update(repr([*edits.items()]).encode())
-        stated = reached.statements(crate, self.crates, [*edits.values()])
-        found.update(repr(sorted({*stated.values()})).encode())
+    def of(self, edit):
+        """Returns a sum of an edit CRATE/NAME, of the files of its crate that can decide about it, without their lines
+        of comments, and of the statements of lower crates that these and the edit depend on."""
+        crate, text, deciding = edit.split("/")[0], text_of(path_of(edit)), self.deciding(edit)
+        found = hashlib.sha256(text.encode())
+        for path, counted in sorted(deciding.items()):
+            found.update(repr((path, without_comments(counted))).encode())
+        found.update(repr(sorted(self._stated_below(crate, deciding, text))).encode())
         return found.hexdigest()[:16]
 
+    def deciding(self, edit):
+        """Returns the files of its crate that can decide about an edit, with what counts of each."""
+        crate = edit.split("/")[0]
+        if crate not in self._crates:
+            self._crates[crate] = parts.Crate(crate)
+        return self._crates[crate].deciding(stored.changed_by(crate, path_of(edit)))
 
-def sources(crate):
-    walks = [os.walk(f"crates/{crate}/{part}") for part in PARTS]
-    return sorted(f"{at}/{name}" for walk in walks for at, _, names in walk for name in names)
+    def _stated_below(self, crate, deciding, edit):
+        key = frozenset(deciding.items())
+        sources = [text for path, text in deciding.items() if path.endswith(".rt")]
+        if key not in self._below:
+            self._below[key] = {*reached.statements(crate, self._all, deciding.values(), sources).values()}
+        return self._below[key] | {*reached.statements(crate, self._all, [edit], [*sources, edit]).values()}
+
+
+def path_of(edit):
+    return f"edits/{edit}.edit"
 
 
 def without_comments(text):
@@ -46,13 +59,13 @@ def without_comments(text):
 
 
 def tried():
-    """Returns the sum and the toolchain of each crate when its edits were last tried and all refused."""
+    """Returns the sum and the toolchain of each edit, CRATE/NAME, when it was last tried and refused."""
     lines = text_of(TRIED).split("\n") if os.path.isfile(TRIED) else []
     rows = (line.split("\t") for line in lines if line and not line.startswith("#"))
-    return {crate: (found, toolchain) for crate, found, toolchain in rows}
+    return {edit: (found, toolchain) for edit, found, toolchain in rows}
 
 
 def write(rows):
     with open(TRIED, "w", encoding="utf-8") as file:
         file.write(HEAD)
-        file.writelines(f"{crate}\t{found}\t{toolchain}\n" for crate, (found, toolchain) in sorted(rows.items()))
+        file.writelines(f"{edit}\t{found}\t{toolchain}\n" for edit, (found, toolchain) in sorted(rows.items()))

@@ -62,12 +62,23 @@ class Edit:
         self.old = None
 
 
+def read(crate, path):
+    """Returns an edit that was applied to the texts of its crate."""
+    edit = Edit(crate)
+    for line in text_of(path).split("\n"):
+        edit.take(line)
+    return edit
+
+
+def changed_by(crate, path):
+    """Returns the files of the crate that an edit changes, with their texts afterwards."""
+    return {f"crates/{crate}/{part}": text for part, text in read(crate, path).texts.items()}
+
+
 def fault(crate, path):
     """Returns why an edit cannot be applied to its crate, as the toolchain reads edits, or None."""
-    edit = Edit(crate)
     try:
-        for line in text_of(path).split("\n"):
-            edit.take(line)
+        edit = read(crate, path)
     except Bad as why:
         return str(why)
     if edit.old is not None:

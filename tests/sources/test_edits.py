@@ -1,8 +1,9 @@
 """Each must-fail edit still applies to its crate, and has a name of its own there. Nothing is proved.
 
 The gate tries those of crates/CRATE/must-fail/, whose number is limited. edits/try tries the others; the file
-edits/tried has the sums of what it tried, and the toolchain that refused them. A crate fails here if its sources, its
-edits, the statements of lower crates that these depend on, or the toolchain have changed since then."""
+edits/tried has a sum of what decided about each, and the toolchain that refused it. An edit fails here if it, what its
+crate's files say that can decide about it, the statements of lower crates that these depend on, or the toolchain have
+changed since then."""
 from __future__ import annotations
 
 import os
@@ -36,21 +37,25 @@ def of_names(edits: Edits) -> Iterator[str]:
             yield f"{path}: {why}"
 
 
-def of_sums(crates: Iterable[str], sums: Mapping[str, str], tried: Mapping[str, Any]) -> Iterator[str]:
-    """Which crates have changed since their edits were tried, or whose edits were never tried."""
-    changed = [crate for crate in crates if crate not in tried or tried[crate][0] != sums[crate]]
+def of_sums(sums: Mapping[str, str], tried: Mapping[str, Any]) -> Iterator[str]:
+    """Which crates have edits about which something has changed since they were tried, or that were never tried."""
+    changed = [edit for edit in sums if edit not in tried or tried[edit][0] != sums[edit]]
     if changed:
-        these = " ".join(changed)
-        yield f"changed since their edits were tried: run edits/try {these}, and commit {record.TRIED}"
-    for crate in sorted({*tried} - {*crates}):
-        yield f"{record.TRIED}: {crate} has no edits in edits"
+        these = " ".join(crates_of(changed))
+        yield f"{len(changed)} edits are not as they were tried: run edits/try {these}, and commit {record.TRIED}"
+    for edit in sorted({*tried} - {*sums}):
+        yield f"{record.TRIED}: there is no edit {edit} in edits"
+
+
+def crates_of(edits: Iterable[str]) -> list[str]:
+    return sorted({edit.partition("/")[0] for edit in edits})
 
 
 def of_toolchains(toolchain: str, tried: Mapping[str, Any]) -> Iterator[str]:
-    """Which crates' edits were refused by another toolchain than this one."""
-    others = sorted(crate for crate, (_, refused_by) in tried.items() if refused_by != toolchain)
+    """Which crates have edits that were refused by another toolchain than this one."""
+    others = [edit for edit, (_, refused_by) in tried.items() if refused_by != toolchain]
     if others:
-        yield f"tried by another toolchain than {toolchain}: run edits/try {' '.join(others)}"
+        yield f"tried by another toolchain than {toolchain}: run edits/try {' '.join(crates_of(others))}"
 
 
 def of_numbers(gate: Edits, others: Edits) -> Iterator[str]:
@@ -67,8 +72,8 @@ def faults() -> list[str]:
     gate, others = stored.of_the_gate(), stored.others()
     found = [*of_names([*gate, *others])]
     if not found:
-        crates, sums = sorted({crate for crate, _ in others}), record.Sums()
-        found = [*of_sums(crates, {it: sums.of(it) for it in crates}, record.tried())]
+        sums, edits = record.Sums(), [f"{crate}/{stored.name_of(path)}" for crate, path in others]
+        found = [*of_sums({it: sums.of(it) for it in edits}, record.tried())]
     return found + [*of_numbers(gate, others)]
 
 
@@ -84,7 +89,7 @@ class MustFailEdits(Case):
     def test_all_were_tried_by_this_toolchain(self) -> None:
         version = subprocess.run(["rt", "version"], stdout=subprocess.PIPE, text=True, check=True).stdout.strip()
         tried = record.tried()
-        self.expect("crates that were tried", bool(tried), True)
+        self.expect("edits that were tried", bool(tried), True)
         self.expect(version, [*of_toolchains(version, tried)], [])
 
 
@@ -112,16 +117,21 @@ class SpoiltEdits(Case):
         self.expect("no crate", [*of_names([("nowhere", EDIT)])], [f"{EDIT}: there is no crate nowhere"])
 
     def test_sums(self) -> None:
-        tried = {"a": ("1", "toolchain"), "b": ("2", "toolchain")}
-        self.expect("as they were tried", [*of_sums(["a", "b"], {"a": "1", "b": "2"}, tried)], [])
-        for sums in {"a": "1", "b": "3"}, {"a": "1", "b": "2", "c": "4"}:
-            found = [*of_sums([*sums], sums, tried)]
-            self.expect(f"{sums}", [it.startswith("changed since") for it in found], [True])
-        self.expect("a crate without edits", len([*of_sums(["a"], {"a": "1"}, tried)]), 1)
+        tried = {"a/one": ("1", "toolchain"), "b/two": ("2", "toolchain")}
+        self.expect("as they were tried", [*of_sums({"a/one": "1", "b/two": "2"}, tried)], [])
+        for sums, these in (
+            ({"a/one": "1", "b/two": "3"}, "run edits/try b,"),
+            ({"a/one": "1", "b/two": "2", "c/three": "4"}, "run edits/try c,"),
+            ({"a/one": "2", "b/two": "1", "a/four": "1"}, "3 edits are not as they were tried: run edits/try a b,"),
+        ):
+            found = [*of_sums(sums, tried)]
+            self.expect(f"{sums}", [these in it for it in found], [True])
+        found = [*of_sums({"a/one": "1"}, tried)]
+        self.expect("an edit that is gone", found, ["edits/tried: there is no edit b/two in edits"])
 
     def test_toolchains(self) -> None:
-        tried = {"a": ("1", "old"), "b": ("2", "new")}
-        self.expect("one toolchain", [*of_toolchains("old", {"a": ("1", "old")})], [])
+        tried = {"a/one": ("1", "old"), "a/two": ("1", "old"), "b/three": ("2", "new")}
+        self.expect("one toolchain", [*of_toolchains("old", {"a/one": ("1", "old")})], [])
         found = [*of_toolchains("new", tried)]
         self.expect("two", [it.endswith("run edits/try a") for it in found], [True])
 

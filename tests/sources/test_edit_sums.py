@@ -1,0 +1,131 @@
+"""A change asks for the edits about which it can decide, and for no others: in a small repository of two crates."""
+from __future__ import annotations
+
+import json
+import os
+import shutil
+import subprocess
+import sys
+import tempfile
+from pathlib import Path
+
+from fixtures import TOP
+from fixtures.cases import Case
+
+FILES = {
+    "crates.txt": "low:\na: low\n",
+    "crates/low/src/lib.rt": "mod count;\n\npub use count::count;\n",
+    "crates/low/src/count.rt": "pub fn count(n: usize) -> usize\n    ensures { result ≡ n }\n{\n    n\n}\n",
+    "crates/low/specs/Big.antt": "-- big\npub is_big : ℕ → Bool\nis_big n = nat_lt 9 n\n\npub other : ℕ\nother = 1\n",
+    "crates/a/src/lib.rt": "#![tactic(auto)]\n\nmod kind;\nmod one;\nmod other;\nmod shown;\nmod two;\n",
+    "crates/a/src/kind.rt": "pub(crate) struct Kind {\n    pub(crate) n: usize,\n}\n",
+    "crates/a/src/shown.rt": "use crate::kind::Kind;\n\nimpl Model for Kind {\n    ghost view = { λ k. k.n };\n}\n",
+    "crates/a/src/one.rt": """//! One.
+
+ghost use Rattle.a.specs.One.{is_one};
+ghost use Rattle.low.specs.Big.{is_big};
+
+use crate::kind::Kind;
+use low::count;
+
+/// Tells.
+pub(crate) fn one(n: usize, _kind: Kind) -> bool
+    ensures { result ≡ is_one n }
+{
+    count(n) == 1
+}
+""",
+    "crates/a/src/two.rt": """//! Two.
+
+ghost use Rattle.a.specs.Two.{is_two};
+
+use crate::one::one;
+
+pub fn two(n: usize) -> bool
+    ensures { result ≡ is_two n }
+{
+    one(n) || n == 2
+}
+""",
+    "crates/a/src/other.rt": "pub fn other(n: usize) -> usize {\n    n\n}\n",
+    "crates/a/specs/One.antt": "pub is_one : ℕ → Bool\nis_one n = nat_eq n 1\n",
+    "crates/a/specs/Two.antt": "pub is_two : ℕ → Bool\nis_two n = nat_lt n 3\n",
+    "crates/a/proofs/Lemmas.antt": "pub same : ℕ\nsame = 1\n",
+    "crates/a/proofs/Spare.antt": "pub spare : ℕ\nspare = 1\n",
+    "crates/a/proofs/one/one/Answers.antt": """use Rattle.a.proofs.Lemmas.{same}
+use Rattle.a.proofs.one.one.Goals as goal
+
+pub returns : goal.returns
+returns c = same
+""",
+    "crates/a/proofs/two/two/Answers.antt": """use Rattle.a.proofs.two.two.Goals as goal
+
+pub returns : goal.returns
+returns c = refl
+""",
+    "edits/a/body.edit": "file: src/one.rt\nold: == 1\nnew: == 2\n",
+    "edits/a/contract.edit": "file: src/one.rt\nold: result ≡ is_one n\nnew: result ≡ is_one 1\n",
+    "edits/a/definition.edit": "file: specs/Two.antt\nold: n 3\nnew: n 4\n",
+    "edits/a/law.edit": "file: proofs/Spare.antt\nold: spare = 1\nnew: spare = 2\n",
+}
+# A file, a text in it, what takes its place, and the edits that must be tried again.
+CHANGES = [
+    ("crates/a/src/one.rt", "/// Tells.", "/// Tells it.", ""),
+    ("crates/a/specs/One.antt", "pub is_one :", "-- is one\npub is_one :", ""),
+    ("crates/a/src/one.rt", "count(n) ==", "(count(n)) ==", "body contract"),
+    ("crates/a/src/one.rt", "ensures {", "ensures value {", "body contract definition"),
+    ("crates/a/src/two.rt", "one(n) || n == 2", "n == 2 || one(n)", "contract definition"),
+    ("crates/a/src/two.rt", "result ≡ is_two n", "is_two n ≡ result", "contract definition"),
+    ("crates/a/src/other.rt", "    n\n", "    n + 0\n", ""),
+    ("crates/a/src/kind.rt", "n: usize", "n: u64", "body contract definition"),
+    ("crates/a/src/shown.rt", "λ k. k.n", "λ k. k.n + 0", "body contract definition"),
+    ("crates/a/src/lib.rt", "tactic(auto)", "tactic(none)", "body contract definition law"),
+    ("crates/a/specs/One.antt", "nat_eq n 1", "nat_eq 1 n", "body contract definition"),
+    ("crates/a/specs/Two.antt", "= nat_lt", "= not nat_lt", "contract definition"),
+    ("crates/a/proofs/Lemmas.antt", "same = 1", "same = 0 + 1", "body contract"),
+    ("crates/a/proofs/Spare.antt", "pub spare :", "spare :", "law"),
+    ("crates/a/proofs/one/one/Answers.antt", "c = same", "c = (same)", "body contract"),
+    ("crates/a/proofs/two/two/Answers.antt", "c = refl", "c = (refl)", "contract definition"),
+    ("crates/low/src/count.rt", "result ≡ n", "n ≡ result", "body contract"),
+    ("crates/low/src/count.rt", "\n    n\n", "\n    n + 0\n", ""),
+    ("crates/low/specs/Big.antt", "nat_lt 9 n", "nat_lt 8 n", "body contract"),
+    ("crates/low/specs/Big.antt", "other = 1", "other = 2", ""),
+    ("edits/a/body.edit", "new: == 2", "new: == 3", "body"),
+]
+SUMS = """import json, sys
+sys.dont_write_bytecode = True
+sys.path.insert(0, "edits")
+import record
+sums = record.Sums()
+print(json.dumps({name: sums.of(f"a/{name}") for name in sys.argv[1:]}))"""
+EDITS = [name[len("edits/a/") : -len(".edit")] for name in FILES if name.startswith("edits/")]
+
+
+class Sums(Case):
+    def sums(self, folder: str) -> dict[str, str]:
+        done = subprocess.run(
+            [sys.executable, "-c", SUMS, *EDITS], cwd=folder, stdout=subprocess.PIPE, text=True, check=True
+        )
+        found: dict[str, str] = json.loads(done.stdout)
+        return found
+
+    def test_changes(self) -> None:
+        with tempfile.TemporaryDirectory() as folder:
+            shutil.copytree(f"{TOP}/tools/prove", f"{folder}/tools/prove")
+            for name in os.listdir(f"{TOP}/edits"):
+                if name.endswith(".py"):
+                    os.makedirs(f"{folder}/edits", exist_ok=True)
+                    shutil.copy(f"{TOP}/edits/{name}", f"{folder}/edits")
+            for name, text in FILES.items():
+                Path(folder, name).parent.mkdir(parents=True, exist_ok=True)
+                Path(folder, name).write_text(text, encoding="utf-8")
+            before = self.sums(folder)
+            self.expect("sums", len({*before.values()}), len(EDITS))
+            for name, old, new, wanted in CHANGES:
+                text = FILES[name]
+                self.expect(f"{name}: {old}", text.count(old), 1)
+                Path(folder, name).write_text(text.replace(old, new), encoding="utf-8")
+                now = self.sums(folder)
+                changed = " ".join(sorted(it for it in EDITS if now[it] != before[it]))
+                self.expect(f"{name}: {old} becomes {new}", changed, wanted)
+                Path(folder, name).write_text(text, encoding="utf-8")
