@@ -101,6 +101,26 @@ print(json.dumps({name: sums.of(f"a/{name}") for name in sys.argv[1:]}))"""
 EDITS = [name[len("edits/a/") : -len(".edit")] for name in FILES if name.startswith("edits/")]
 
 
+# A toolchain that refuses each edit that it is given, in a file of the crate that $PLACE names.
+RT = """#!/bin/sh
+[ "$1" = version ] && { echo kit; exit; }
+for edit in crates/a/must-fail/*.edit; do
+  echo "rt: must-fail a/${edit##*/}: refused, as it must be: note: $PLACE:1:1: it is not proved"
+done
+"""
+
+
+def write_repository(folder: str) -> None:
+    shutil.copytree(f"{TOP}/tools/prove", f"{folder}/tools/prove")
+    os.makedirs(f"{folder}/edits")
+    for name in os.listdir(f"{TOP}/edits"):
+        if name.endswith(".py") or name == "try":
+            shutil.copy(f"{TOP}/edits/{name}", f"{folder}/edits")
+    for name, text in {**FILES, "HANDLES": ""}.items():
+        Path(folder, name).parent.mkdir(parents=True, exist_ok=True)
+        Path(folder, name).write_text(text, encoding="utf-8")
+
+
 class Sums(Case):
     def sums(self, folder: str) -> dict[str, str]:
         done = subprocess.run(
@@ -111,14 +131,7 @@ class Sums(Case):
 
     def test_changes(self) -> None:
         with tempfile.TemporaryDirectory() as folder:
-            shutil.copytree(f"{TOP}/tools/prove", f"{folder}/tools/prove")
-            for name in os.listdir(f"{TOP}/edits"):
-                if name.endswith(".py"):
-                    os.makedirs(f"{folder}/edits", exist_ok=True)
-                    shutil.copy(f"{TOP}/edits/{name}", f"{folder}/edits")
-            for name, text in FILES.items():
-                Path(folder, name).parent.mkdir(parents=True, exist_ok=True)
-                Path(folder, name).write_text(text, encoding="utf-8")
+            write_repository(folder)
             before = self.sums(folder)
             self.expect("sums", len({*before.values()}), len(EDITS))
             for name, old, new, wanted in CHANGES:
@@ -129,3 +142,34 @@ class Sums(Case):
                 changed = " ".join(sorted(it for it in EDITS if now[it] != before[it]))
                 self.expect(f"{name}: {old} becomes {new}", changed, wanted)
                 Path(folder, name).write_text(text, encoding="utf-8")
+
+
+class Tries(Case):
+    """edits/try, with a stand-in for the toolchain."""
+
+    def tried(self, folder: str, place: str, *words: str) -> tuple[int, str]:
+        env = {**os.environ, "PATH": f"{folder}/bin:{os.environ['PATH']}", "PLACE": place}
+        env.pop("CI", None)
+        done = subprocess.run([f"{folder}/edits/try", *words], env=env, stdout=subprocess.PIPE, text=True, check=False)
+        return done.returncode, done.stdout.splitlines()[-1]
+
+    def test_what_is_tried(self) -> None:
+        with tempfile.TemporaryDirectory() as folder:
+            write_repository(folder)
+            Path(folder, "bin").mkdir()
+            Path(folder, "bin/rt").write_text(RT, encoding="utf-8")
+            Path(folder, "bin/rt").chmod(0o755)
+            unknown = self.tried(folder, "src/other.rt")
+            self.expect("refused where no sum looks", unknown, (1, "0 passed, 4 failed, 0 as they were tried before"))
+            first = self.tried(folder, "./proofs/Spare.antt", "a")
+            self.expect("one of a lemma", first, (1, "1 passed, 3 failed, 0 as they were tried before"))
+            second = self.tried(folder, "src/lib.rt")
+            self.expect("the others", second, (0, "3 passed, 0 failed, 1 as they were tried before"))
+            self.expect(
+                "none", self.tried(folder, "src/lib.rt"), (0, "0 passed, 0 failed, 4 as they were tried before")
+            )
+            Path(folder, "crates/a/proofs/Lemmas.antt").write_text("pub same : ℕ\nsame = 2\n", encoding="utf-8")
+            changed = self.tried(folder, "src/lib.rt")
+            self.expect("what a lemma decides", changed, (0, "2 passed, 0 failed, 2 as they were tried before"))
+            again = self.tried(folder, "src/lib.rt", "--all")
+            self.expect("all", again, (0, "4 passed, 0 failed, 0 as they were tried before"))
