@@ -15,11 +15,12 @@ rest_at parts i part h e = at_drop parts i h ∙ ap (λ (p : Part). p ∷ drop (
     at_drop parts i h = rw (add-one, drop-cons parts i part)
 
 -- one more part
-pub names_step : (rules : RuleSet) (table : Holdings) (found all : List Text) (state after : HostState) (part : Part) (left rest : List Part)
-    → left ≡ part ∷ rest → after ≡ after_part rules table state part rest → found ++ open_names_after rules table state left ≡ all
-    → (found ++ open_names rules table state part rest) ++ open_names_after rules table after rest ≡ all
-names_step rules table found all state after part left rest l a h =
-    append_assoc found (open_names rules table state part rest) (open_names_after rules table after rest)
+pub names_step : (rules : RuleSet) (table : Holdings) (found more all : List Text) (state after : HostState) (part : Part) (left rest : List Part)
+    → left ≡ part ∷ rest → more ≡ found ++ open_names rules table state part rest → after ≡ after_part rules table state part rest
+    → found ++ open_names_after rules table state left ≡ all → more ++ open_names_after rules table after rest ≡ all
+names_step rules table found more all state after part left rest l m a h =
+    ap (λ (names : List Text). names ++ open_names_after rules table after rest) m
+    ∙ append_assoc found (open_names rules table state part rest) (open_names_after rules table after rest)
     ∙ (ap (λ (s : HostState). found ++ (open_names rules table state part rest ++ open_names_after rules table s rest)) a
     ∙ (sym (ap (λ (ps : List Part). found ++ open_names_after rules table state ps) l) ∙ h))
 

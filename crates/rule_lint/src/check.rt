@@ -162,7 +162,7 @@ fn check_link(
     ensures { OnOk result (Adds out.old out.new
         (in_link target.now.rules.now target.now.table.now at parts.now)) }
 {
-    let names = names_in(alloc, parts)?;
+    let names = names_in(alloc, target.table.keys(), parts)?;
     check_names(out, target, at, &names)?;
     check_host(alloc, out, target, at, parts)
 }

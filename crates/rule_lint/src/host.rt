@@ -1,16 +1,15 @@
 //! The names by which a request can set the host of a link.
 
-ghost use Rattle.std.specs.Prelude.{◌≡◌, ◌++◌, ◌∷◌, List, [], IfOk, OnOk, true};
-ghost use Rattle.text_model.specs.Texts.{Text, texts_of};
-ghost use Rattle.rule_parser.specs.Names.{each_once};
+ghost use Rattle.std.specs.Prelude.{◌≡◌, ◌++◌, ◌∷◌, [], IfOk, OnOk, true};
+ghost use Rattle.text_model.specs.Texts.{texts_of};
 ghost use Rattle.rule_lint.specs.Host as hosts;
 ghost use Rattle.rule_lint.specs.HostStates.{after_texts};
 
+use crate::distinct::distinct;
 use crate::host_state::{
     HostState, after_byte, after_text, ends_host, is_hostless, is_inside, is_past,
 };
 use crate::target::Target;
-use crate::template_names::add_name;
 use std::alloc::{AllocError, Global};
 use uri_grammar::{Op, Part, Spec};
 
@@ -81,20 +80,19 @@ impl<'a> Target<'a> {
     }
 
     fn add_if_open<'b>(&self, names: &mut Vec<&'b str>, spec: &'b Spec) -> Result<(), AllocError>
-        ensures { OnOk result ((before : List Text) → texts_of names.old.items ≡ each_once before
-            → texts_of names.new.items
-            ≡ each_once (before ++ hosts.open_among self.now.rules.now self.now.table.now (spec.now ∷ []))) }
+        ensures { OnOk result (texts_of names.new.items ≡ texts_of names.old.items
+            ++ hosts.open_among self.now.rules.now self.now.table.now (spec.now ∷ [])) }
     {
         if self.is_rows_own(spec.name.as_str()) {
             return Ok(());
         }
-        add_name(names, spec.name.as_str())
+        names.push(spec.name.as_str())?;
+        Ok(())
     }
 
     fn add_open<'b>(&self, names: &mut Vec<&'b str>, specs: &'b [Spec]) -> Result<(), AllocError>
-        ensures { OnOk result ((before : List Text) → texts_of names.old.items ≡ each_once before
-            → texts_of names.new.items
-            ≡ each_once (before ++ hosts.open_among self.now.rules.now self.now.table.now specs.now)) }
+        ensures { OnOk result (texts_of names.new.items
+            ≡ texts_of names.old.items ++ hosts.open_among self.now.rules.now self.now.table.now specs.now) }
     {
         for spec in specs {
             self.add_if_open(names, spec)?;
@@ -173,9 +171,8 @@ impl<'a> Target<'a> {
         part: &'b Part,
         rest: &[Part],
     ) -> Result<(), AllocError>
-        ensures { OnOk result ((before : List Text) → texts_of names.old.items ≡ each_once before
-            → texts_of names.new.items ≡ each_once
-            (before ++ hosts.open_names self.now.rules.now self.now.table.now state part.now rest.now)) }
+        ensures { OnOk result (texts_of names.new.items ≡ texts_of names.old.items
+            ++ hosts.open_names self.now.rules.now self.now.table.now state part.now rest.now) }
     {
         match part {
             Part::Literal(_) => Ok(()),
@@ -203,7 +200,7 @@ impl<'a> Target<'a> {
             state = self.after_part(state, part, rest);
         }
         Ok(Host {
-            names,
+            names: distinct(alloc, self.table.keys(), &names)?,
             may_be_missing: is_hostless(state),
         })
     }

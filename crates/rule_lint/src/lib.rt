@@ -4,6 +4,7 @@
 
 mod check;
 mod columns;
+mod distinct;
 mod host;
 mod host_state;
 mod lines;
