@@ -1,9 +1,11 @@
 //! The names by which a request can set the host of a link.
 
-ghost use Rattle.std.specs.Prelude.{◌≡◌, ◌++◌, ◌∷◌, [], IfOk, OnOk, true};
+ghost use Rattle.std.specs.Prelude.{◌≡◌, ◌&&◌, ◌++◌, ◌∷◌, List, [], IfOk, OnOk, true};
 ghost use Rattle.text_model.specs.Texts.{texts_of};
 ghost use Rattle.rule_lint.specs.Host as hosts;
-ghost use Rattle.rule_lint.specs.HostStates.{after_texts};
+ghost use Rattle.rule_lint.specs.HostStates.{after_texts, is_inside as has_begun};
+ghost use Rattle.rule_lint.specs.Private.Ends.{AreEnds};
+ghost use Rattle.uri_grammar.specs.declared.parts.Part.{Part as PartValue};
 
 use crate::distinct::distinct;
 use crate::host_state::{
@@ -53,21 +55,24 @@ fn begins_with_end(text: &[u8]) -> Option<bool>
     }
 }
 
-fn ends_next(parts: &[Part]) -> bool
-    ensures { result ≡ hosts.ends_next parts.now }
+/// Whether `/`, `?` or `#` comes next, whatever is defined, before each of the parts and after the last one.
+fn ends_before_each(alloc: Global, parts: &[Part]) -> Result<Vec<bool>, AllocError>
+    ensures { IfOk result (λ ends. AreEnds ends.items parts.now 0) }
 {
-    for part in parts {
-        if let Some(ends) = decides_end(part) {
-            return ends;
-        }
+    let mut ends = vec![in alloc; true; parts.len() + 1]?;
+    let mut k = parts.len();
+    while k > 0 {
+        k -= 1;
+        ends[k] = decides_end(&parts[k]).unwrap_or(ends[k + 1]);
     }
-    true
+    Ok(ends)
 }
 
-fn is_ended(state: HostState, op: Op, parts: &[Part]) -> bool
-    ensures { result ≡ hosts.is_ended state op parts.now }
+/// Whether the host has begun and ends before an expression. `ends` says that of what comes after it.
+fn is_ended(state: HostState, op: Op, ends: bool) -> bool
+    ensures { result ≡ (has_begun state && (hosts.leads_past_host op && ends)) }
 {
-    is_inside(state) && leads_past_host(op) && ends_next(parts)
+    is_inside(state) && leads_past_host(op) && ends
 }
 
 impl<'a> Target<'a> {
@@ -137,26 +142,27 @@ impl<'a> Target<'a> {
         }
     }
 
-    /// The state after a part that comes before these parts.
-    fn after_part(&self, state: HostState, part: &Part, rest: &[Part]) -> HostState
-        ensures { result ≡ hosts.after_part self.now.rules.now self.now.table.now state part.now rest.now }
+    /// The state after a part. `ends` says whether `/`, `?` or `#` comes next after it.
+    fn after_part(&self, state: HostState, part: &Part, ends: bool) -> HostState
+        ensures { (rest : List PartValue) → hosts.ends_next rest ≡ ends
+            → result ≡ hosts.after_part self.now.rules.now self.now.table.now state part.now rest }
     {
         match part {
             Part::Literal(text) => after_text(state, text.as_str().as_bytes()),
             Part::Expression { op, specs } => {
-                self.after_expression(state, *op, specs.as_slice(), rest)
+                self.after_expression(state, *op, specs.as_slice(), ends)
             }
         }
     }
 
-    fn after_expression(&self, state: HostState, op: Op, specs: &[Spec], rest: &[Part]) -> HostState
-        ensures { result
-            ≡ hosts.after_expression self.now.rules.now self.now.table.now state op specs.now rest.now }
+    fn after_expression(&self, state: HostState, op: Op, specs: &[Spec], ends: bool) -> HostState
+        ensures { (rest : List PartValue) → hosts.ends_next rest ≡ ends
+            → result ≡ hosts.after_expression self.now.rules.now self.now.table.now state op specs.now rest }
     {
         if self.are_rows_own(specs) {
             return self.after_own(state, op, specs);
         }
-        if is_ended(state, op, rest) {
+        if is_ended(state, op, ends) {
             HostState::Past
         } else {
             state
@@ -169,15 +175,16 @@ impl<'a> Target<'a> {
         names: &mut Vec<&'b str>,
         state: HostState,
         part: &'b Part,
-        rest: &[Part],
+        ends: bool,
     ) -> Result<(), AllocError>
-        ensures { OnOk result (texts_of names.new.items ≡ texts_of names.old.items
-            ++ hosts.open_names self.now.rules.now self.now.table.now state part.now rest.now) }
+        ensures { OnOk result ((rest : List PartValue) → hosts.ends_next rest ≡ ends
+            → texts_of names.new.items ≡ texts_of names.old.items
+            ++ hosts.open_names self.now.rules.now self.now.table.now state part.now rest) }
     {
         match part {
             Part::Literal(_) => Ok(()),
             Part::Expression { op, specs } => {
-                if is_past(state) || is_ended(state, *op, rest) {
+                if is_past(state) || is_ended(state, *op, ends) {
                     return Ok(());
                 }
                 self.add_open(names, specs.as_slice())
@@ -194,10 +201,11 @@ impl<'a> Target<'a> {
     {
         let mut names = Vec::new(alloc);
         let mut state = HostState::Outside;
+        let ends = ends_before_each(alloc, parts)?;
         for (k, part) in parts.iter().enumerate() {
-            let rest = parts.split_at(k + 1).1;
-            self.add_open_names(&mut names, state, part, rest)?;
-            state = self.after_part(state, part, rest);
+            let is_end = ends[k + 1];
+            self.add_open_names(&mut names, state, part, is_end)?;
+            state = self.after_part(state, part, is_end);
         }
         Ok(Host {
             names: distinct(alloc, self.table.keys(), &names)?,
