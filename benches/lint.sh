@@ -50,7 +50,7 @@ instructions() {
   valgrind --tool=callgrind --callgrind-out-file="$scratch/callgrind" --log-file="$scratch/log" "$@" \
     >"$scratch/printed" || status=$?
   [ "$status" -le 1 ] || { echo "$*: status $status" >&2; exit 1; }
-  sed -n 's/.*Collected : //p' "$scratch/log"
+  sed -n 's/.*Collected : //p' "$scratch/log" | grep . || { echo "$*: callgrind counted nothing" >&2; exit 1; }
 }
 
 awk 'BEGIN {
