@@ -1,10 +1,13 @@
-//! Tests of numbers and dates in texts as sources send them, with examples of the standards, and of whole requests.
+//! Tests of numbers, dates and identifiers in texts as sources send them, with examples of the standards, and of whole
+//! requests.
 #![tactic(auto)]
 
 #[cfg(test)]
 mod counted;
 #[cfg(test)]
 mod dates;
+#[cfg(test)]
+mod identifiers;
 #[cfg(test)]
 mod isbns;
 #[cfg(test)]

@@ -1,0 +1,162 @@
+-- What is found is a part of the text.
+use Rattle.std.proofs.Common.{◌≡◌, ℕ, zero, suc, ◌+◌, ◌≤◌, List, [], ◌∷◌, ◌++◌, Bool, true, false, cond, Option, Some}
+use Rattle.std.proofs.Common.{None, length, take, drop, refl, sym, ap, ◌∙◌, subst, arith}
+use Rattle.std.specs.List.{All, filter_map, prefix_len}
+use Rattle.std.proofs.lemmas.List.{drop-drop, take-take, length-take}
+use Rattle.std.proofs.lemmas.List.Elements.{All-append, All-cons, All-head, All-tail}
+use Rattle.text_model.specs.Texts.{Text}
+use Rattle.uri_text.specs.AnyCase.{begins_in_any_case}
+use Rattle.work_identifiers.specs.declared.namespace.Namespace.{Namespace}
+use Rattle.work_identifiers.specs.declared.namespace.Namespace.TheVariants.{Doi, Pmid, Oclc}
+use Rattle.work_identifiers.specs.Ends.{is_before, is_no_break, from_start, ends_loosely, cut_at, to_end, first_part}
+use Rattle.work_identifiers.specs.Forms.{IsIdentifier}
+use Rattle.work_identifiers.specs.Places.{words, hosts, schemes, after, after_any, after_words, after_addresses, named_places, places, part, identifier_at}
+use Rattle.work_identifiers.specs.Places.{identifier_in, identifier_alone, IsPartOf}
+use Rattle.work_identifiers.proofs.Finding.{first_found, first_none, first_some, first_has}
+use Rattle.work_identifiers.proofs.FormLaws.{at_is}
+
+-- ---- parts of parts
+
+-- the end of a text, from one of its bytes on
+IsRest : Text → Text → Type 0
+IsRest text rest = (start : ℕ) × (rest ≡ drop start text)
+
+drop_twice : (text : Text) (a b : ℕ) → drop b (drop a text) ≡ drop (a + b) text
+drop_twice text a b = drop-drop b a text
+
+rest_of_rest : (text rest : Text) (n : ℕ) → IsRest text rest → IsRest text (drop n rest)
+unfolding IsRest
+rest_of_rest text rest n is = (is.0 + n, ap (drop n) is.1 ∙ drop_twice text is.0 n)
+
+-- ---- where one may begin
+
+after_is : (text t beginning rest : Text) → IsRest text t → after t beginning ≡ Some rest → IsRest text rest
+after_is text t beginning rest is h = by_test (begins_in_any_case t beginning) h
+  where
+    all : IsRest text (from_start (drop (length beginning) t))
+    all =
+        let r = drop (length beginning) t in
+        rest_of_rest text r (prefix_len is_before r) (rest_of_rest text t (length beginning) is)
+
+    by_test : (b : Bool) → cond b (Some (from_start (drop (length beginning) t))) None ≡ Some rest → IsRest text rest
+    by_test true e = let same : from_start (drop (length beginning) t) ≡ rest = cc in subst (IsRest text) same all
+    by_test false e = cc
+
+none_are : (P : Text → Type 0) → All P []
+none_are P = λ k d h. absurd (omega arith)
+
+one_none : (find : Text → Option Text) (t : Text) (ts : List Text) → find t ≡ None → filter_map find (t ∷ ts) ≡ filter_map find ts
+one_none find t ts e = rw e refl
+
+one_some : (find : Text → Option Text) (t r : Text) (ts : List Text) → find t ≡ Some r → filter_map find (t ∷ ts) ≡ r ∷ filter_map find ts
+one_some find t r ts e = rw e refl
+
+found_are : (P : Text → Type 0) (find : Text → Option Text) → ((t r : Text) → find t ≡ Some r → P r) → (ts : List Text) → All P (filter_map find ts)
+found_are P find each [] = none_are P
+found_are P find each (t ∷ ts) = by_found (find t) refl (found_are P find each ts)
+  where
+    by_found : (o : Option Text) → find t ≡ o → All P (filter_map find ts) → All P (filter_map find (t ∷ ts))
+    by_found None e rest = subst (All P) (sym (one_none find t ts e)) rest
+    by_found (Some r) e rest = subst (All P) (sym (one_some find t r ts e)) (All-cons P r (filter_map find ts) (each t r e) rest)
+
+after_any_are : (text : Text) (beginnings ts : List Text) → All (IsRest text) ts → All (IsRest text) (after_any beginnings ts)
+after_any_are text beginnings [] all = none_are (IsRest text)
+after_any_are text beginnings (t ∷ ts) all =
+    All-append (IsRest text) (filter_map (after t) beginnings) (after_any beginnings ts)
+    (found_are (IsRest text) (after t) (λ b r e. after_is text t b r (All-head (IsRest text) t ts all) e) beginnings)
+    (after_any_are text beginnings ts (All-tail (IsRest text) t ts all))
+
+one_is : (text t : Text) → IsRest text t → All (IsRest text) (t ∷ [])
+one_is text t is = All-cons (IsRest text) t [] is (none_are (IsRest text))
+
+words_are : (namespace : Namespace) (text t : Text) → IsRest text t → All (IsRest text) (after_words namespace t)
+words_are namespace text t is =
+    let once = after_any_are text (words namespace) (t ∷ []) (one_is text t is) in
+    let rests = after_any (words namespace) (t ∷ []) in
+    All-append (IsRest text) rests (after_any (words namespace) rests) once (after_any_are text (words namespace) rests once)
+
+named_are : (namespace : Namespace) (text t : Text) → IsRest text t → All (IsRest text) (named_places namespace t)
+named_are namespace text t is =
+    let named = words_are namespace text t is in
+    let starts = t ∷ after_words namespace t in
+    let all : All (IsRest text) starts = All-cons (IsRest text) t (after_words namespace t) is named in
+    let addresses = All-append (IsRest text) starts (after_any schemes starts) all (after_any_are text schemes starts all) in
+    All-append (IsRest text) (after_words namespace t) (after_addresses namespace starts) named
+    (after_any_are text (hosts namespace) (starts ++ after_any schemes starts) addresses)
+
+places_are : (namespace : Namespace) (text t : Text) → IsRest text t → All (IsRest text) (places namespace t)
+places_are Doi text t is = All-cons (IsRest text) t (named_places Doi t) is (named_are Doi text t is)
+places_are Pmid text t is = named_are Pmid text t is
+places_are Oclc text t is = named_are Oclc text t is
+
+-- ---- the identifier there
+
+-- at most so many bytes, from the beginning of a text
+IsFront : ℕ → Text → Text → Type 0
+IsFront most text front = (count : ℕ) × (count ≤ most) × (front ≡ take count text)
+
+cut_front : (n : ℕ) (t : Text) → IsFront n t (cut_at n t)
+unfolding IsFront
+cut_front zero t = (0, omega arith, refl)
+cut_front (suc n) t = by_test (ends_loosely (take (suc n) t)) (cut_front n t)
+  where
+    by_test : (b : Bool) → IsFront n t (cut_at n t) → IsFront (suc n) t (cond b (cut_at n t) (take (suc n) t))
+    by_test true rest = (rest.0, omega (arith, rest.1), rest.2)
+    by_test false rest = (suc n, omega arith, refl)
+
+number_front : (t : Text) → (count : ℕ) × (to_end (first_part t) ≡ take count t)
+unfolding IsFront
+number_front t =
+    let k = prefix_len is_no_break t in
+    let front = cut_front (length (first_part t)) (first_part t) in
+    let few : front.0 ≤ k = omega (arith, front.1, length-take k t) in
+    (front.0, front.2 ∙ take-take front.0 k t few)
+
+part_front : (namespace : Namespace) (t : Text) → (count : ℕ) × (part namespace t ≡ take count t)
+unfolding IsFront
+part_front Doi t = let front = cut_front (length t) t in (front.0, front.2)
+part_front Pmid t = number_front t
+part_front Oclc t = number_front t
+
+at_part : (namespace : Namespace) (text t n : Text) → IsRest text t → identifier_at namespace t ≡ Some n → IsPartOf text n
+unfolding IsRest
+at_part namespace text t n is h =
+    let front = part_front namespace t in
+    (is.0, front.0, (at_is namespace t n h).0 ∙ front.1 ∙ ap (take front.0) is.1)
+
+start_rest : (text : Text) → IsRest text (from_start text)
+unfolding IsRest
+start_rest text = (prefix_len is_before text, refl)
+
+-- what is found at one of these places
+first_at : (namespace : Namespace) (text : Text) (ts : List Text) (n : Text) → All (IsRest text) ts → first_found (identifier_at namespace) ts ≡ Some n
+    → IsPartOf text n
+first_at namespace text [] n all h = cc
+first_at namespace text (t ∷ ts) n all h =
+    by_found (identifier_at namespace t) refl (first_at namespace text ts n (All-tail (IsRest text) t ts all)) h
+  where
+    find : Text → Option Text
+    find = identifier_at namespace
+
+    by_found : (o : Option Text) → find t ≡ o → (first_found find ts ≡ Some n → IsPartOf text n) → first_found find (t ∷ ts) ≡ Some n → IsPartOf text n
+    by_found None e rest g = rest (sym (first_none find t ts e) ∙ g)
+    by_found (Some m) e rest g =
+        let same : Some m ≡ Some n = sym (first_some find t m ts e) ∙ g in
+        let equal : m ≡ n = cc in
+        at_part namespace text t n (All-head (IsRest text) t ts all) (e ∙ ap Some equal)
+
+pub named_part : (namespace : Namespace) (text n : Text) → identifier_in namespace text ≡ Some n → IsPartOf text n
+named_part namespace text n h =
+    first_at namespace text (places namespace (from_start text)) n (places_are namespace text (from_start text) (start_rest text)) h
+
+pub alone_part : (namespace : Namespace) (text n : Text) → identifier_alone namespace text ≡ Some n → IsPartOf text n
+alone_part namespace text n h = at_part namespace text (from_start text) n (start_rest text) h
+
+-- ---- the form
+
+pub named_is : (namespace : Namespace) (text n : Text) → identifier_in namespace text ≡ Some n → IsIdentifier namespace n
+named_is namespace text n h =
+    first_has (IsIdentifier namespace) (identifier_at namespace) (λ t m e. (at_is namespace t m e).1) (places namespace (from_start text)) n h
+
+pub alone_is : (namespace : Namespace) (text n : Text) → identifier_alone namespace text ≡ Some n → IsIdentifier namespace n
+alone_is namespace text n h = (at_is namespace (from_start text) n h).1
