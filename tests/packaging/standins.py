@@ -11,16 +11,21 @@ from collections.abc import Mapping
 from fixtures.cases import Case
 from fixtures.patience import patience
 
-# Notes its arguments, prints NAME.out, and ends with the first status of NAME.statuses, which it takes out; with 0 if
-# there is none. It uses what the shell has, since PATH has no other command.
+# Notes its arguments, prints NAME.out, NAME.errors as its errors, and ends with the first status of NAME.statuses, which
+# it takes out; with 0 if there is none. deb-systemd-invoke reads its input first, as the policy of a machine may. It uses
+# what the shell has, since PATH has no other command.
 _STANDIN = r"""#!/bin/sh
 set -f
 name=${0##*/}
+[ "$name" != deb-systemd-invoke ] || while read -r line; do :; done
 line=$name
 for word; do line="$line $word"; done
 echo "$line" >>"$STANDINS/calls"
 if [ -e "$STANDINS/$name.out" ]; then
   while IFS= read -r line; do printf '%s\n' "$line"; done <"$STANDINS/$name.out"
+fi
+if [ -e "$STANDINS/$name.errors" ]; then
+  while IFS= read -r line; do printf '%s\n' "$line" >&2; done <"$STANDINS/$name.errors"
 fi
 [ -e "$STANDINS/$name.statuses" ] || exit 0
 read -r status rest <"$STANDINS/$name.statuses" || exit 0

@@ -187,6 +187,7 @@ class NginxOfUpgrades(Scripts):
 
     def test_nginx_that_refuses_its_files_is_not_reloaded(self) -> None:
         self.machine.fails("nginx", 1)
+        self.machine.make("nginx.errors", "nginx: [emerg] unknown directive\n")
         status, said, calls = self.run_script("postinst", *UPGRADE)
         self.expect("calls", (status, calls), (0, [*self.BEFORE, *TO_NGINX[:2]]))
         self.expect("it is said", said, "openlink: nginx still has the old front door; nginx -t says why\n")

@@ -236,6 +236,15 @@ class Starts(Container):
         self.expect("the status", (process.returncode, said), (1, "start: openlink.conf names no port of 127.0.0.1\n"))
         self.expect("nothing is started", self.calls(), [])
 
+    def test_a_container_without_a_version_is_refused(self) -> None:
+        """The registry of another folder is neither tried nor served."""
+        os.remove(f"{self.machine.folder}/etc/openlink/current")
+        process = self.begin()
+        said = process.communicate(timeout=patience(20))[1].decode()
+        self.expect("the status", process.returncode, 1)
+        self.expect("what it says", f"{self.machine.folder}/etc/openlink/current: No such file" in said)
+        self.expect("nothing is started", self.calls(), [])
+
 
 class Ends(Container):
     """Signals, and processes that die."""
@@ -262,6 +271,15 @@ class Ends(Container):
             "the other one", (self.pid(second), self.calls(f"{second} listens")), (others, [f"{second} listens"])
         )
         self.expect("the registry is not tried again", self.calls(TRIAL), [TRIAL])
+
+    def test_a_process_that_dies_without_a_version_stays_in_its_folder(self) -> None:
+        self.begun()
+        first = self.ports[0]
+        os.remove(f"{self.machine.folder}/etc/openlink/current")
+        self.kill(self.pid(first))
+        again = f"openlink serve registry.tsv {first} 1000000 in first"
+        self.wait_for("it is not started again", lambda: self.calls().count(f"{first} listens") == 2)
+        self.expect("the folder", self.calls(again), [again] * 2)
 
     def kill(self, number: int) -> None:
         """Kills a process by its number in the container."""

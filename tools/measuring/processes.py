@@ -59,7 +59,7 @@ class _Running:
                 stdout=out,
                 stderr=subprocess.STDOUT,
                 cwd=top,
-                env={**os.environ, **more},
+                env={**os.environ, "PWD": str(top), **more},
                 start_new_session=True,
             )
             self._those.add(process)
