@@ -3,6 +3,7 @@ from __future__ import annotations
 
 import array
 import tempfile
+from unittest import mock
 
 from fixtures.cases import Case
 from openlink_update.index import index_files
@@ -201,6 +202,14 @@ class OfWords(Case):
             lines = word_sets._lines_of(sorted(sets), sets)
             self.expect(f"{count} places", [line.word.decode() for line in lines], wanted)
 
+    def test_bytes_of_places(self) -> None:
+        """A line counts by its longest place, so that a file has no more bytes than it may."""
+        places = array.array("I", [1, *range(100_000, 100_050)])
+        lines = [word_sets._Line(b"w%03d" % number, places, False) for number in range(20)]
+        with mock.patch.object(word_sets, "_MOST_BYTES", 4000):
+            data = word_sets._data_of(lines, 1)
+        self.expect(f"{len(data)} bytes", 3000 < len(data) <= 4000)
+
 
 class OfPages(Case):
     def test_titles_of_a_page(self) -> None:
@@ -213,6 +222,8 @@ class OfPages(Case):
         for length, wanted in ((31, 32), (32, 32), (40, 32)):
             pages = [("a", [title("a" * length + "b")]), ("a", [title("a" * length + "c")])]
             self.expect(f"{length} alike", [len(it) for it in title_list._starts_of(pages).split(";")], [2, wanted])
+        pages = [("a", [title(f"{'a' * 31} {letter}")]) for letter in "bc"]
+        self.expect("without a space at the end", title_list._starts_of(pages), f"aa;{'a' * 31}")
 
     def test_a_file(self) -> None:
         """A key of more titles than it may have lines, in the file itself."""

@@ -2,6 +2,7 @@
 from __future__ import annotations
 
 import os
+import random
 import socket
 import tempfile
 from pathlib import Path
@@ -88,6 +89,19 @@ class Names(Case):
                 self.expect("a third", reason(children.free_port).startswith("no free port from 31000 to 31001"))
             for claim in children.claimed:
                 claim.close()
+
+    def test_where_the_ports_of_trials_begin(self) -> None:
+        """At any of them, so that two runs rarely try the same; those before it come last."""
+        with mock.patch.object(children, "_PORTS", range(31_000, 31_003)), mock.patch.object(
+            children, "claimed", list[object]()
+        ):
+            with mock.patch.object(socket, "create_server", mock.Mock()), mock.patch.object(
+                random, "randrange", lambda count: count - 2
+            ):
+                found = [children.free_port() for _ in range(3)]
+            for claim in children.claimed:
+                claim.close()
+        self.expect("in their order", found, [31_001, 31_002, 31_000])
 
 
 class Machines(Case):

@@ -229,6 +229,7 @@ const PREFIXES = [
         'x.doi=10.5555/a'],
     ['two forms of a prefix', 'rft_val_fmt=x&rft_id=info:doi/doi:10.5555/a', 'x.doi=10.5555/a'],
     ['an address of PubMed', 'rft_val_fmt=x&rft_id=info:pmid/https://pubmed.ncbi.nlm.nih.gov/7/', 'x.pmid=7'],
+    ['an address of PubMed after PMID', 'rft_val_fmt=x&rft_id=PMID:https://pubmed.ncbi.nlm.nih.gov/7/', 'x.pmid=7'],
     ['prefixes alone', 'rft_val_fmt=x&rft_id=info:doi/https://doi.org/', '', 'rft_val_fmt=x']
 ];
 

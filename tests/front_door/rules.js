@@ -270,6 +270,11 @@ function testValues() {
     values.ISSNS.forEach((it) => { expect('the ISSNs in ' + it[0], numbersIn(it[0], numbers.ISSN), it[1]); });
     values.ISBNS.forEach((it) => { expect('the ISBNs in ' + it[0], numbersIn(it[0], numbers.ISBN), it[1]); });
     values.ADDRESSES.forEach((it) => { expect('the address ' + it[0], texts.isWeb(it[0]), it[1]); });
+    // njs throws at some lengths if the last match ends the text.
+    [31, 32, 33, 63, 64, 65, 96].forEach((length) => {
+        const text = 'é'.repeat(length - 1);
+        expect(`a text of ${length} characters`, texts.clean(text + '\u2028'), text);
+    });
     values.CHECKED.forEach((it) => { expect('the last digit of ' + it[0], numbers.isRight(it[0]), it[1]); });
     const both = function (key, text, first, second) {
         const q = openurl.queryOf('rft_val_fmt=x&rft.' + key + '=' + encodeURIComponent(text));

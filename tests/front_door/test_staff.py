@@ -371,6 +371,11 @@ class Staff(SiteCase):
         for target in ("/find", "/none", f"/find.json?{ARTICLE}"):
             self.expect(f"{target[:12]} has no link", address_in(self.site.get(target).text), None)
 
+    def test_request_with_an_apostrophe(self) -> None:
+        """Nothing of a request is left to escape in a command of a mail program."""
+        found = address_in(self.site.get(f"/find?{ARTICLE}&au=O'Neil").text)
+        self.expect("in the link", found is not None and found.endswith("%26au%3DO%27Neil"))
+
     def test_forms_of_problem_link(self) -> None:
         words = self.targets["words"]
         cases: list[tuple[Any, bool]] = [

@@ -75,6 +75,7 @@ const PAGES = [
     ['pages', 'pp. abc12-15', 'abc12|'], ['pages', 'pp. abcd12', '|'], ['pages', '12ab-15', '12ab|'],
     ['pages', '12abc-15', '12|'], ['pages', '12f', '12|'], ['pages', '12ff', '12|'], ['pages', 'abcd12', 'abcd12|'],
     ['pages', 'abcde12', '|'], ['pages', 'pp12', '12|'], ['pages', 'p12', '12|'], ['pages', 'p-12', '12|'],
+    ['spage', '12-2', '12|'], ['spage', '12-3', '12|13'], ['spage', '112-2', '112|'],
     ['spage', '101---118', '101|118'], ['spage', '101----118', '101|'], ['spage', '101 118', '101|'],
     ['spage', '101 to 118', '101|118'], ['spage', '101 bis 118', '101|118'], ['spage', '.........xii', 'xii|'],
     ['spage', '..........xii', '..........xii|'], ['spage', 'Seiten xii-xx', 'xii|xx'], ['spage', 'Seite xii', 'xii|'],

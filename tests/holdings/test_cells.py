@@ -182,6 +182,10 @@ class Cells(Case):
         self.expect("another column says nothing", rows_of(data)[0][3], "1995")
         times = table("A\t2901-0012\t\t3/4/1995 12:00 AM\t", "B\t2908-0142\t\t4/13/1995 12:00:00 AM\t")
         self.expect("with times", [row[3] for row in rows_of(times)], ["1995-03-04", "1995-04-13"])
+        cells_of = ("3/4/1995", "13/4/1995", "5/5/1995", "4/0/1995", "0/4/1995")
+        data = table(*(f"{name}\t2901-0012\t\t{cell}\t" for name, cell in zip("ABCDE", cells_of)), "F\t2901-0012")
+        said = [line for line in preparation.prepare([("one", data)]).lines if "order" in line]
+        self.expect("decided", said, ["dates whose order the rest of their column decides: 1 cell"])
 
     def test_footers(self) -> None:
         """Of each file, at its end alone, and never a row with a number."""

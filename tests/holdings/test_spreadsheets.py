@@ -5,7 +5,9 @@ from __future__ import annotations
 import datetime
 import io
 import zipfile
+from unittest import mock
 
+from fixtures import spreadsheet_files
 from fixtures.cases import Case
 from fixtures.spreadsheet_files import Cell
 from fixtures.spreadsheet_files import MAIN
@@ -234,6 +236,15 @@ class Dates(Case):
         ):
             data = xlsx([HEAD, ["Tides", "2901-0012", "", value]], is_1904=is_1904)
             self.expect(f"{value}, {is_1904}", read(data), [["Tides", "2901-0012", "", wanted]])
+
+    def test_forms_that_no_file_defines(self) -> None:
+        """Those of days by ECMA-376, 18.8.30, of all languages and of those of East Asia, and that of a month. Without
+        one of them, 2000 is a year."""
+        forms = dict.fromkeys((14, 15, 16, 22, *range(27, 32), *range(34, 37), *range(50, 59)), "1905-06-22")
+        for form, wanted in {**forms, 17: "1905-06"}.items():
+            with mock.patch.object(spreadsheet_files, "FORMS", ("0", str(form))):
+                data = xlsx([HEAD, ["Tides", "2901-0012", "", Cell("2000", form=1)]])
+            self.expect(f"form {form}", read(data), [["Tides", "2901-0012", "", wanted]])
 
     def test_other_columns(self) -> None:
         """A number in a column without dates stays one."""

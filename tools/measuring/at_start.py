@@ -16,12 +16,17 @@ from typing import Any
 
 import coverage
 
+_LEAST = 2**24  # bytes of a file in which notes have room: the signal of the system would end a process with less
+_limits_of = resource.getrlimit  # a test may replace it
+
 
 def _save() -> None:
     """Writes what has run, though the process may write no long files. One that may write none any more, or has no
     memory, goes on without."""
     with contextlib.suppress(Exception):
-        most, hard = resource.getrlimit(resource.RLIMIT_FSIZE)
+        most, hard = _limits_of(resource.RLIMIT_FSIZE)
+        if resource.RLIM_INFINITY != hard < _LEAST:
+            return
         resource.setrlimit(resource.RLIMIT_FSIZE, (hard, hard))
         try:
             coverage.process_startup.coverage.save()

@@ -14,6 +14,8 @@ from measuring import processes
 from planting.bug import Bug
 
 _TABLE = Path(__file__).with_name("tests.tsv")
+# It reads files, so that no measuring finds that it sees their lines.
+_READS = "bounds.test_list"
 # Tests that were measured may take this many times their seconds, and some more.
 _TIMES, _MORE = 4, 60
 
@@ -54,11 +56,14 @@ class Tests:
 
     def of(self, bug: Bug, text: str) -> list[str]:
         """Those that run its line by the map, and then those of the table that the map has not, or all of the table if
-        the map has not the file. Those that have seen most bugs of the file are first."""
+        the map has not the file, and the one that reads what bounds something. Those that have seen most bugs of the
+        file are first."""
         names = self._of_table(bug.path)
         if self._known.has(bug.path):
             measured = self._measured(bug, text)
             names = measured + [name for name in names if name not in self._known.seconds]
+        if bug.kind in ("constant", "off by one"):
+            names += [name for name in processes.names_in(copies.TOP, _READS) if name not in names]
         with self._lock:
             left = [name for name in names if name not in self.failing]
             return sorted(left, key=lambda name: -self._saw[bug.path, name])
