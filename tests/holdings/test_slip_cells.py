@@ -38,6 +38,22 @@ def count_of(words: str, now: Material, before: Material | None = None, others: 
     return found.count if found else 0
 
 
+class Journals(Case):
+    def test_journals(self) -> None:
+        """Rows with an ISSN, unless they are said to be of books, however that is written."""
+        header = ("publication_title", "print_identifier", "publication_type")
+        for number, kind, wanted in (
+            (issn(1), "serial", True),
+            (issn(1), "", True),
+            (issn(1), "monograph", False),
+            (issn(1), "Monograph", False),
+            ("9780306406157", "", False),
+        ):
+            prepared = preparation.prepare([("file", table(("Tides", number, kind), header=header))])
+            now = Material(prepared.table, prepared.dropped, prepared.reversed, prepared.count, b"", "", "")
+            self.expect(f"{number} {kind}", now.is_journal(0), wanted)
+
+
 class Cells(Case):
     """One cell at a time."""
 

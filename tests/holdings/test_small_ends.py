@@ -207,6 +207,7 @@ class Versions(FolderCase):
             def run(self, *words: str, most: int = 0) -> tuple[int, str]:
                 raise Refused([f"{words[0]}: TooLong at row 2"])
 
+        self.expect("several, as one text", str(Refused(["one", "another"])), "one; another")
         judge, reasons = Judge(self.folder, None, Refusing("none", self.folder), DAY), list[str]()
         self.expect("warnings", judge._lines("press.txt", reasons, "inspect", "tables/press.txt"), [])
         self.expect("reasons", reasons, ["press.txt: inspect: TooLong at row 2"])

@@ -22,6 +22,8 @@ class Sources(ProvidersCase):
         cases = {
             "alone.txt": "not a file, an address and options, with tabs between them",
             f"a.txt\t{good}\tx\ty": "not a file, an address and options, with tabs between them",
+            "a.txt\t\tevery 7 days": "not a file, an address and options, with tabs between them",
+            f"\t{good}": "not a file, an address and options, with tabs between them",
             f"../a.txt\t{good}": "../a.txt cannot be fetched: not a path below the folder, or a list",
             f"/a.txt\t{good}": "/a.txt cannot be fetched: not a path below the folder, or a list",
             f".a.txt\t{good}": ".a.txt cannot be fetched: not a path below the folder, or a list",

@@ -70,6 +70,8 @@ class Tables(Case):
             ("a sign in quotes", "<td title='a > b'>Tides", "Tides"),
             ("a lone sign", "<td>1 < 2", "1 < 2"),
             ("capitals", "<TD>Tides</TD>", "Tides"),
+            ("a text after a cell", "<td>Tides</td> and more", "Tides"),
+            ("a text after a cell of a header", "<th>Tides</th> and more", "Tides"),
         ):
             page = PAGE.replace("<td>Tides", cell, 1)
             got = read(page)
