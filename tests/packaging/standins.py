@@ -11,9 +11,9 @@ from collections.abc import Mapping
 from fixtures.cases import Case
 from fixtures.patience import patience
 
-# Notes its arguments, prints NAME.out, NAME.errors as its errors, and ends with the first status of NAME.statuses, which
-# it takes out; with 0 if there is none. deb-systemd-invoke reads its input first, as the policy of a machine may. It uses
-# what the shell has, since PATH has no other command.
+# Notes its arguments, prints NAME.out, and NAME.errors as its errors, and ends with the first status of NAME.statuses,
+# which it takes out; with 0 if there is none. deb-systemd-invoke reads its input first, as the policy of a machine may.
+# It uses what the shell has, since PATH has no other command.
 _STANDIN = r"""#!/bin/sh
 set -f
 name=${0##*/}
