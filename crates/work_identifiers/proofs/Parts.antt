@@ -91,7 +91,7 @@ places_are Oclc text t is = named_are Oclc text t is
 
 -- ---- the identifier there
 
--- at most so many bytes, from the beginning of a text
+-- at most n bytes, from the beginning of a text
 IsFront : ℕ → Text → Text → Type 0
 IsFront most text front = (count : ℕ) × (count ≤ most) × (front ≡ take count text)
 

@@ -42,7 +42,7 @@ cut_at (suc n) text = if ends_loosely (take (suc n) text) then cut_at n text els
 abbrev pub to_end : Text → Text
 to_end text = cut_at (length text) text
 
--- so many bytes, at least one, end loosely
+-- the first n bytes, at least one, end loosely
 abbrev pub is_loose_to : ℕ → Text → Bool
 is_loose_to n text = nat_lt 0 n && ends_loosely (take n text)
 

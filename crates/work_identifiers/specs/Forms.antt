@@ -37,7 +37,7 @@ is_doi doi =
     let prefix = first_part doi in
     is_doi_prefix prefix && nat_le (length prefix + 2) (length doi) && (slice_index doi (length prefix) == 0x2f) && list_all is_visible doi
 
--- digits, at least one and at most so many
+-- digits, at least one and at most this number
 abbrev pub is_number : ℕ → Text → Bool
 is_number most number = is_between 1 most (length number) && list_all is_ascii_digit number
 

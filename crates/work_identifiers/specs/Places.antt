@@ -87,6 +87,6 @@ identifier_alone namespace text = identifier_at namespace (from_start text)
 
 -- ---- parts
 
--- so many bytes of a text, from one of its bytes on
+-- some bytes of a text, from one of them on
 abbrev pub IsPartOf : Text → Text → Type 0
 IsPartOf text part = (start count : ℕ) × (part ≡ take count (drop start text))

@@ -103,7 +103,7 @@ pub(crate) fn to_end(text: &[u8]) -> &[u8]
     text.split_at(end).0
 }
 
-/// Whether there are so many bytes, at least one, and they end loosely.
+/// Whether the bytes up to `end`, at least one, end loosely.
 fn is_loose_to(text: &[u8], end: usize) -> bool
     requires { end ≤ length text.now }
     ensures { result ≡ spec.is_loose_to end text.now }

@@ -88,7 +88,7 @@ fn is_visible(byte: u8) -> bool
     b'!' <= byte && byte <= b'~'
 }
 
-/// Whether these are digits, at least one and at most so many.
+/// Whether these are digits, at least one and at most `most`.
 fn is_number(most: usize, text: &[u8]) -> bool
     ensures { result ≡ spec.is_number most text.now }
 {
