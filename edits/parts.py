@@ -2,7 +2,8 @@
 
 An edit of the body of a function is refused in the proof of that function, and so for nothing but its file, the proofs
 of its file, and what these name. Any other edit changes what is stated, and can be refused wherever that is named. Of a
-source that is only named, what counts is what it states: contracts, types and constants, but no body."""
+source that is only named, what counts is what it states: contracts, types and constants, but no body. Of a crate's root
+its list of modules does not count: what a name means is told by the file to which it leads, and that counts."""
 import functools
 import glob
 import os
@@ -14,6 +15,7 @@ from stored import PARTS, text_of
 
 NAMED = re.compile(r"Rattle\.(\w+)\.(specs|proofs)\.([\w.]*\w)")
 USE = re.compile(r"^ *(pub )?(?:ghost )?use ([^;]*);\n", re.M)
+MODULE = re.compile(r"^(?:pub )?mod \w+;\n", re.M)
 # Modules that the toolchain writes for a function of a source.
 GENERATED = {"Goals", "Given"}
 # The proofs of a crate's root are in no folder of their own.
@@ -109,8 +111,15 @@ def statement(path):
     if not path.endswith(".rt"):
         return text_of(path)
     text = without_bodies(text_of(path))
+    is_root = path.endswith(("/src/lib.rt", "/src/main.rt"))
+    if is_root:
+        text = MODULE.sub("", text)
     words = {*WORD.findall(USE.sub("", text))}
-    return USE.sub(lambda use: use[0] if use[1] or not words.isdisjoint(last_names(use[2])) else "", text)
+
+    def is_needed(use):
+        return bool(use[1]) and not is_root or not words.isdisjoint(last_names(use[2]))
+
+    return USE.sub(lambda use: use[0] if is_needed(use) else "", text)
 
 
 def last_names(imported):

@@ -26,12 +26,12 @@ class Sums:
         self._crates, self._below = {}, {}
 
     def of(self, edit):
-        """Returns a sum of an edit CRATE/NAME, of the files of its crate that can decide about it, without their lines
-        of comments, and of the statements of lower crates that these and the edit depend on."""
+        """Returns a sum of an edit CRATE/NAME, of the files of its crate that can decide about it, without comments and
+        empty lines, and of the statements of lower crates that these and the edit depend on."""
         crate, text, deciding = edit.split("/")[0], text_of(path_of(edit)), self.deciding(edit)
         found = hashlib.sha256(text.encode())
         for path, counted in sorted(deciding.items()):
-            found.update(repr((path, without_comments(counted))).encode())
+            found.update(repr((path, counted_lines(counted))).encode())
         found.update(repr(sorted(self._stated_below(crate, deciding, text))).encode())
         return found.hexdigest()[:16]
 
@@ -54,8 +54,9 @@ def path_of(edit):
     return f"edits/{edit}.edit"
 
 
-def without_comments(text):
-    return [line for line in text.split("\n") if not line.lstrip().startswith(("//", "--"))]
+def counted_lines(text):
+    """Returns the lines of a text that are neither comments nor empty."""
+    return [line for line in text.split("\n") if line and not line.lstrip().startswith(("//", "--"))]
 
 
 def tried():

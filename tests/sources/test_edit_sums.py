@@ -80,6 +80,8 @@ CHANGES = [
     ("crates/a/src/kind.rt", "n: usize", "n: u64", "body contract definition"),
     ("crates/a/src/shown.rt", "λ k. k.n", "λ k. k.n + 0", "body contract definition"),
     ("crates/a/src/lib.rt", "tactic(auto)", "tactic(none)", "body contract definition law"),
+    ("crates/a/src/lib.rt", "mod kind;\n", "mod added;\nmod kind;\n", ""),
+    ("crates/a/src/lib.rt", "mod two;\n", "mod two;\n\npub use other::other;\n", ""),
     ("crates/a/specs/One.antt", "nat_eq n 1", "nat_eq 1 n", "body contract definition"),
     ("crates/a/specs/Two.antt", "= nat_lt", "= not nat_lt", "contract definition"),
     ("crates/a/proofs/Lemmas.antt", "same = 1", "same = 0 + 1", "body contract"),
