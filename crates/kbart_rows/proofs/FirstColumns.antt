@@ -43,7 +43,7 @@ all_passed xs place e =
 
 -- ---- one more name
 
-abbrev or_else : Option ℕ → Option ℕ → Option ℕ
+abbrev pub or_else : Option ℕ → Option ℕ → Option ℕ
 or_else None other = other
 or_else (Some column) other = Some column
 
@@ -52,7 +52,7 @@ position_more : (test : Text → Bool) (first : ℕ) (names : Row) (name : Text)
 position_more test first [] name = ap (λ column. if test name then Some column else None) (omega arith)
 position_more test first (other ∷ names) name = grind (arith, common_steps, position_more test (first + 1) names name)
 
-column_more : (names : Row) (name other : Text) → column_of (names ++ name ∷ []) other
+pub column_more : (names : Row) (name other : Text) → column_of (names ++ name ∷ []) other
     ≡ or_else (column_of names other) (if bytes_eq other name then Some (length names) else None)
 column_more names name other = grind (arith, position_from-zero, position_more)
 

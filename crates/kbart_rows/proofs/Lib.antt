@@ -18,3 +18,4 @@ pub mod IndexLemmas
 pub mod EntryLemmas
 pub mod RunLemmas
 pub mod MatchLemmas
+pub mod NameSetLemmas

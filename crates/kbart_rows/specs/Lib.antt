@@ -3,7 +3,7 @@ pub mod Lines
 pub mod Identifiers
 pub mod Reading
 pub mod Filling
-pub mod ColumnNames
+pub mod NameSets
 pub mod KeyedHasher
 pub mod Hashing
 pub mod RandomKeys

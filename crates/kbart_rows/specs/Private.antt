@@ -6,3 +6,4 @@ pub mod Hashed
 pub mod Index
 pub mod Runs
 pub mod Normal
+pub mod NameSetTexts

@@ -9,7 +9,6 @@
 #![tactic(auto)]
 
 mod cells;
-mod column_names;
 mod columns;
 mod error;
 mod filling;
@@ -19,6 +18,7 @@ mod index;
 mod key_source;
 mod keys;
 mod matches;
+mod name_set;
 mod read;
 mod records;
 mod row_cursor;
@@ -28,7 +28,6 @@ mod table;
 mod tabs;
 
 pub use cells::{cell_count, cell_in};
-pub use column_names::ColumnNames;
 pub use csv::Reader;
 pub use error::TableError;
 pub use identifier::normalised;
@@ -37,6 +36,7 @@ pub use kev_read::Request;
 pub use key_source::{KeySource, NoKeys, SystemKeys};
 pub use keys::Keys;
 pub use matches::Matches;
+pub use name_set::NameSet;
 pub use read::{MAX_ROW_BYTES, MAX_ROWS, MAX_TABLE_BYTES, tab_separated_reader};
 pub use row_cursor::RowCursor;
 pub use table::Table;

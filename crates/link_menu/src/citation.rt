@@ -1,11 +1,11 @@
 //! What is searched for in all targets.
 
 ghost use Rattle.std.specs.Prelude.{◌≡◌, IfOk};
-ghost use Rattle.kbart_rows.specs.ColumnNames.{has};
+ghost use Rattle.kbart_rows.specs.NameSets.{has};
 ghost use Rattle.row_scope.specs.RequestValues.{IsApart};
 ghost use Rattle.registry.specs.Entries.{matching_rows_of};
 
-use kbart_rows::{ColumnNames, Ids, Keys, Matches};
+use kbart_rows::{Ids, Keys, Matches, NameSet};
 use kev_read::Request;
 use registry::Target;
 use row_scope::RequestValues;
@@ -39,11 +39,11 @@ impl<'a> Citation<'a> {
     pub(crate) fn new(
         alloc: Global,
         request: &'a Request,
-        columns: &ColumnNames,
+        columns: &NameSet,
         keys: Keys,
     ) -> Result<Citation<'a>, AllocError>
         ensures pairs { IfOk result (λ citation. citation.pairs ≡ request.now.pairs) }
-        ensures apart { IfOk result (λ citation. IsApart citation (has columns.now)) }
+        ensures apart { IfOk result (λ citation. IsApart citation (has columns.now.names)) }
     {
         let values = RequestValues::new(alloc, request, columns)?;
         let ids = Ids::keyed(alloc, request, keys)?;

@@ -32,15 +32,13 @@ mod searches;
 mod target_search;
 
 pub use interleaved_runs::{Blind, Fate, Shown, Watch, play, round, round_over, turn_all};
-pub use kbart_rows::{ColumnNames, Table};
+pub use kbart_rows::{NameSet, Table};
 pub use kev_read::Request;
 pub use menu::{Menu, MenuEntry, Resolution, Text, is_web_link};
 pub use registry::{AddError, AddErrorKind, MAX_TARGETS, Registry, Target};
 pub use registry_menus::RegistryMenus;
 pub use resolver::{resolve, resolve_watched};
-pub use row_scope::{
-    KnownValues, NameColumns, NameNumbers, RequestValues, RowScope, TargetRequest,
-};
+pub use row_scope::{KnownValues, NameColumns, RequestValues, RowScope, TargetRequest};
 pub use target_vars::{Env, Scope};
 pub use verified_runs::Run;
 pub use verifier::Verified;

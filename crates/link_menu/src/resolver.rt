@@ -57,8 +57,8 @@ pub fn resolve_watched<'r, W: Watch>(
     matching_rows_rise();
     let targets = registry.targets();
     let citation = Citation::new(alloc, request, registry.columns(), keys_of(targets))?;
-    let (numbers, names) = registry.names();
-    let begun = Searches::begin(alloc, targets, numbers, names, &citation)?;
+    let (numbered, names) = registry.names();
+    let begun = Searches::begin(alloc, targets, numbered, names, &citation)?;
     let Searches { held, mut searches } = begun;
     while is_any_open(&searches) {
         try_next_rows(alloc, searches.as_mut_slice(), watch)?;

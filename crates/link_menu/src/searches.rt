@@ -4,15 +4,16 @@ ghost use Rattle.std.specs.Prelude.{◌≡◌, ◌++◌, ◌∷◌, [], All, IfO
 ghost use Rattle.std.specs.Option.{option_map_or};
 ghost use Rattle.row_scope.specs.RequestValues.{IsApartFrom};
 ghost use Rattle.menu.specs.declared.entry.Resolution.TheVariants.{NoRow};
-ghost use Rattle.registry.specs.Targets.{AreAllNames, AreNamesOf};
+ghost use Rattle.registry.specs.Names.{AreAllNames, AreNamesOf};
 ghost use Rattle.link_menu.specs.Private.Held.{entries_with, has_row, held};
 ghost use Rattle.link_menu.specs.Private.Searches as spec;
 
 use crate::citation::Citation;
 use crate::target_search::TargetSearch;
+use kbart_rows::NameSet;
 use menu::{Menu, MenuEntry, Resolution};
 use registry::Target;
-use row_scope::{KnownValues, NameColumns, NameNumbers};
+use row_scope::{KnownValues, NameColumns};
 use std::alloc::{AllocError, Global};
 
 /// The searches of the targets that have a row with the title.
@@ -25,23 +26,23 @@ pub(crate) struct Searches<'a> {
 }
 
 impl<'a> Searches<'a> {
-    /// Searches that have tried no row, of targets with these names and their numbers.
+    /// Searches that have tried no row, of targets whose codes have these names, some of which are numbered.
     ///
     /// `AllocError` if an allocation failed.
     pub(crate) fn begin(
         alloc: Global,
         targets: &'a [Target],
-        numbers: &'a NameNumbers,
+        numbered: &'a NameSet,
         names: &'a [NameColumns],
         citation: &'a Citation<'a>,
     ) -> Result<Searches<'a>, AllocError>
         requires apart { All (λ target. IsApartFrom citation.now target.table.header) targets.now }
-        requires names { AreAllNames numbers.now targets.now names.now }
+        requires names { AreAllNames numbered.now.names targets.now names.now }
         ensures held { IfOk result (λ s. s.held.items ≡ map (has_row citation.now.pairs) targets.now) }
         ensures searches { IfOk result
             (λ s. s.searches.items ≡ map (spec.started citation.now) (held citation.now.pairs targets.now)) }
     {
-        let mut known = KnownValues::new(alloc, &citation.values, numbers)?;
+        let mut known = KnownValues::new(alloc, &citation.values, numbered)?;
         let mut all = Searches {
             held: Vec::with_capacity(alloc, targets.len())?,
             searches: Vec::new(alloc),
@@ -62,7 +63,7 @@ impl<'a> Searches<'a> {
         known: &mut KnownValues<'a>,
     ) -> Result<(), AllocError>
         requires apart { IsApartFrom citation.now target.now.table.header }
-        requires names { AreNamesOf known.old.numbers target.now names.now }
+        requires names { AreNamesOf known.old.numbered target.now names.now }
         requires known { known.old.request ≡ citation.now }
         ensures held { OnOk result
             (self.new.held.items ≡ self.old.held.items ++ has_row citation.now.pairs target.now ∷ []) }

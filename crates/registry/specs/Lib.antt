@@ -1,4 +1,5 @@
 pub mod Targets
+pub mod Names
 pub mod RowEnvironments
 pub mod Entries
 pub mod MenuLinks

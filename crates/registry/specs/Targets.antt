@@ -1,16 +1,11 @@
 -- Targets, and which of them belong together in a registry.
 use Rattle.std.specs.Prelude.{◌≡◌, ◌≢◌, ◌≤◌, Bool, false, List, length, All}
-use Rattle.std.specs.List.{AllPairs, AllZip, list_any}
+use Rattle.std.specs.List.{AllPairs, list_any}
 use Rattle.std.specs.Str.{bytes_eq}
 use Rattle.text_model.specs.Texts.{Text}
 use Rattle.code_model.specs.Code.{Code}
 use Rattle.machine_model.specs.Safe.{IsSafe}
 use Rattle.kbart_rows.specs.Cells.{Holdings}
-use Rattle.kbart_rows.specs.declared.column_names.ColumnNames.{ColumnNames}
-use Rattle.row_scope.specs.RequestValues.{AreAmong}
-use Rattle.row_scope.specs.NameNumbers.{Numbering, AreOwnNumbers}
-use Rattle.row_scope.specs.NameColumns.{AreNameColumns}
-use Rattle.row_scope.specs.declared.name_columns.NameColumns.{NameColumns}
 use Rattle.menu.specs.Contained.{IsTargetName}
 use Rattle.registry.specs.declared.registry.TheConstants.{MAX_TARGETS}
 
@@ -30,19 +25,6 @@ pub record IsRegistry (targets : List TargetValue) : Type 0 where
   pub named : All (λ target. IsTargetName target.name) targets
   pub safe : All (λ target. IsSafe target.code) targets
   pub once : AllPairs (λ a b. a.name ≢ b.name) targets
-
--- the columns of each target's table are among these
-abbrev pub AreAllAmong : ColumnNames → List TargetValue → Type 0
-AreAllAmong columns targets = All (λ target. AreAmong columns target.table.header) targets
-
--- the columns and the own numbers of the names of a target's code
-pub record AreNamesOf (numbers : Numbering) (target : TargetValue) (names : NameColumns) : Type 0 where
-  pub columns : AreNameColumns target.code target.table.header names
-  pub own : AreOwnNumbers numbers target.code names.numbers.items
-
--- the same of each target
-abbrev pub AreAllNames : Numbering → List TargetValue → List NameColumns → Type 0
-AreAllNames numbers targets names = AllZip (AreNamesOf numbers) targets names
 
 -- one more target may have the name
 pub record IsFreeName (targets : List TargetValue) (name : Text) : Type 0 where

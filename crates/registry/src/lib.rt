@@ -4,6 +4,7 @@
 mod error;
 pub mod laws;
 mod name;
+mod names;
 mod registry;
 mod target;
 

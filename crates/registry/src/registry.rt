@@ -1,23 +1,19 @@
 //! The registry of all targets.
 
-ghost use Rattle.std.specs.Prelude.{◌≡◌, ◌++◌, ◌∷◌, [], IfErr, IfOk, MatchOption, OnErr, OnOk, false, string_bytes};
-ghost use Rattle.std.specs.Prelude.{if◌then◌else◌, is_ok, true};
+ghost use Rattle.std.specs.Prelude.{◌≡◌, ◌++◌, ◌∷◌, [], IfErr, IfOk, MatchOption, OnErr, OnOk, string_bytes};
+ghost use Rattle.std.specs.Prelude.{if◌then◌else◌, is_ok};
 ghost use Rattle.registry.specs.Targets as spec;
-ghost use Rattle.text_model.specs.Texts.{Text};
-ghost use Rattle.kbart_rows.specs.ColumnNames.{has};
-ghost use Rattle.row_scope.specs.NameNumbers.{AreKept, AreOwnNumbers};
-ghost use Rattle.row_scope.specs.NameColumns.{AreNameColumns};
-ghost use Rattle.row_scope.specs.RequestValues.{AreAmong};
-ghost use Rattle.registry.specs.Targets.{IsRegistry, AreAllAmong, AreAllNames};
+ghost use Rattle.registry.specs.Targets.{IsRegistry};
+ghost use Rattle.registry.specs.Names.{AreAllAmong, AreAllNames, AreKeysOfFirst, column_names, numbered_names};
 ghost use Rattle.registry.specs.Refusals.{IsAddRefusal, MayBeAdded};
 
 use crate::error::{AddError, AddErrorKind};
 use crate::name::is_target_name;
+use crate::names::Names;
 use crate::target::Target;
-use code_file::Code;
-use kbart_rows::{ColumnNames, Keys, Table};
-use row_scope::{NameColumns, NameNumbers};
-use std::alloc::{AllocError, Global};
+use kbart_rows::{Keys, NameSet, Table};
+use row_scope::NameColumns;
+use std::alloc::Global;
 use std::marker::Model;
 use verifier::Verified;
 
@@ -28,26 +24,23 @@ pub const MAX_TARGETS: usize = 256;
 #[derive(Drop)]
 pub struct Registry {
     alloc: Global,
-    // The names of the columns of all tables.
-    columns: ColumnNames,
-    // The numbers of the names of all codes.
-    numbers: NameNumbers,
+    names: Names,
     targets: Vec<Target>,
     // For each target, the columns and the numbers of the names of its code.
-    names: Vec<NameColumns>,
+    places: Vec<NameColumns>,
 }
 
 impl Model for Registry {
     ghost use Rattle.std.specs.Prelude.{List};
-    ghost use Rattle.registry.specs.Targets.{TargetValue, IsRegistry, AreAllAmong, AreAllNames};
+    ghost use Rattle.registry.specs.Targets.{TargetValue, IsRegistry};
+    ghost use Rattle.registry.specs.Names.{AreNames};
 
     ghost Value = { List TargetValue };
 
     ghost view = { λ registry. registry.targets.items };
 
     ghost invariant = { λ registry. IsRegistry registry.targets.items
-        × AreAllAmong registry.columns registry.targets.items
-        × AreAllNames registry.numbers registry.targets.items registry.names.items };
+        × AreNames registry.targets.items registry.names.columns registry.names.numbered registry.places.items };
 }
 
 impl Registry {
@@ -58,10 +51,9 @@ impl Registry {
     {
         Registry {
             alloc,
-            columns: ColumnNames::new(alloc, Keys::new(0, 0)),
-            numbers: NameNumbers::new(alloc, Keys::new(0, 0)),
+            names: Names::new(alloc, Keys::new(0, 0)),
             targets: Vec::new(alloc),
-            names: Vec::new(alloc),
+            places: Vec::new(alloc),
         }
     }
 
@@ -73,19 +65,23 @@ impl Registry {
         &self.targets
     }
 
-    /// The names of the columns of all tables, and perhaps of tables that were rejected.
-    pub fn columns(&self) -> &ColumnNames
-        ensures { AreAllAmong result.now self.now }
+    /// The names of the columns of all tables.
+    pub fn columns(&self) -> &NameSet
+        ensures names { result.now.names ≡ column_names self.now }
+        ensures keys { AreKeysOfFirst result.now.keys self.now }
+        ensures among { AreAllAmong result.now.names self.now }
     {
-        &self.columns
+        &self.names.columns
     }
 
-    /// The numbers of the names of all codes, and perhaps of codes that were rejected; and for each target, the columns
-    /// and the numbers of the names of its code.
-    pub fn names(&self) -> (&NameNumbers, &[NameColumns])
-        ensures { AreAllNames result.0.now self.now result.1.now }
+    /// The names of all codes that have numbers; and for each target, the columns and the numbers of the names of its
+    /// code.
+    pub fn names(&self) -> (&NameSet, &[NameColumns])
+        ensures names { result.0.now.names ≡ numbered_names self.now }
+        ensures keys { AreKeysOfFirst result.0.now.keys self.now }
+        ensures places { AreAllNames result.0.now.names self.now result.1.now }
     {
-        (&self.numbers, &self.names)
+        (&self.names.numbered, &self.places)
     }
 
     /// Adds a target after the others.
@@ -110,14 +106,9 @@ impl Registry {
             });
         }
         let is_first = self.targets().is_empty();
-        let Ok(names) = names_of(
-            self.alloc,
-            &mut self.columns,
-            &mut self.numbers,
-            is_first,
-            code.code(),
-            &table,
-        ) else {
+        self.names.set_keys(self.alloc, is_first, table.keys());
+        let lens = self.names.lens();
+        let Ok(places) = self.names.add(self.alloc, code.code(), &table) else {
             return Err(AddError {
                 kind: AddErrorKind::NoMemory,
                 name,
@@ -126,9 +117,12 @@ impl Registry {
             });
         };
         let target = Target::new(name, code, table);
-        match push_both(&mut self.targets, &mut self.names, target, names) {
+        match push_both(&mut self.targets, &mut self.places, target, places) {
             Ok(()) => Ok(()),
-            Err(target) => Err(AddError::new(AddErrorKind::NoMemory, target)),
+            Err(target) => {
+                self.names.truncate(lens);
+                Err(AddError::new(AddErrorKind::NoMemory, target))
+            }
         }
     }
 
@@ -146,50 +140,27 @@ impl Registry {
     }
 }
 
-/// The columns and the numbers of a code's names over a table. The names of all columns are added to `columns`, and
-/// those of the code to `numbers`; both have the keys of the first table.
-fn names_of(
-    alloc: Global,
-    columns: &mut ColumnNames,
-    numbers: &mut NameNumbers,
-    is_first: bool,
-    code: &Code,
-    table: &Table,
-) -> Result<NameColumns, AllocError>
-    ensures names { IfOk result (AreNameColumns code.now table.now.header) }
-    ensures own { IfOk result (λ names. AreOwnNumbers numbers.new code.now names.numbers.items) }
-    ensures among { OnOk result (AreAmong columns.new table.now.header) }
-    ensures kept { is_first ≡ false → (name : Text) → has columns.old name ≡ true → has columns.new name ≡ true }
-    ensures numbers { is_first ≡ false → AreKept numbers.old numbers.new }
-{
-    if is_first {
-        *columns = ColumnNames::new(alloc, table.keys());
-        *numbers = NameNumbers::new(alloc, table.keys());
-    }
-    columns.add(alloc, table)?;
-    NameColumns::new(alloc, code, table, numbers)
-}
-
-/// Adds a target and the names of its code after the others. If an allocation failed, the target is given back.
+/// Adds a target, and the places of its code's names, after the others. If an allocation failed, the target is given
+/// back.
 fn push_both(
     targets: &mut Vec<Target>,
-    all_names: &mut Vec<NameColumns>,
+    all_places: &mut Vec<NameColumns>,
     target: Target,
-    names: NameColumns,
+    places: NameColumns,
 ) -> Result<(), Target>
     ensures targets { targets.new.items
         ≡ (if is_ok result then targets.old.items ++ target ∷ [] else targets.old.items) }
-    ensures names { all_names.new.items
-        ≡ (if is_ok result then all_names.old.items ++ names ∷ [] else all_names.old.items) }
+    ensures places { all_places.new.items
+        ≡ (if is_ok result then all_places.old.items ++ places ∷ [] else all_places.old.items) }
     ensures back { IfErr result (λ given. given ≡ target) }
 {
-    if all_names.push(names).is_err() {
+    if all_places.push(places).is_err() {
         return Err(target);
     }
     match targets.push(target) {
         Ok(()) => Ok(()),
         Err(failed) => {
-            all_names.pop();
+            all_places.pop();
             Err(failed.value)
         }
     }

@@ -2,7 +2,7 @@
 
 ghost use Rattle.std.specs.Prelude.{◌≡◌, IfOk, string_bytes};
 ghost use Rattle.row_scope.specs.RequestValues.{IsApartFrom};
-ghost use Rattle.registry.specs.Targets.{AreNamesOf};
+ghost use Rattle.registry.specs.Names.{AreNamesOf};
 
 use kbart_rows::Table;
 use row_scope::{KnownValues, NameColumns, TargetRequest};
@@ -64,7 +64,7 @@ impl Target {
         names: &'a NameColumns,
         known: &mut KnownValues<'a>,
     ) -> Result<TargetRequest<'a>, AllocError>
-        requires names { AreNamesOf known.old.numbers self.now names.now }
+        requires names { AreNamesOf known.old.numbered self.now names.now }
         requires apart { IsApartFrom known.old.request self.now.table.header }
         ensures ok { IfOk result (λ t. (t.code ≡ self.now.code) × (t.table ≡ self.now.table)
             × (t.request ≡ known.old.request)) }

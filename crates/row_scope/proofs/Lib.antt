@@ -10,5 +10,5 @@ mod HiddenLemmas
 mod SumLemmas
 mod CellLemmas
 mod OverLemmas
-mod NumberLemmas
+pub mod NumberLemmas
 mod KnownLemmas

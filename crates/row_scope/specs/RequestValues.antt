@@ -6,8 +6,7 @@ use Rattle.environment_model.specs.Environment.{members_of}
 use Rattle.target_vars.specs.EnvValue.{EnvValue, IsWithin, piece_at}
 use Rattle.kev_read.specs.Pairs.{KeyValue, all_of, value_bytes}
 use Rattle.kbart_rows.specs.Cells.{Row, column_of}
-use Rattle.kbart_rows.specs.ColumnNames.{has}
-use Rattle.kbart_rows.specs.declared.column_names.ColumnNames.{ColumnNames}
+use Rattle.kbart_rows.specs.NameSets.{has}
 use Rattle.kev_read.specs.declared.read.TheConstants.{MAX_PAIRS, MAX_QUERY_BYTES}
 use Rattle.row_laws.specs.Shadowing.{first_bytes}
 
@@ -19,11 +18,11 @@ pub record RequestValue : Type 0 where
   pub meets : Bool
 
 -- the header's names are among those of all columns
-abbrev pub AreAmong : ColumnNames → Row → Type 0
+abbrev pub AreAmong : List Text → Row → Type 0
 AreAmong columns header = (name : Text) → is_some (column_of header name) ≡ true → has columns name ≡ true
 
 -- a key of the request is the name of a column
-abbrev pub has_key_among : ColumnNames → List KeyValue → Bool
+abbrev pub has_key_among : List Text → List KeyValue → Bool
 has_key_among columns pairs = list_any (λ pair. has columns pair.key) pairs
 
 -- if `meets` is false, the request has no key with one of these names

@@ -5,12 +5,11 @@ use Rattle.code_model.specs.Code.{Code}
 use Rattle.target_vars.specs.EnvValue.{EnvValue}
 use Rattle.kbart_rows.specs.Cells.{Holdings}
 use Rattle.row_scope.specs.RequestValues.{RequestValue}
-use Rattle.row_scope.specs.NameNumbers.{Numbering}
 
--- a request, and the numbers by which its known names are found
+-- a request, and the names that have numbers, by which what is known about them is found
 pub record KnownValue : Type 0 where
   pub request : RequestValue
-  pub numbers : Numbering
+  pub numbered : List Text
 
 -- the code and the table of a target, and the request
 pub record TargetRequestValue : Type 0 where

@@ -8,8 +8,8 @@ ghost use Rattle.row_scope.specs.Bindings.{IsBound, laid_in};
 ghost use Rattle.row_scope.specs.NameNumbers.{IsOwn};
 
 use crate::binding::Binding;
-use crate::name_numbers::NameNumbers;
 use crate::request_values::RequestValues;
+use kbart_rows::NameSet;
 use std::alloc::{AllocError, Global};
 use std::marker::Model;
 
@@ -21,11 +21,11 @@ pub struct KnownName {
 }
 
 /// A request, and what the names are bound to that were already looked up in it. Contracts see the request and the
-/// numbers of the names.
+/// names that have numbers.
 #[derive(Drop)]
 pub struct KnownValues<'a> {
     request: &'a RequestValues<'a>,
-    numbers: &'a NameNumbers,
+    numbered: &'a NameSet,
     // Indexed by the numbers of names.
     names: Vec<Option<KnownName>>,
 }
@@ -36,10 +36,10 @@ impl<'a> Model for KnownValues<'a> {
 
     ghost Value = { KnownValue };
 
-    ghost view = { λ known. record { request = known.request.now; numbers = known.numbers.now } };
+    ghost view = { λ known. record { request = known.request.now; numbered = known.numbered.now.names } };
 
     ghost invariant = { λ known. AreKnown
-        (record { request = known.request.now; numbers = known.numbers.now }) known.names.items };
+        (record { request = known.request.now; numbered = known.numbered.now.names }) known.names.items };
 }
 
 impl<'a> KnownValues<'a> {
@@ -49,14 +49,14 @@ impl<'a> KnownValues<'a> {
     pub fn new(
         alloc: Global,
         request: &'a RequestValues<'a>,
-        numbers: &'a NameNumbers,
+        numbered: &'a NameSet,
     ) -> Result<KnownValues<'a>, AllocError>
-        ensures { IfOk result (λ known. (known.request ≡ request.now) × (known.numbers ≡ numbers.now)) }
+        ensures { IfOk result (λ known. (known.request ≡ request.now) × (known.numbered ≡ numbered.now.names)) }
     {
-        let names: Vec<Option<KnownName>> = vec![in alloc; None; numbers.len()]?;
+        let names: Vec<Option<KnownName>> = vec![in alloc; None; numbered.len()]?;
         Ok(KnownValues {
             request,
-            numbers,
+            numbered,
             names,
         })
     }
@@ -71,7 +71,7 @@ impl<'a> KnownValues<'a> {
     /// What a name is bound to in the request without a row, as a list or as a text. A name without a number of its own
     /// is looked up anew.
     pub(crate) fn binding(&mut self, number: Option<usize>, name: &str, is_list: bool) -> Binding
-        requires { IsOwn self.old.numbers name.now number }
+        requires { IsOwn self.old.numbered name.now number }
         ensures bound { (declared : List Text) → is_list ≡ lists.is_list declared name.now
             → IsBound (laid_in self.old.request.values (requested declared self.old.request.pairs)) name.now result }
         ensures same { self.new ≡ self.old }

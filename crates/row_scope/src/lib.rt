@@ -22,7 +22,6 @@ mod target_request;
 
 pub use known_values::KnownValues;
 pub use name_columns::NameColumns;
-pub use name_numbers::NameNumbers;
 pub use request_values::RequestValues;
 pub use row_scope::RowScope;
 pub use target_request::TargetRequest;

@@ -1,14 +1,14 @@
 //! A code over a table: which columns have its names, and which of its names are lists.
 
-ghost use Rattle.std.specs.Prelude.{◌≡◌, ◌<◌, All, IfOk, length};
+ghost use Rattle.std.specs.Prelude.{◌≡◌, ◌<◌, All, IfOk, OnErr, OnOk, length};
 ghost use Rattle.environment_model.specs.Lists as spec;
 ghost use Rattle.row_scope.specs.RowEnvironments.{lists_of};
-ghost use Rattle.row_scope.specs.NameNumbers.{AreKept, AreOwnNumbers};
+ghost use Rattle.row_scope.specs.NameNumbers.{AreKept, AreOwnNumbers, with_code_names};
 ghost use Rattle.row_scope.specs.NameColumns.{AreColumns, AreMarked, AreNameColumns, AreOwnLists, names_at};
 
-use crate::name_numbers::NameNumbers;
+use crate::name_numbers::numbers_of;
 use code_file::Code;
-use kbart_rows::Table;
+use kbart_rows::{NameSet, Table};
 use kev_read::is_standard_list;
 use std::alloc::{AllocError, Global};
 
@@ -34,24 +34,28 @@ pub struct NameColumns {
 }
 
 impl NameColumns {
-    /// The columns of a table that have names of a code. Names without a number get the next ones.
+    /// The columns of a table that have names of a code. Names of the code that have no number yet are added to the
+    /// numbered ones, up to 256.
     ///
-    /// `AllocError` if an allocation failed; some of the names may then have numbers already.
+    /// `AllocError` if an allocation failed; the numbered names are then as they were.
     pub fn new(
         alloc: Global,
         code: &Code,
         table: &Table,
-        numbers: &mut NameNumbers,
+        numbered: &mut NameSet,
     ) -> Result<NameColumns, AllocError>
         ensures columns { IfOk result (AreNameColumns code.now table.now.header) }
-        ensures own { IfOk result (λ names. AreOwnNumbers numbers.new code.now names.numbers.items) }
-        ensures kept { AreKept numbers.old numbers.new }
+        ensures own { IfOk result (λ names. AreOwnNumbers numbered.new.names code.now names.numbers.items) }
+        ensures names { OnOk result (numbered.new.names ≡ with_code_names numbered.old.names code.now) }
+        ensures keys { numbered.new.keys ≡ numbered.old.keys }
+        ensures kept { AreKept numbered.old.names numbered.new.names }
+        ensures err { OnErr result (numbered.new ≡ numbered.old) }
     {
         Ok(NameColumns {
             columns: columns_of(alloc, code, table)?,
             lists: own_lists(alloc, code)?,
             marks: marks_of(alloc, code)?,
-            numbers: numbers.of(alloc, code)?,
+            numbers: numbers_of(alloc, numbered, code)?,
         })
     }
 }

@@ -1,84 +1,71 @@
 //! Numbers of the names of many codes.
 
-ghost use Rattle.std.specs.Prelude.{◌≡◌, [], IfOk, length};
-ghost use Rattle.row_scope.specs.NameNumbers.{AreApart, AreKept, AreOwnNumbers, IsOwn};
+ghost use Rattle.std.specs.Prelude.{◌≡◌, IfOk, OnErr, OnOk};
+ghost use Rattle.row_scope.specs.NameNumbers.{AreKept, AreOwnNumbers, IsOwn, with_code_names, with_number};
+ghost use Rattle.row_scope.specs.Private.Kept.{IsExtended};
 
 use code_file::Code;
-use kbart_rows::Keys;
+use kbart_rows::NameSet;
 use std::alloc::{AllocError, Global};
-use std::collections::HashMap;
-use std::marker::Model;
 
-/// How many names can have their own numbers.
+/// How many names can have numbers.
 const MAX_NUMBERS: usize = 256;
 
-/// A number for each name of many codes, so that what is known about a name in a request is found without a search. The
-/// first names have their own numbers, from 0; all others have none. Contracts see the number of each name.
-#[derive(Drop)]
-pub struct NameNumbers {
-    numbers: HashMap<String, usize, Keys>,
+/// The number of each name of a code, by which what is known about the name in a request is found without a search: how
+/// many of the numbered names come before it. Names that are not among these are added, up to 256; others have no
+/// number.
+///
+/// `AllocError` if an allocation failed; the numbered names are then as they were.
+pub(crate) fn numbers_of(
+    alloc: Global,
+    numbered: &mut NameSet,
+    code: &Code,
+) -> Result<Vec<Option<usize>>, AllocError>
+    ensures own { IfOk result (λ numbers. AreOwnNumbers numbered.new.names code.now numbers.items) }
+    ensures names { OnOk result (numbered.new.names ≡ with_code_names numbered.old.names code.now) }
+    ensures keys { numbered.new.keys ≡ numbered.old.keys }
+    ensures kept { AreKept numbered.old.names numbered.new.names }
+    ensures err { OnErr result (numbered.new ≡ numbered.old) }
+{
+    let len = numbered.len();
+    let numbers = each_number(alloc, numbered, code);
+    if numbers.is_err() {
+        numbered.truncate(len);
+    }
+    numbers
 }
 
-impl Model for NameNumbers {
-    ghost use Rattle.std.specs.Prelude.{map, string_bytes};
-    ghost use Rattle.row_scope.specs.NameNumbers.{Numbering};
-    ghost use Rattle.row_scope.specs.Private.Kept.{IsNumbering};
-
-    ghost Value = { Numbering };
-
-    ghost view = { λ n. map (λ entry. (string_bytes entry.0, entry.1)) n.numbers.entries };
-
-    ghost invariant = { λ n. IsNumbering (map (λ entry. (string_bytes entry.0, entry.1)) n.numbers.entries) };
+/// The same; if an allocation failed, some of the names may have been added.
+fn each_number(
+    alloc: Global,
+    numbered: &mut NameSet,
+    code: &Code,
+) -> Result<Vec<Option<usize>>, AllocError>
+    ensures own { IfOk result (λ numbers. AreOwnNumbers numbered.new.names code.now numbers.items) }
+    ensures names { OnOk result (numbered.new.names ≡ with_code_names numbered.old.names code.now) }
+    ensures keys { numbered.new.keys ≡ numbered.old.keys }
+    ensures after { IsExtended numbered.old.names numbered.new.names }
+{
+    let mut numbers = Vec::with_capacity(alloc, code.names().len())?;
+    for name in code.names() {
+        numbers.push(number(alloc, numbered, name.text.as_str())?)?;
+    }
+    Ok(numbers)
 }
 
-impl NameNumbers {
-    /// No name has a number yet.
-    pub fn new(alloc: Global, keys: Keys) -> NameNumbers
-        ensures { result ≡ [] }
-    {
-        NameNumbers {
-            numbers: HashMap::with_hasher(alloc, keys),
-        }
+fn number(alloc: Global, numbered: &mut NameSet, name: &str) -> Result<Option<usize>, AllocError>
+    ensures own { IfOk result (IsOwn numbered.new.names name.now) }
+    ensures names { OnOk result (numbered.new.names ≡ with_number numbered.old.names name.now) }
+    ensures keys { numbered.new.keys ≡ numbered.old.keys }
+    ensures err { OnErr result (numbered.new ≡ numbered.old) }
+{
+    if let Some(number) = numbered.position(name) {
+        return Ok(Some(number));
     }
-
-    /// How many names have their own numbers.
-    pub fn len(&self) -> usize
-        ensures count { result ≡ length self.now }
-        ensures apart { AreApart self.now }
-    {
-        self.numbers.len()
+    let number = numbered.len();
+    if number >= MAX_NUMBERS {
+        return Ok(None);
     }
-
-    /// The number of each name of a code, in their order. Names without a number get the next ones.
-    ///
-    /// `AllocError` if an allocation failed; some of the names may then have numbers already.
-    pub(crate) fn of(
-        &mut self,
-        alloc: Global,
-        code: &Code,
-    ) -> Result<Vec<Option<usize>>, AllocError>
-        ensures own { IfOk result (λ numbers. AreOwnNumbers self.new code.now numbers.items) }
-        ensures kept { AreKept self.old self.new }
-    {
-        let mut numbers = Vec::with_capacity(alloc, code.names().len())?;
-        for name in code.names() {
-            numbers.push(self.number(alloc, name.text.as_str())?)?;
-        }
-        Ok(numbers)
-    }
-
-    fn number(&mut self, alloc: Global, name: &str) -> Result<Option<usize>, AllocError>
-        ensures own { IfOk result (IsOwn self.new name.now) }
-        ensures kept { AreKept self.old self.new }
-    {
-        if let Some(number) = self.numbers.get(name) {
-            return Ok(Some(*number));
-        }
-        let number = self.numbers.len();
-        if number >= MAX_NUMBERS {
-            return Ok(None);
-        }
-        self.numbers.insert(String::from_str(alloc, name)?, number)?;
-        Ok(Some(number))
-    }
+    numbered.add(alloc, name)?;
+    Ok(Some(number))
 }

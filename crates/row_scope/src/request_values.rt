@@ -12,11 +12,11 @@ ghost use Rattle.row_scope.specs.Bindings.{IsBound, laid_in};
 ghost use Rattle.row_scope.specs.RequestValues.{AreValues, IsApart, AreValuesAt, bytes_of_key, members_of_key};
 ghost use Rattle.row_scope.specs.RequestValues.{has_key_among};
 ghost use Rattle.kev_read.specs.Pairs.{all_of};
-ghost use Rattle.kbart_rows.specs.ColumnNames.{has};
+ghost use Rattle.kbart_rows.specs.NameSets.{has};
 ghost use Rattle.row_scope.specs.Private.Kept.{AreEnds};
 
 use crate::binding::Binding;
-use kbart_rows::ColumnNames;
+use kbart_rows::NameSet;
 use kev_read::{KeyValues, Request};
 use row_laws::{requests_by_keys, sums_by_values};
 use std::alloc::{AllocError, Global};
@@ -56,11 +56,11 @@ impl<'a> RequestValues<'a> {
     pub fn new(
         alloc: Global,
         request: &'a Request,
-        columns: &ColumnNames,
+        columns: &NameSet,
     ) -> Result<RequestValues<'a>, AllocError>
         ensures pairs { IfOk result (λ values. values.pairs ≡ request.now.pairs) }
-        ensures meets { IfOk result (λ values. values.meets ≡ has_key_among columns.now request.now.pairs) }
-        ensures apart { IfOk result (λ values. IsApart values (has columns.now)) }
+        ensures meets { IfOk result (λ values. values.meets ≡ has_key_among columns.now.names request.now.pairs) }
+        ensures apart { IfOk result (λ values. IsApart values (has columns.now.names)) }
     {
         let _known = request.pairs();
         let values = request.values_by_key(alloc)?;
@@ -176,12 +176,15 @@ impl<'a> RequestValues<'a> {
 
 /// Whether a key of a request is the name of one of the columns. It looks each column's name up in the request, or each
 /// key among the columns, whichever are fewer.
-fn names_a_column(request: &Request, values: &KeyValues, columns: &ColumnNames) -> bool
+fn names_a_column(request: &Request, values: &KeyValues, columns: &NameSet) -> bool
     requires { (key : Text) → members_of values.now.entries key ≡ all_of request.now.pairs key }
-    ensures { result ≡ has_key_among columns.now request.now.pairs }
+    ensures { result ≡ has_key_among columns.now.names request.now.pairs }
 {
     if columns.len() < request.pairs() {
-        columns.iter().any(|name| is_key(values, name.as_str()))
+        columns
+            .as_slice()
+            .iter()
+            .any(|name| is_key(values, name.as_str()))
     } else {
         any_key_is_a_column(request, columns)
     }
@@ -195,8 +198,8 @@ fn is_key(values: &KeyValues, name: &str) -> bool
 }
 
 /// Whether a key of a request is the name of one of the columns, which are searched for each key.
-fn any_key_is_a_column(request: &Request, columns: &ColumnNames) -> bool
-    ensures { result ≡ has_key_among columns.now request.now.pairs }
+fn any_key_is_a_column(request: &Request, columns: &NameSet) -> bool
+    ensures { result ≡ has_key_among columns.now.names request.now.pairs }
 {
     for index in 0..request.pairs() {
         if columns.contains(request.pair(index).0) {

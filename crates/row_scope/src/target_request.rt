@@ -65,7 +65,7 @@ impl<'a> TargetRequest<'a> {
         known: &mut KnownValues<'a>,
     ) -> Result<TargetRequest<'a>, AllocError>
         requires names { AreNameColumns code.now table.now.header names.now }
-        requires numbers { AreOwnNumbers known.old.numbers code.now names.now.numbers.items }
+        requires numbers { AreOwnNumbers known.old.numbered code.now names.now.numbers.items }
         requires columns { IsApartFrom known.old.request table.now.header }
         ensures ok { IfOk result (λ t. (t.code ≡ code.now) × (t.table ≡ table.now) × (t.request ≡ known.old.request)) }
         ensures same { known.new ≡ known.old }
@@ -169,7 +169,7 @@ fn bind_names(
 ) -> Result<(), AllocError>
     requires none { bindings.old.items ≡ [] }
     requires marks { AreMarked code.now names.now.marks.items }
-    requires numbers { AreOwnNumbers known.old.numbers code.now names.now.numbers.items }
+    requires numbers { AreOwnNumbers known.old.numbered code.now names.now.numbers.items }
     ensures ok { OnOk result (AreBound
         (laid_in known.old.request.values (requested (lists_of code.now) known.old.request.pairs))
         (names_of code.now) bindings.new.items) }

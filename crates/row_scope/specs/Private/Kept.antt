@@ -1,5 +1,5 @@
 -- What is kept of a request, of a request at a target, and of a row.
-use Rattle.std.specs.Prelude.{◌≡◌, ℕ, ◌+◌, ◌<◌, ◌≤◌, List, [], ◌&&◌, nat_lt, length, take, sum_by, get_or, slice_get, Option, Some, None, if◌then◌else◌}
+use Rattle.std.specs.Prelude.{◌≡◌, ℕ, ◌+◌, ◌≤◌, List, [], ◌++◌, ◌&&◌, nat_lt, length, take, sum_by, get_or, slice_get, Option, Some, None, if◌then◌else◌}
 use Rattle.std.specs.Prelude.{is_some}
 use Rattle.std.specs.List.{filter_map, range_with_len}
 use Rattle.text_model.specs.Texts.{Text}
@@ -13,7 +13,7 @@ use Rattle.row_laws.specs.Shadowing.{requested, requested_bytes, requested_membe
 use Rattle.row_scope.specs.RowEnvironments.{lists_of, names_of}
 use Rattle.row_scope.specs.Bindings.{AreBound, IsBound, laid_in}
 use Rattle.row_scope.specs.RequestValues.{RequestValue, AreValues}
-use Rattle.row_scope.specs.NameNumbers.{Numbering, AreApart, own_number}
+use Rattle.row_scope.specs.NameNumbers.{own_number}
 use Rattle.row_scope.specs.NameColumns.{AreNameColumns}
 use Rattle.row_scope.specs.RowValue.{KnownValue, TargetRequestValue}
 use Rattle.row_scope.specs.declared.binding.Binding.{Binding}
@@ -34,21 +34,19 @@ pub record IsRequest (request : RequestValue) (ends : List ℕ) (bytes members :
   pub all_bytes : bytes ≡ byte_count (requested [] request.pairs)
   pub all_members : members ≡ member_count (requested [] request.pairs)
 
--- names with the first numbers, each with its own
-pub record IsNumbering (numbers : Numbering) : Type 0 where
-  pub apart : AreApart numbers
-  pub below : (name : Text) (n : ℕ) → own_number numbers name ≡ Some n → n < length numbers
+-- names were added after these
+abbrev pub IsExtended : List Text → List Text → Type 0
+IsExtended old new = (rest : List Text) × (new ≡ old ++ rest)
 
 -- the name with this number is bound to this in the request without a row, if it is read so
 abbrev pub IsKnown : KnownValue → ℕ → KnownName → Type 0
 IsKnown known number k =
-    (name : Text) (declared : List Text) → own_number known.numbers name ≡ Some number → k.is_list ≡ is_list declared name
+    (name : Text) (declared : List Text) → own_number known.numbered name ≡ Some number → k.is_list ≡ is_list declared name
     → IsBound (laid_in known.request.values (requested declared known.request.pairs)) name k.binding
 
 -- names by their numbers
-pub record AreKnown (known : KnownValue) (names : List (Option KnownName)) : Type 0 where
-  pub apart : AreApart known.numbers
-  pub are : (number : ℕ) (k : KnownName) → slice_get names number ≡ Some (Some k) → IsKnown known number k
+abbrev pub AreKnown : KnownValue → List (Option KnownName) → Type 0
+AreKnown known names = (number : ℕ) (k : KnownName) → slice_get names number ≡ Some (Some k) → IsKnown known number k
 
 -- ---- a request at a target
 

@@ -4,7 +4,7 @@ use Rattle.std.specs.List.{list_any}
 use Rattle.interleaved_runs.specs.StepLists.{HasSeenAll, HasSeenSome}
 use Rattle.link_menu.specs.RowsByRound.{step_lists_in_all_rounds}
 use Rattle.registry.specs.Entries.{menu_of}
-use Rattle.registry.specs.Targets.{AreAllAmong, AreAllNames}
+use Rattle.registry.specs.Names.{AreAllAmong, AreAllNames}
 use Rattle.link_menu.specs.Private.Held.{has_row, held}
 use Rattle.link_menu.specs.Private.Searches.{ends_next, entry_so_far, is_open, started}
 use Rattle.link_menu.proofs.HeldLemmas.{same_step_lists, with_outcomes}
@@ -33,10 +33,10 @@ pub begin-requires : goal.begin-requires
 begin-requires g c =
     let targets = c.targets-targets.result.now in
     let requested = c.in_ok-citation.citation in
-    let among = subst (λ ts. AreAllAmong c.columns.result.now ts) (sym c.targets-targets.ensures.value) c.columns.ensures in
+    let among = subst (λ ts. AreAllAmong c.columns.result.now.names ts) (sym c.targets-targets.ensures.value) c.columns.ensures.among in
     record {
       apart = λ k d inside apart name has. c.in_ok-citation.ensures.apart apart name (among k d inside name has);
-      names = subst (λ ts. AreAllNames c.names.result.0.now ts c.names.result.1.now) (sym c.targets-targets.ensures.value) c.names.ensures;
+      names = subst (λ ts. AreAllNames c.names.result.0.now.names ts c.names.result.1.now) (sym c.targets-targets.ensures.value) c.names.ensures.places;
     }
 
 pub loop-searches-init : goal.loop-searches-init

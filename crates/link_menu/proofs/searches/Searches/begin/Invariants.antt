@@ -8,6 +8,6 @@ invariant-loop-target l = record {
   flags : l.all.held.items ≡ map (has_row l.citation.pairs) (take l.target-index l.targets);
   searches : l.all.searches.items ≡ map (started l.citation) (held l.citation.pairs (take l.target-index l.targets));
   known : l.known.request ≡ l.citation;
-  numbers : l.known.numbers ≡ l.numbers;
+  numbered : l.known.numbered ≡ l.numbered.names;
   many : length l.all.held.items ≡ l.target-index;
 }

@@ -1,53 +1,65 @@
-use Rattle.std.proofs.Common.{◌≡◌, ◌∙◌, ap, is_ok, subst, sym, length}
+use Rattle.std.proofs.Common.{◌≡◌, ◌∷◌, ◌++◌, [], string_bytes, length, take, ap, subst, sym, ◌∙◌}
 use Rattle.std.specs.Prelude.{◌==◌}
-use Rattle.machine_model.specs.Safe.{IsSafe}
+use Rattle.text_model.specs.Texts.{Text}
 use Rattle.code_model.specs.Code.{Code}
+use Rattle.kbart_rows.specs.declared.keys.Keys.{Keys}
 use Rattle.row_scope.specs.NameColumns.{AreNameColumns}
-use Rattle.row_scope.specs.NameNumbers.{AreOwnNumbers}
-use Rattle.row_scope.specs.RequestValues.{AreAmong}
-use Rattle.registry.specs.Targets.{AreNamesOf}
+use Rattle.row_scope.specs.NameNumbers.{AreOwnNumbers, with_code_names}
+use Rattle.registry.specs.Targets.{TargetValue}
+use Rattle.registry.specs.Names.{AreNamesOf}
 use Rattle.registry.specs.Refusals.{MayBeAdded}
-use Rattle.registry.proofs.OneMoreTarget.{after_adding, all_stay, among_after_adding, names_after_adding, names_stay}
+use Rattle.registry.specs.declared.names.Names.{Names}
+use Rattle.registry.proofs.OneMoreTarget.{AreKeyed, added, keyed, not_added}
+use Rattle.registry.proofs.registry.Registry.add.Goals.{In-Ok-push_both, After-new}
 use Rattle.registry.proofs.registry.Registry.add.Goals as goal
 
--- without memory for the names of a code, the targets stay
-pub invariant_of-self : goal.invariant_of-self
-invariant_of-self c =
-    let targets = c.self.inside.targets.items in
-    let is_first = c.is_empty-is_first.result in
-    let first = subst (λ ts. is_first ≡ (length ts == 0)) (c.targets.ensures.value ∙ sym c.self.view_is) c.is_empty-is_first.ensures in
-    let columns = all_stay targets c.self.inside.columns c.names_of.new.columns is_first first c.names_of.ensures.kept c.self.invariant.1 in
-    let names =
-    names_stay targets c.self.inside.names.items c.self.inside.numbers c.names_of.new.numbers is_first first c.names_of.ensures.numbers c.self.invariant.2 in
-    (c.self.invariant.0, columns, names)
+abbrev no_names : Keys → Names
+no_names keys = record { columns = record { names = []; keys = keys }; numbered = record { names = []; keys = keys } }
 
-pub invariant_of-self-2 : goal.invariant_of-self-2
-invariant_of-self-2 c =
-    let targets = c.self.inside.targets.items in
-    let target = c.new-target.result in
-    let safe : IsSafe target.code = subst IsSafe (sym (ap (λ t. t.code) c.new-target.ensures)) c.code.ensures.safe in
-    let seen : c.args.self.now ≡ targets = sym c.self.view_is in
-    let named : MayBeAdded c.args.self.now target.name =
-    subst (λ name. MayBeAdded c.args.self.now name) (c.as_str.ensures.value ∙ sym (ap (λ t. t.name) c.new-target.ensures)) c.in_default.ensures in
-    let may : MayBeAdded targets target.name = subst (λ ts. MayBeAdded ts target.name) seen named in
-    let its : AreAmong c.names_of.new.columns target.table.header = subst (λ t. AreAmong c.names_of.new.columns t.table.header) (sym c.new-target.ensures)
-    c.in-Ok.ensures.among in
-    let is_first = c.is_empty-is_first.result in
-    let first = subst (λ ts. is_first ≡ (length ts == 0)) (c.targets.ensures.value ∙ seen) c.is_empty-is_first.ensures in
-    let added = is_ok c.push_both.result in
-    let among =
-    among_after_adding targets target added c.push_both.new.targets.items c.self.inside.columns c.names_of.new.columns is_first
-    c.self.invariant.1 first c.names_of.ensures.kept its c.push_both.ensures.targets in
-    let its_names : AreNamesOf c.names_of.new.numbers target c.in-Ok.names =
-    subst (λ t. AreNamesOf c.names_of.new.numbers t c.in-Ok.names) (sym c.new-target.ensures)
-    (record {
-      columns = subst (λ (code : Code). AreNameColumns code c.args.table.header c.in-Ok.names) c.code.ensures.code c.in-Ok.ensures.names;
-      own = subst (λ (code : Code). AreOwnNumbers c.names_of.new.numbers code c.in-Ok.names.numbers.items) c.code.ensures.code c.in-Ok.ensures.own;
-    }) in
-    let names =
-    names_after_adding targets c.self.inside.names.items target c.in-Ok.names added c.push_both.new.targets.items
-    c.push_both.new.all_names.items c.names_of.new.numbers
-    (names_stay targets c.self.inside.names.items c.self.inside.numbers c.names_of.new.numbers is_first first c.names_of.ensures.numbers
-    c.self.invariant.2)
-    its_names c.push_both.ensures.targets c.push_both.ensures.names in
-    (after_adding targets target added c.push_both.new.targets.items c.self.invariant.0 safe may c.push_both.ensures.targets, among, names)
+pub invariant_of-self-in-Ok-push_both : goal.invariant_of-self-in-Ok-push_both
+invariant_of-self-in-Ok-push_both c =
+    let inside = c.self.inside in
+    let targets = inside.targets.items in
+    let target : TargetValue = record { name = string_bytes c.args.name; code = c.args.code; table = c.args.table } in
+    let old = c.set_keys.new.self in
+    let new = c.add.new.self in
+    let first = subst (λ ts. c.is_empty-is_first.result ≡ (length ts == 0)) (c.targets.ensures.value ∙ sym c.self.view_is) c.is_empty-is_first.ensures in
+    let keyed : AreKeyed targets target old inside.places.items =
+    keyed targets target inside.names old inside.places.items c.is_empty-is_first.result first
+    (λ yes. c.set_keys.ensures.first yes ∙ ap no_names c.keys.ensures) c.set_keys.ensures.others c.self.invariant.1 in
+    let numbered =
+    c.in-Ok.ensures.numbered
+    ∙ ap (λ (code : Code). record { names = with_code_names old.numbered.names code; keys = old.numbered.keys }) c.code.ensures.code in
+    let one : AreNamesOf new.numbered.names target c.in-Ok.places =
+    record {
+      columns = subst (λ (code : Code). AreNameColumns code c.args.table.header c.in-Ok.places) c.code.ensures.code c.in-Ok.ensures.places;
+      own = subst (λ (code : Code). AreOwnNumbers new.numbered.names code c.in-Ok.places.numbers.items) c.code.ensures.code c.in-Ok.ensures.own;
+    } in
+    let may : MayBeAdded targets target.name =
+    subst (λ ts. MayBeAdded ts target.name) (sym c.self.view_is)
+    (subst (λ (name : Text). MayBeAdded c.args.self.now name) c.as_str.ensures.value c.in_default.ensures) in
+    added targets target old new inside.places.items c.in-Ok.places c.push_both.new.targets.items c.push_both.new.all_places.items c.self.invariant.0
+    c.code.ensures.safe may keyed c.in-Ok.ensures.columns numbered c.in-Ok.ensures.kept one
+    (c.in-Ok-push_both.ensures.targets ∙ ap (λ (t : TargetValue). targets ++ t ∷ []) c.new-target.ensures) c.in-Ok-push_both.ensures.places
+
+pub invariant_of-self-in-Err : goal.invariant_of-self-in-Err
+invariant_of-self-in-Err c =
+    let inside = c.self.inside in
+    let targets = inside.targets.items in
+    let target : TargetValue = record { name = string_bytes c.args.name; code = c.args.code; table = c.args.table } in
+    let old = c.set_keys.new.self in
+    let new = c.add.new.self in
+    let back = c.truncate.new.self in
+    let first = subst (λ ts. c.is_empty-is_first.result ≡ (length ts == 0)) (c.targets.ensures.value ∙ sym c.self.view_is) c.is_empty-is_first.ensures in
+    let keyed : AreKeyed targets target old inside.places.items =
+    keyed targets target inside.names old inside.places.items c.is_empty-is_first.result first
+    (λ yes. c.set_keys.ensures.first yes ∙ ap no_names c.keys.ensures) c.set_keys.ensures.others c.self.invariant.1 in
+    let numbered =
+    c.in-Ok.ensures.numbered
+    ∙ ap (λ (code : Code). record { names = with_code_names old.numbered.names code; keys = old.numbered.keys }) c.code.ensures.code in
+    let lens = c.lens-lens.ensures in
+    not_added targets target old new back inside.places.items c.push_both.new.targets.items c.push_both.new.all_places.items c.self.invariant.0
+    keyed c.in-Ok.ensures.columns numbered
+    (c.truncate.ensures.columns ∙ ap (λ l. record { names = take l.0 new.columns.names; keys = new.columns.keys }) lens)
+    (c.truncate.ensures.numbered ∙ ap (λ l. record { names = take l.1 new.numbered.names; keys = new.numbered.keys }) lens)
+    c.in-Err.ensures.targets c.in-Err.ensures.places
