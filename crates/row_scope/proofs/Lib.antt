@@ -6,7 +6,7 @@ mod ApartLemmas
 mod BindingLemmas
 mod NameLemmas
 mod PlaceLemmas
-mod HiddenLemmas
+mod ColumnSums
 mod SumLemmas
 mod CellLemmas
 mod OverLemmas

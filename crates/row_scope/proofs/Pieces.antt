@@ -1,5 +1,5 @@
 -- Pieces of a request's values, and of a row's line after them.
-use Rattle.std.proofs.Common.{◌≡◌, ℕ, ◌+◌, ◌≤◌, List, [], ◌∷◌, ◌++◌, All, length, map, take, drop, sum_by, refl, sym, ap, ◌∙◌, arith, length-drop}
+use Rattle.std.proofs.Common.{◌≡◌, ℕ, ◌+◌, ◌-◌, ◌≤◌, List, [], ◌∷◌, ◌++◌, All, length, map, take, drop, sum_by, refl, sym, ap, ◌∙◌, arith, length-drop}
 use Rattle.std.proofs.Math.Seq.{drop-append-add}
 use Rattle.std.proofs.lemmas.List.{length-take-le}
 use Rattle.std.proofs.lemmas.List.Elements.{All-head, All-tail}
@@ -14,6 +14,17 @@ piece_length text at within = length-take-le at.1 (drop at.0 text) (omega (arith
 -- a piece of the line is after the values
 pub line_piece : (values line : Text) (start len : ℕ) → piece_at (values ++ line) (length values + start, len) ≡ piece_at line (start, len)
 line_piece values line start len = ap (take len) (drop-append-add values line start)
+
+pub piece_after : (values line bytes : Text) (seam start end : ℕ) → bytes ≡ line → seam ≡ length values → seam ≤ start → start ≤ end
+    → take (end - seam - (start - seam)) (drop (start - seam) bytes) ≡ piece_at (values ++ line) (start, end - start)
+piece_after values line bytes seam start end same size from forward =
+    let past = start - seam in
+    let len : end - seam - past ≡ end - start = omega (arith, from, forward) in
+    let at : length values + past ≡ start = omega (arith, size, from) in
+    ap (λ (t : Text). take (end - seam - past) (drop past t)) same
+    ∙ ap (λ n. take n (drop past line)) len
+    ∙ sym (line_piece values line past (end - start))
+    ∙ ap (λ n. piece_at (values ++ line) (n, end - start)) at
 
 pub front_pieces : (values line : Text) (spans : List (ℕ × ℕ)) → All (λ at. at.0 + at.1 ≤ length values) spans
     → map (piece_at (values ++ line)) spans ≡ map (piece_at values) spans

@@ -1,102 +1,97 @@
-//! Keys of a request that a row of a table may hide.
+//! What a row of a table hides of a request.
 
-ghost use Rattle.std.specs.Prelude.{◌≡◌, ◌≤◌, [], IfOk, get_or, length};
+ghost use Rattle.std.specs.Prelude.{◌≡◌, ◌≤◌, [], get_or, length, sum_by};
+ghost use Rattle.std.specs.List.{range_with_len};
+ghost use Rattle.environment_model.specs.Environment.{byte_count, member_count};
+ghost use Rattle.kbart_rows.specs.Cells.{named_cells};
 ghost use Rattle.kbart_rows.specs.Lines.{cells_in};
+ghost use Rattle.row_laws.specs.Shadowing.{requested, hidden, row_of, hidden_bytes_at, hidden_members_at};
 ghost use Rattle.row_scope.specs.RowEnvironments.{lists_of};
 ghost use Rattle.row_scope.specs.RequestValues.{IsApartFrom};
-ghost use Rattle.row_scope.specs.Private.Kept as spec;
 
 use crate::name_columns::is_list;
 use crate::request_values::RequestValues;
 use code_file::Code;
 use kbart_rows::{RowCursor, Table};
-use std::alloc::{AllocError, Global};
+use row_laws::{hidden_by_columns, requests_are_small};
 
-/// A key of a request that is the name of a column: a row hides its values if the row's cell is defined.
-#[derive(Clone, Copy)]
-pub struct HiddenKey {
-    pub(crate) column: usize,
-    /// The bytes and the members that the key contributes.
-    pub(crate) bytes: usize,
-    pub(crate) members: usize,
-}
-
-impl HiddenKey {
-    /// The bytes and the members of the key that a row hides. The cursor moves to the key's column in the row's line.
-    pub(crate) fn hidden_in(&self, cells: &mut RowCursor) -> (usize, usize)
-        requires ahead { cells.old.column ≤ self.now.column }
-        requires short { length cells.old.line ≤ 65537 }
-        ensures sums { result ≡ spec.hidden_of (cells_in cells.old.line) self.now }
-        ensures line { cells.new.line ≡ cells.old.line }
-        ensures column { cells.new.column ≡ self.now.column }
-    {
-        let (_, len) = cells.seek(self.column);
-        if len > 0 {
-            (self.bytes, self.members)
-        } else {
-            (0, 0)
-        }
-    }
-}
-
-/// The keys that the columns of a table may hide, in the order of the columns.
-pub(crate) fn hidden_keys(
-    alloc: Global,
+/// How many bytes and members of a request the cells of a row's line hide.
+pub(crate) fn hidden_by(
     code: &Code,
     table: &Table,
     request: &RequestValues,
-) -> Result<Vec<HiddenKey>, AllocError>
-    requires { IsApartFrom request.now table.now.header }
-    ensures { IfOk result
-        (λ keys. keys.items ≡ spec.hidden_keys table.now.header (lists_of code.now) request.now.pairs) }
+    line: &str,
+) -> (usize, usize)
+    requires apart { IsApartFrom request.now table.now.header }
+    requires short { length line.now ≤ 65537 }
+    ensures bytes { result.0
+        ≡ byte_count (hidden (row_of (named_cells table.now.header (cells_in line.now)))
+        (requested (lists_of code.now) request.now.pairs)) }
+    ensures members { result.1
+        ≡ member_count (hidden (row_of (named_cells table.now.header (cells_in line.now)))
+        (requested (lists_of code.now) request.now.pairs)) }
 {
+    hidden_by_columns();
     if request.meets_columns() {
-        keys_of_columns(alloc, code, table, request)
+        hidden_by_cells(code, table, request, line)
     } else {
-        Ok(Vec::new(alloc))
+        (0, 0)
     }
 }
 
-/// The keys that are names of columns, column by column.
-fn keys_of_columns(
-    alloc: Global,
+/// The same, column by column.
+fn hidden_by_cells(
     code: &Code,
     table: &Table,
     request: &RequestValues,
-) -> Result<Vec<HiddenKey>, AllocError>
-    ensures { IfOk result
-        (λ keys. keys.items ≡ spec.hidden_keys table.now.header (lists_of code.now) request.now.pairs) }
+    line: &str,
+) -> (usize, usize)
+    requires { length line.now ≤ 65537 }
+    ensures bytes { result.0
+        ≡ sum_by (hidden_bytes_at table.now.header (cells_in line.now) (lists_of code.now) request.now.pairs)
+        (range_with_len 0 (length table.now.header)) }
+    ensures members { result.1
+        ≡ sum_by (hidden_members_at table.now.header (cells_in line.now) (lists_of code.now) request.now.pairs)
+        (range_with_len 0 (length table.now.header)) }
 {
-    let mut keys = Vec::new(alloc);
+    hidden_by_columns();
+    requests_are_small();
+    let _known = request.size();
+    let mut sums = (0, 0);
     let mut header = RowCursor::new(table.header());
+    let mut cells = RowCursor::new(line);
     let mut column: usize = 0;
     while let Some(name) = header.next_cell() {
-        if let Some(key) = hidden_key(code, table, request, column, name) {
-            keys.push(key)?;
-        }
+        let (bytes, members) = hidden_at(code, table, request, column, name, &mut cells);
+        sums = (sums.0 + bytes, sums.1 + members);
         column += 1;
     }
-    Ok(keys)
+    sums
 }
 
-/// The key that a column may hide, if its name is a key and no column before it has the name.
-fn hidden_key(
+/// How many bytes and members of a request the cell of a column hides: those of the column's name if the cell is
+/// defined and no column before it has the name. The cursor moves to the column.
+fn hidden_at(
     code: &Code,
     table: &Table,
     request: &RequestValues,
     column: usize,
     name: &str,
-) -> Option<HiddenKey>
-    requires { get_or table.now.header column [] ≡ name.now }
-    ensures { result ≡ spec.hidden_key table.now.header (lists_of code.now) request.now.pairs column }
+    cells: &mut RowCursor,
+) -> (usize, usize)
+    requires named { get_or table.now.header column [] ≡ name.now }
+    requires ahead { cells.old.column ≤ column }
+    requires short { length cells.old.line ≤ 65537 }
+    ensures bytes { result.0
+        ≡ hidden_bytes_at table.now.header (cells_in cells.old.line) (lists_of code.now) request.now.pairs column }
+    ensures members { result.1
+        ≡ hidden_members_at table.now.header (cells_in cells.old.line) (lists_of code.now) request.now.pairs column }
+    ensures line { cells.new.line ≡ cells.old.line }
+    ensures column { cells.new.column ≡ column }
 {
-    if request.values_of(name).1 == 0 || table.column(name) != Some(column) {
-        return None;
+    let (_, len) = cells.seek(column);
+    if len == 0 || request.values_of(name).1 == 0 || table.column(name) != Some(column) {
+        return (0, 0);
     }
-    let (bytes, members) = request.sums_of(name, is_list(code, name));
-    Some(HiddenKey {
-        column,
-        bytes,
-        members,
-    })
+    request.sums_of(name, is_list(code, name))
 }

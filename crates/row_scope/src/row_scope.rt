@@ -3,11 +3,12 @@
 ghost use Rattle.std.specs.Prelude.{◌≡◌, ◌<◌, Some, length, slice_get};
 ghost use Rattle.text_model.specs.Texts.{Text};
 ghost use Rattle.row_scope.specs.RowEnvironments.{environment_of_row, names_of};
-ghost use Rattle.row_scope.specs.Bindings.{IsBound, laid_over};
+ghost use Rattle.row_scope.specs.Bindings.{IsBound};
 ghost use Rattle.row_scope.specs.Private.Kept.{IsRow};
 
 use crate::binding::Binding;
 use crate::target_request::TargetRequest;
+use row_laws::sums_of_rows_over_requests;
 use smallvec::SmallVec;
 use std::marker::Model;
 use target_vars::Scope;
@@ -24,29 +25,24 @@ pub struct RowScope<'t, 'a> {
     line: &'t str,
     // Most codes have few names, whose bindings need no allocation.
     bindings: SmallVec<Binding, FEW_NAMES>,
-    // E (bytes) and M (members) of the environment.
+    // E (bytes) and M (members) of the request and the row together, of which the row's cells may hide some.
     bytes: usize,
     members: usize,
 }
 
 impl<'t, 'a> Model for RowScope<'t, 'a> {
-    ghost use Rattle.row_scope.specs.RowEnvironments.{environment_of_row, names_of};
-    ghost use Rattle.row_scope.specs.Bindings.{laid_over};
-    ghost use Rattle.row_scope.specs.RowValue.{RowValue};
+    ghost use Rattle.row_scope.specs.RowEnvironments.{names_of};
+    ghost use Rattle.row_scope.specs.RowValue.{RowValue, laid_row};
     ghost use Rattle.row_scope.specs.Private.Kept.{IsRow};
 
     ghost Value = { RowValue };
 
     ghost view = { λ r. record {
-      env = laid_over r.target.now.request.values r.line.now
-          (environment_of_row r.target.now.code r.target.now.table r.target.now.request.pairs r.row);
+      env = laid_row r.target.now r.row r.line.now;
       names = names_of r.target.now.code;
     } };
 
-    ghost invariant = { λ r. IsRow
-        (laid_over r.target.now.request.values r.line.now
-        (environment_of_row r.target.now.code r.target.now.table r.target.now.request.pairs r.row))
-        (names_of r.target.now.code) r.bindings.items r.bytes r.members };
+    ghost invariant = { λ r. IsRow r.target.now r.row r.line.now r.bindings.items r.bytes r.members };
 }
 
 impl<'t, 'a> RowScope<'t, 'a> {
@@ -58,10 +54,7 @@ impl<'t, 'a> RowScope<'t, 'a> {
         bytes: usize,
         members: usize,
     ) -> RowScope<'t, 'a>
-        requires { IsRow
-            (laid_over target.now.request.values line.now
-            (environment_of_row target.now.code target.now.table target.now.request.pairs row))
-            (names_of target.now.code) bindings.items bytes members }
+        requires { IsRow target.now row line.now bindings.items bytes members }
         ensures entries { result.env.entries ≡ environment_of_row target.now.code target.now.table
             target.now.request.pairs row }
         ensures names { result.names ≡ names_of target.now.code }
@@ -126,11 +119,14 @@ impl<'t, 'a> Scope for RowScope<'t, 'a> {
         self.target.request().size() + self.line.len()
     }
 
-    fn bytes(&self) -> usize {
-        self.bytes
+    fn sums(&self) -> (usize, usize) {
+        sums_of_rows_over_requests();
+        let (bytes, members) = self.target.hidden_by(self.line);
+        (self.bytes - bytes, self.members - members)
     }
 
-    fn members(&self) -> usize {
-        self.members
+    fn most(&self) -> (usize, usize) {
+        sums_of_rows_over_requests();
+        (self.bytes, self.members)
     }
 }

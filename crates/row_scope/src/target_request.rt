@@ -13,7 +13,7 @@ ghost use Rattle.row_scope.specs.NameNumbers.{AreOwnNumbers};
 ghost use Rattle.row_scope.specs.NameColumns.{AreNameColumns, AreOwnLists, AreMarked};
 
 use crate::binding::Binding;
-use crate::hidden::{HiddenKey, hidden_keys};
+use crate::hidden::hidden_by;
 use crate::known_values::KnownValues;
 use crate::name_columns::NameColumns;
 use crate::request_values::RequestValues;
@@ -21,8 +21,8 @@ use crate::row_scope::{FEW_NAMES, RowScope};
 use code_file::Code;
 use kbart_rows::{RowCursor, Table};
 use row_laws::{
-    hidden_by_columns, one_more_list, requests_are_small, row_bytes_are_cell_bytes, rows_by_names,
-    rows_shadow_requests, same_lists, sums_of_rows_over_requests,
+    one_more_list, requests_are_small, row_bytes_are_cell_bytes, rows_by_names,
+    rows_shadow_requests, same_lists,
 };
 use smallvec::SmallVec;
 use std::alloc::{AllocError, Global};
@@ -39,7 +39,6 @@ pub struct TargetRequest<'a> {
     bindings: SmallVec<Binding, FEW_NAMES>,
     bytes: usize,
     members: usize,
-    hidden: Vec<HiddenKey>,
 }
 
 impl<'a> Model for TargetRequest<'a> {
@@ -52,7 +51,7 @@ impl<'a> Model for TargetRequest<'a> {
 
     ghost invariant = { λ t. IsTargetRequest
         (record { code = t.code.now; table = t.table.now; request = t.request.now })
-        t.names.now t.bindings.items t.bytes t.members t.hidden.items };
+        t.names.now t.bindings.items t.bytes t.members };
 }
 
 impl<'a> TargetRequest<'a> {
@@ -74,7 +73,6 @@ impl<'a> TargetRequest<'a> {
         let _known = request.size();
         let mut bindings = SmallVec::new(alloc);
         bind_names(&mut bindings, code, names, known)?;
-        let hidden = hidden_keys(alloc, code, table, request)?;
         let (bytes, members) = sums_with_lists(code, &names.lists, request);
         Ok(TargetRequest {
             code,
@@ -84,7 +82,6 @@ impl<'a> TargetRequest<'a> {
             bindings,
             bytes,
             members,
-            hidden,
         })
     }
 
@@ -96,16 +93,13 @@ impl<'a> TargetRequest<'a> {
         ensures names { IfOk result (λ r. r.names ≡ names_of self.now.code) }
     {
         requests_are_small();
-        sums_of_rows_over_requests();
         row_bytes_are_cell_bytes();
         let line = self.table.line(row);
         let mut bindings = SmallVec::new(alloc);
         bindings.extend_from_slice(self.bindings.as_slice())?;
         self.bind_cells(line, bindings.as_mut_slice());
-        let (hidden_bytes, hidden_members) = self.hidden_by(line);
-        let bytes = self.bytes + self.table.cell_bytes(row) - hidden_bytes;
-        let members = self.members - hidden_members;
-        Ok(RowScope::new(self, row, line, bindings, bytes, members))
+        let bytes = self.bytes + self.table.cell_bytes(row);
+        Ok(RowScope::new(self, row, line, bindings, bytes, self.members))
     }
 
     pub(crate) fn request(&self) -> &RequestValues<'a>
@@ -138,7 +132,7 @@ impl<'a> TargetRequest<'a> {
     }
 
     /// How many bytes and members of the request the cells of a row's line hide.
-    fn hidden_by(&self, line: &str) -> (usize, usize)
+    pub(crate) fn hidden_by(&self, line: &str) -> (usize, usize)
         requires { length line.now ≤ 65537 }
         ensures bytes { result.0
             ≡ byte_count (hidden (row_of (named_cells self.now.table.header (cells_in line.now)))
@@ -147,15 +141,7 @@ impl<'a> TargetRequest<'a> {
             ≡ member_count (hidden (row_of (named_cells self.now.table.header (cells_in line.now)))
             (requested (lists_of self.now.code) self.now.request.pairs)) }
     {
-        hidden_by_columns();
-        requests_are_small();
-        let mut sums = (0, 0);
-        let mut cells = RowCursor::new(line);
-        for key in &self.hidden {
-            let (bytes, members) = key.hidden_in(&mut cells);
-            sums = (sums.0 + bytes, sums.1 + members);
-        }
-        sums
+        hidden_by(self.code, self.table, self.request, line)
     }
 }
 

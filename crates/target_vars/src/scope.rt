@@ -47,15 +47,20 @@ pub trait Scope {
         ensures value { result ≡ length (environment self.now).buffer }
         ensures in_order { IsInOrder (environment self.now) };
 
-    /// E, the number of bytes of all texts and members together; names do not count.
-    fn bytes(&self) -> usize
-        ensures value { result ≡ byte_count (environment self.now).entries }
-        ensures small { result ≤ MAX_BYTES };
+    /// E, the number of bytes of all texts and members together, without names; and M, the number of members of all
+    /// lists together.
+    fn sums(&self) -> (usize, usize)
+        ensures bytes { result.0 ≡ byte_count (environment self.now).entries }
+        ensures few_bytes { result.0 ≤ MAX_BYTES }
+        ensures members { result.1 ≡ member_count (environment self.now).entries }
+        ensures few_members { result.1 ≤ MAX_MEMBERS };
 
-    /// M, the number of members of all lists together.
-    fn members(&self) -> usize
-        ensures value { result ≡ member_count (environment self.now).entries }
-        ensures small { result ≤ MAX_MEMBERS };
+    /// Bounds on E and M, which an implementer may know at less cost.
+    fn most(&self) -> (usize, usize)
+        ensures bytes { byte_count (environment self.now).entries ≤ result.0 }
+        ensures few_bytes { result.0 ≤ MAX_BYTES }
+        ensures members { member_count (environment self.now).entries ≤ result.1 }
+        ensures few_members { result.1 ≤ MAX_MEMBERS };
 }
 
 /// The buffer is in one part, and any name may be looked up by any number.
@@ -85,11 +90,11 @@ impl Scope for Env {
         self.buffer().len()
     }
 
-    fn bytes(&self) -> usize {
-        self.bytes()
+    fn sums(&self) -> (usize, usize) {
+        (self.bytes(), self.members())
     }
 
-    fn members(&self) -> usize {
-        self.members()
+    fn most(&self) -> (usize, usize) {
+        self.sums()
     }
 }

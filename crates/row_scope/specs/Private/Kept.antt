@@ -1,24 +1,20 @@
 -- What is kept of a request, of a request at a target, and of a row.
-use Rattle.std.specs.Prelude.{◌≡◌, ℕ, ◌+◌, ◌≤◌, List, [], ◌++◌, ◌&&◌, nat_lt, length, take, sum_by, get_or, slice_get, Option, Some, None, if◌then◌else◌}
-use Rattle.std.specs.Prelude.{is_some}
-use Rattle.std.specs.List.{filter_map, range_with_len}
+use Rattle.std.specs.Prelude.{◌≡◌, ℕ, ◌+◌, ◌≤◌, List, [], ◌++◌, length, take, sum_by, get_or, slice_get, Option, Some}
 use Rattle.text_model.specs.Texts.{Text}
 use Rattle.environment_model.specs.Environment.{byte_count, member_count}
 use Rattle.environment_model.specs.Lists.{is_list}
-use Rattle.target_vars.specs.EnvValue.{EnvValue, IsInOrder}
+use Rattle.target_vars.specs.EnvValue.{IsInOrder}
 use Rattle.target_vars.specs.declared.env.TheConstants.{MAX_BYTES, MAX_MEMBERS}
-use Rattle.kev_read.specs.Pairs.{KeyValue, all_of}
-use Rattle.kbart_rows.specs.Cells.{Row, defined, is_first}
-use Rattle.row_laws.specs.Shadowing.{requested, requested_bytes, requested_members}
-use Rattle.row_scope.specs.RowEnvironments.{lists_of, names_of}
+use Rattle.kbart_rows.specs.Lines.{cells_in}
+use Rattle.row_laws.specs.Shadowing.{requested}
+use Rattle.row_scope.specs.RowEnvironments.{cells_of_row, entries_of_row, lists_of, names_of}
 use Rattle.row_scope.specs.Bindings.{AreBound, IsBound, laid_in}
-use Rattle.row_scope.specs.RequestValues.{RequestValue, AreValues}
+use Rattle.row_scope.specs.RequestValues.{RequestValue, AreValues, IsApartFrom}
 use Rattle.row_scope.specs.NameNumbers.{own_number}
 use Rattle.row_scope.specs.NameColumns.{AreNameColumns}
-use Rattle.row_scope.specs.RowValue.{KnownValue, TargetRequestValue}
+use Rattle.row_scope.specs.RowValue.{KnownValue, TargetRequestValue, laid_row}
 use Rattle.row_scope.specs.declared.binding.Binding.{Binding}
 use Rattle.row_scope.specs.declared.name_columns.NameColumns.{NameColumns}
-use Rattle.row_scope.specs.declared.hidden.HiddenKey.{HiddenKey}
 use Rattle.row_scope.specs.declared.known_values.KnownName.{KnownName}
 
 -- ---- a request
@@ -50,35 +46,23 @@ AreKnown known names = (number : ℕ) (k : KnownName) → slice_get names number
 
 -- ---- a request at a target
 
--- a key of the request that the column hides if its cell is defined, with the bytes and members that the request has under it
-abbrev pub hidden_key : Row → List Text → List KeyValue → ℕ → Option HiddenKey
-hidden_key header lists pairs column =
-    let key = get_or header column [] in
-    if (is_first header column && nat_lt 0 (length (all_of pairs key)))
-    then Some (record { column = column; bytes = requested_bytes lists pairs key; members = requested_members lists pairs key })
-    else None
-
-abbrev pub hidden_keys : Row → List Text → List KeyValue → List HiddenKey
-hidden_keys header lists pairs = filter_map (hidden_key header lists pairs) (range_with_len 0 (length header))
-
--- the bytes and the members of the key that a row of these cells hides
-abbrev pub hidden_of : Row → HiddenKey → ℕ × ℕ
-hidden_of cells key = if is_some (defined (get_or cells key.column [])) then (key.bytes, key.members) else (0, 0)
-
-pub record IsTargetRequest (t : TargetRequestValue) (names : NameColumns) (bindings : List Binding) (bytes members : ℕ) (hidden : List HiddenKey) : Type 0 where
+pub record IsTargetRequest (t : TargetRequestValue) (names : NameColumns) (bindings : List Binding) (bytes members : ℕ) : Type 0 where
   pub values : AreValues t.request
+  pub apart : IsApartFrom t.request t.table.header
   pub placed : AreNameColumns t.code t.table.header names
   pub bound : AreBound (laid_in t.request.values (requested (lists_of t.code) t.request.pairs)) (names_of t.code) bindings
   pub all_bytes : bytes ≡ byte_count (requested (lists_of t.code) t.request.pairs)
   pub all_members : members ≡ member_count (requested (lists_of t.code) t.request.pairs)
-  pub keys : hidden ≡ hidden_keys t.table.header (lists_of t.code) t.request.pairs
 
 -- ---- a row
 
-pub record IsRow (env : EnvValue) (names : List Text) (bindings : List Binding) (bytes members : ℕ) : Type 0 where
-  pub in_order : IsInOrder env
-  pub bound : AreBound env names bindings
-  pub all_bytes : bytes ≡ byte_count env.entries
+-- the bytes and the members are those of the row and of the request together
+pub record IsRow (t : TargetRequestValue) (row : ℕ) (line : Text) (bindings : List Binding) (bytes members : ℕ) : Type 0 where
+  pub cells : cells_in line ≡ cells_of_row t.table row
+  pub short : length line ≤ 65537
+  pub in_order : IsInOrder (laid_row t row line)
+  pub bound : AreBound (laid_row t row line) (names_of t.code) bindings
+  pub all_bytes : bytes ≡ byte_count (entries_of_row t.table row) + byte_count (requested (lists_of t.code) t.request.pairs)
   pub few_bytes : bytes ≤ MAX_BYTES
-  pub all_members : members ≡ member_count env.entries
+  pub all_members : members ≡ member_count (requested (lists_of t.code) t.request.pairs)
   pub few_members : members ≤ MAX_MEMBERS

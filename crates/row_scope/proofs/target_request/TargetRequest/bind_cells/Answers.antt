@@ -33,7 +33,7 @@ loop-place-preserved c =
     let t = c.args.self.now in
     let line = c.args.line.now in
     let s = c.self.inside in
-    let kept = subst (λ (v : TargetRequestValue). IsTargetRequest v s.names.now s.bindings.items s.bytes s.members s.hidden.items) c.self.view_is
+    let kept = subst (λ (v : TargetRequestValue). IsTargetRequest v s.names.now s.bindings.items s.bytes s.members) c.self.view_is
     c.self.invariant in
     let places = c.deref-place-items.result.now in
     let d : NameColumn = record { column = 0; number = 0 } in
@@ -83,7 +83,7 @@ returns c =
     let t = c.args.self.now in
     let line = c.args.line.now in
     let s = c.self.inside in
-    let kept = subst (λ (v : TargetRequestValue). IsTargetRequest v s.names.now s.bindings.items s.bytes s.members s.hidden.items) c.self.view_is
+    let kept = subst (λ (v : TargetRequestValue). IsTargetRequest v s.names.now s.bindings.items s.bytes s.members) c.self.view_is
     c.self.invariant in
     let places = c.deref-place-items.result.now in
     let are : places ≡ s.names.now.columns.items = c.deref-place-items.ensures.value in
