@@ -49,6 +49,13 @@ class Files(Case):
             kept = [it.word for it in word_sets._with_most_titles([line], most)]
             self.expect(f"{most} bytes of places beside 26 others", kept, wanted)
 
+    def test_bytes_of_few_places(self) -> None:
+        """A word with its places takes at most what is counted for it, by the digits of the last place."""
+        for places in ([3, 7], [3, *range(99_940, 100_000)], [*range(1_000_000, 1_000_064)]):
+            line = word_sets._Line(b"tide", array.array("I", places), False)
+            text = word_sets._data_of([line], 2**20).partition(b"\n")[2]
+            self.expect(f"{places[:2]}", len(text) <= word_sets._bytes_of(line, 2**20) <= len(text) + 64 + 24)
+
     def test_lines_of_a_key(self) -> None:
         for count in (50, 51):
             lines = [b"key\t%02d" % number for number in range(count)] + [b"other\t"]

@@ -12,11 +12,25 @@ from bounds.refusals import reason
 from fixtures.cases import Case
 from openlink_update.exports import scholar
 from openlink_update.input_files import InputFolder
+from openlink_update.rights.limits import DiskLimit
+from openlink_update.rights.limits import Limits
 from openlink_update.versions import judging
 from openlink_update.versions import library
 from openlink_update.versions import program
 from openlink_update.versions import target_list
 from openlink_update.versions.earlier_files import EarlierFiles
+
+
+class Disk(Case):
+    def test_bytes_of_a_library(self) -> None:
+        """It may have just what its site allows."""
+        with tempfile.TemporaryDirectory() as name:
+            folder = Path(name)
+            (folder / "a").write_bytes(bytes(100_000))
+            size = sum(it.stat().st_blocks for it in folder.iterdir()) * 512
+            for most in (size, size - 1):
+                found = DiskLimit(Limits(disk=most, folders=(folder,)), (folder,)).fault()
+                self.expect(f"{size - most} bytes too many", found is None, most == size)
 
 
 class Lists(Case):

@@ -81,7 +81,7 @@ class Desk(Library):
 
 
 @needs.program()
-@needs.module_of_debian("jinja2", "python3-jinja2")
+@needs.module_of_interpreter("jinja2", "python3-jinja2")
 class Writing(Case):
     def test_desk_of_an_update(self) -> None:
         with Desk() as desk:

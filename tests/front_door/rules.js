@@ -636,27 +636,37 @@ function madeLines(digits, most, longest) {
     }
     return lines;
 }
+// The beginnings for which other lines are found than those that begin so.
+function wronglySought(lines, sought) {
+    const bytes = Buffer.from('\n' + lines.map(function (line) { return line + '\n'; }).join(''));
+    return sought.filter(function (beginning) {
+        const expected = lines.filter(function (line) { return line.startsWith(beginning); });
+        const found = index.linesWith(bytes, beginning, 50).map(function (cells) { return cells.join('\t'); });
+        return found.join('\n') !== expected.slice(0, 50).join('\n');
+    });
+}
 function testLines() {
     [[ARABIC, 0, 1], [ARABIC, 1, 50], [ARABIC, 3, 50], [ARABIC, 40, 50], [ARABIC, 300, 50], [ARABIC, 300, 4500],
         [THREE_BYTES, 300, 50], [THREE_BYTES, 300, 4500]].forEach(function (it) {
         const lines = madeLines(it[0], it[1], it[2]);
-        const bytes = Buffer.from('\n' + lines.map(function (line) { return line + '\n'; }).join(''));
-        const wrong = [];
         const sought = ['!', '\u30ff'];
         for (let key = 9990; key < 10010 + 3 * lines.length; key += it[1] > 40 ? 5 : 1) {
             sought.push(numeral(key, it[0]) + (key % 2 === 0 ? '\t' : ''), numeral(key, it[0]).slice(0, 4));
         }
-        sought.forEach(function (beginning) {
-            const expected = lines.filter(function (line) { return line.startsWith(beginning); });
-            const found = index.linesWith(bytes, beginning, 50).map(function (cells) { return cells.join('\t'); });
-            if (found.join('\n') !== expected.slice(0, 50).join('\n')) wrong.push(beginning);
-        });
-        expect('lines found among ' + it.join(' of '), wrong.join(), '');
+        expect('lines found among ' + it.join(' of '), wronglySought(lines, sought).join(), '');
     });
+}
+// 256 lines of 32 bytes: halves of the file, and of these, begin at the end of a line.
+function testLinesAtHalves() {
+    const lines = [];
+    for (let key = 1000; key < 1256; key++) lines.push(key + '\t' + repeated('a', 26));
+    const sought = lines.map(function (line) { return line.slice(0, 5); });
+    expect('lines that begin where a half ends', wronglySought(lines, sought).join(), '');
 }
 
 testCases();
 testLines();
+testLinesAtHalves();
 testGoodForm();
 testLimits();
 testMenus();

@@ -37,6 +37,7 @@ REQUESTS = [
     ("issn=2901-0039&date=2005", None),  # not in this year
     ("issn=2901-0039&date=1995&volume=5", None),  # a target that had it would have a link
     ("issn=2901-0047", LOCKS),
+    ("issn=2901-0039&eissn=2901-0047", PAPERS),  # one page of a target
     ("issn=2901-0047&volume=5", LOCKS),
     ("issn=2901-0047&date=2025", None),  # nobody knows whether it is open
     ("rft.genre=book&isbn=9781234561000", BUOYS),

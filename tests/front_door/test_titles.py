@@ -163,6 +163,18 @@ class Titles(TitlesCase):
             self.check_choices(query, main_of(reply))
         self.expect("no titles", "maybe" in self.data("issn=2901-0012"), False)
 
+    def test_separators_of_choices(self) -> None:
+        """A choice keeps the pairs of the request: semicolons separate them only if there is no &."""
+        for query, separator in (
+            ("jtitle=Soundings", "&"),
+            ("jtitle=Soundings;date=2003", ";"),
+            ("jtitle=Soundings&date=2003", "&"),
+            ("jtitle=Soundings&au=Li;+Wei", "&"),
+        ):
+            found = re.findall(r'<a href="/find\?(rft\.issn=[^"]*)">', main_of(self.site.get(f"/find?{query}")))
+            wanted = [f"rft.issn={number}{separator}{query}" for number in ("2999-196X", "3006-2098")]
+            self.expect(f"choices of {query}", sorted(map(html.unescape, found)), wanted)
+
     def test_redirects_of_choices(self) -> None:
         self.site.write_targets({"groups": [{"name": "Full text"}], "targets": {"web-search": {"group": "Full text"}}})
         for query, status in (

@@ -5,7 +5,10 @@ import contextlib
 import datetime
 import gc
 import io
+import os
+import platform
 import runpy
+import socket
 import tempfile
 import types
 import zipfile
@@ -13,6 +16,7 @@ from pathlib import Path
 from unittest import mock
 
 from bounds.refusals import reason
+from fixtures import needs
 from fixtures.cases import Case
 from fixtures.made_versions import Weeks
 from openlink_update.commands import holdings
@@ -34,6 +38,7 @@ from openlink_update.versions import tables_again
 from openlink_update.versions.program import Program
 from openlink_update.weekly_run import Run
 
+_NOBODY = 65534
 # Statuses of curl (see its manual), the reason that a fetch gives, and whether another try may end well.
 STATUSES: tuple[tuple[int, str | None, bool], ...] = (
     (0, None, False),
@@ -287,6 +292,23 @@ class Kernels(Case):
             network_filter.close()
         self.expect("its numbers of calls are those of x86-64", libc.prctl.called, False)
 
+    @needs.root()
+    def test_network_of_a_user(self) -> None:
+        """A process without root's rights closes it too, whatever it has given up before."""
+        child = os.fork()
+        if child == 0:
+            step = 0
+            try:
+                os.setuid(_NOBODY)
+                network_filter.close()
+                step = 1
+                socket.socket()
+                step = 2
+            finally:
+                os._exit(step)
+        wanted = 1 if platform.machine() == "x86_64" else 2
+        self.expect("closed, and no socket", os.waitstatus_to_exitcode(os.waitpid(child, 0)[1]), wanted)
+
     def test_files(self) -> None:
         """The same for files. A kernel that does not know the call, or one that refuses it."""
         for what, numbers, text in (
@@ -331,6 +353,16 @@ class Sandboxes(Case):
         self.expect("what is said", printed.getvalue(), f"{text} cannot be written\n")
         self.expect("whose rights", box.number, None)
         self.expect("of a filter", said, "no user is free")
+
+    def test_child_that_reads_no_more(self) -> None:
+        """One that ends with or without a message that it has not read has sent nothing."""
+        for sent in ([], [b"unread"]):
+            parent, child = socket.socketpair(socket.AF_UNIX, socket.SOCK_SEQPACKET)
+            with parent:
+                with child:
+                    for text in sent:
+                        parent.send(text)
+                self.expect(f"{sent}", sandbox._received(parent), (b"", []))
 
 
 class Probing(Case):

@@ -103,6 +103,7 @@ class Hostile(Case):
         with (self.top / "disk/input/press.txt").open("a") as table:
             table.writelines(f"Journal {number} of a long name {'x' * 60}\t\n" for number in range(40_000))
 
+    @needs.module_of_interpreter("jinja2", "python3-jinja2")
     def test_ten_libraries(self) -> None:
         endless = self.program.read_text()
         self.program.write_text(endless.replace("*/hang/*", "*/none/*"))

@@ -1,5 +1,6 @@
 """Reads declarations into entries, in the order of the file: units of systemd, files of nginx, haproxy and nftables,
-the YAML of Kubernetes, control files of Debian and Containerfiles. A ValueError says why a text is none."""
+the YAML of Kubernetes and Prometheus, control files of Debian and Containerfiles. A ValueError says why a text is
+none."""
 from __future__ import annotations
 
 import os
@@ -217,6 +218,7 @@ _READERS: dict[str, Callable[[str], list[Entry]]] = {
     ".cfg": haproxy,
     ".nft": nftables,
     ".yaml": yaml,
+    ".yml": yaml,
     "control": control,
     "copyright": control,
     "Containerfile": container,

@@ -72,9 +72,10 @@ class Completions(Case):
                 pass
         os.mkdir(f"{self.folder}/folder")
 
-    def offered(self, *words: str) -> list[str]:
+    def offered(self, *words: str, first: str = "") -> list[str]:
+        """What the completions print, after this command."""
         done = subprocess.run(
-            ["bash", "--norc", "-c", _COMPLETE, "bash", f"{fixtures.TOP}/{SCRIPT}", *words],
+            ["bash", "--norc", "-c", f"{first}{_COMPLETE}", "bash", f"{fixtures.TOP}/{SCRIPT}", *words],
             cwd=self.folder,
             capture_output=True,
             text=True,
@@ -86,8 +87,8 @@ class Completions(Case):
 
     def test_commands(self) -> None:
         self.expect("all", self.offered(""), COMMANDS)
-        for letter in sorted({it[0] for it in COMMANDS} | {"q"}):
-            self.expect(letter, self.offered(letter), [it for it in COMMANDS if it.startswith(letter)])
+        for begun in (*sorted({it[0] for it in COMMANDS} | {"q"}), *COMMANDS):
+            self.expect(begun, self.offered(begun), [it for it in COMMANDS if it.startswith(begun)])
         self.expect("--", self.offered("--"), ["--help", "--version"])
 
     def test_no_command_of_the_manual_is_left_out(self) -> None:
@@ -116,6 +117,15 @@ class Completions(Case):
             pass
         self.expect("link", self.offered("link", "folder/t"), ["folder/two.rules"])
         self.expect("expand", self.offered("expand", "folder/t"), [])
+
+    def test_paths_are_names_of_files(self) -> None:
+        """So bash escapes what is in them, and puts a slash after a folder."""
+        noted = 'compopt() { echo "compopt $*"; }; '
+        self.expect("paths", self.offered("link", "f", first=noted), ["compopt -o filenames", "folder"])
+        self.expect("none", self.offered("expand", "-", first=noted), ["--list"])
+
+    def test_what_was_offered_before(self) -> None:
+        self.expect("nothing is left", self.offered("run", "a", "", first="COMPREPLY=(old); "), [])
 
     def test_the_option_of_expand(self) -> None:
         for words, wanted in (

@@ -31,6 +31,7 @@ INSTALLED = {
     "packaging/haproxy": (f"{SHARE}/haproxy", 1),
     "packaging/nftables": (f"{SHARE}/nftables", 1),
     "packaging/kubernetes/base": (f"{SHARE}/kubernetes/base", 6),
+    "packaging/prometheus": (f"{SHARE}/prometheus", 1),
 }
 
 

@@ -19,6 +19,13 @@ from fixtures.patience import patience
 from fixtures.patience import wait_until
 
 TOP = Path(fixtures.TOP)
+sys.path.insert(0, f"{TOP}/tools")
+from measuring import copies
+from measuring import line_map
+from planting import places
+from planting import seeing
+from planting.bug import Bug
+
 # In the small repository, a test sees the first function, none the second.
 SOURCE = """\
 def is_small(number):
@@ -89,6 +96,11 @@ class Ending(Case):
         self.expect("the second", subprocess.run(["cat", "/proc/self/stat"], preexec_fn=close).returncode, 1)
 """
 RULES = "Type=simple\n# a comment\nUMask=0022\n[Install]\n"
+# A script of the shell, and the lines without one of which it can be read.
+COMMANDS = "set -e\nif a; then\n    b \\\n        c\n    d\nelse\n    # e\n    f\nfi\n\nfor it in g h; do i; done\n"
+LINES = ["set -e", "b \\", "c", "d", "else", "for it in g h; do i; done"]
+# Files of data, in which no bug is planted.
+DATA = {".css", ".html", ".json", ".tsv", "copyright", "lintian-overrides"}
 SCRIPT = """\
 const MOST = 3;
 function isShort(text, most) {
@@ -337,6 +349,8 @@ class Planting(Repository):
         said = self.start(*words, PLANT_WAITS=str(self.folder / "waits")).communicate()[0]
         self.expect("it waited", (self.folder / "waits").exists())
         self.expect_lines("all of them", said, "5 planted, 5 seen, 0 not seen")
+        place, end = "update/openlink_update/numbers.py:2: comparison", "which did not end within its limit"
+        self.expect_lines("which one it was", said, f"{place}: seen by update.test_numbers, {end}")
 
     def test_interrupts(self) -> None:
         for number in (signal.SIGINT, signal.SIGTERM):
@@ -367,9 +381,25 @@ class Bugs(Repository):
             for bug in wanted:
                 self.expect(f"{name}: {bug}, among {sorted(found)}", bug in found)
 
+    def lines(self, path: str) -> list[str]:
+        """The lines that can be taken out of a file."""
+        return re.findall(r"^  - (.*)$", self.given("tools/plant", "--list", path)[1], re.M)
+
     def test_lines_of_a_declaration(self) -> None:
-        said = self.given("tools/plant", "--list", "packaging/systemd/a.service")[1]
-        self.expect("the lines", re.findall(r"^  - (.*)$", said, re.M), ["Type=simple", "UMask=0022", "[Install]"])
+        for name in ("a.service", "a.nft", "a.yml", "control"):
+            self.write(f"packaging/systemd/{name}", RULES)
+            self.expect(name, self.lines(f"packaging/systemd/{name}"), ["Type=simple", "UMask=0022", "[Install]"])
+        self.write("front_door/a.conf", "if ($a) { return 405; }\nserver { # b\n    listen 80;\n}\n")
+        self.expect("blocks", self.lines("front_door/a.conf"), ["if ($a) { return 405; }", "listen 80;"])
+
+    def test_lines_of_a_script(self) -> None:
+        """A line without which the script cannot be read is none of them."""
+        for first in ("#!/bin/sh", "#!/usr/bin/env bash", "# shellcheck shell=bash"):
+            self.write("packaging/a", f"{first}\n{COMMANDS}")
+            self.expect(first, self.lines("packaging/a"), LINES)
+        for name, first in (("a", "# shell"), ("a", "#!/usr/bin/fish"), ("a.json", "#!/bin/sh")):
+            self.write(f"packaging/{name}", f"{first}\n{COMMANDS}")
+            self.expect(f"{name}, {first}", self.given("tools/plant", "--list", f"packaging/{name}")[0], 2)
 
     def test_python_that_no_run_sees(self) -> None:
         text = (
@@ -388,6 +418,15 @@ class Modules(Case):
             said = subprocess.run([*words, folder], capture_output=True, text=True, check=True).stdout
             paths = {*re.findall(rf"^(\S+{suffix}):\d+: ", said, re.M)}
             self.expect(f"files of {folder}: {len(paths)}", len(paths) >= least)
+
+    @needs.command("git")
+    def test_no_file_is_left_out(self) -> None:
+        """Each file but those of data can have bugs, and there are tests that look at it."""
+        found = places.named(TOP, [*places.FOLDERS])
+        every = [Path(it) for it in copies.files(TOP) if it.startswith(tuple(f"{it}/" for it in places.FOLDERS))]
+        self.expect("others", {it.suffix or it.name for it in every if str(it) not in found}, DATA)
+        tests = seeing.Tests(line_map.LineMap(), 600)
+        self.expect("without a test", [it for it in found if not tests.of(Bug(it, "line", 0, 0, ""), "")], [])
 
 
 @needs.command("git")

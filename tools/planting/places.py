@@ -11,10 +11,20 @@ from planting import python_bugs
 from planting.bug import Bug
 
 FOLDERS = ("update", "front_door", "packaging")  # what contracts do not cover
-_DECLARATIONS = {".conf", ".service", ".timer", ".yaml", ".cfg"}
-_DECLARED = {"control", "Containerfile", "start", "prerm", "postrm", "postinst"}
+_DECLARATIONS = {".conf", ".service", ".timer", ".yaml", ".yml", ".cfg", ".nft"}
+_DECLARED = {"control", "Containerfile"}
+# The first lines of scripts without a suffix.
+_PYTHON = re.compile(rb"#!.*\bpython3\b")
+_SHELL = re.compile(rb"#!.*\b(?:ba)?sh\b|# shellcheck shell=")
 _HUNK = re.compile(r"@@ -\S+ \+(\d+)(?:,(\d+))? @@")
 _NAMED = re.compile(r"(.+?):(\d+)(?:-(\d+))?$")
+_MAKERS = {
+    "python": python_bugs.bugs,
+    "javascript": javascript_bugs.bugs,
+    "shell": line_bugs.of_script,
+    "declaration": line_bugs.of_declaration,
+}
+_PARSERS = {"python": python_bugs.parses, "shell": line_bugs.parses}
 Lines = dict[str, set[int] | None]  # of each file, None for all
 
 
@@ -23,14 +33,15 @@ class NoSuchPlace(Exception):
 
 
 def _kind(path: Path) -> str:
-    """Which bugs a file can have: "python", "javascript", "declaration" or none."""
+    """Which bugs a file can have: "python", "javascript", "shell", "declaration" or none."""
     if path.suffix == ".py":
         return "python"
     if path.suffix == ".js":
         return "javascript"
     if path.suffix in _DECLARATIONS or path.name in _DECLARED:
         return "declaration"
-    return "python" if path.is_file() and path.read_bytes()[:22] == b"#!/usr/bin/env python3" else ""
+    first = path.read_bytes().partition(b"\n")[0] if path.is_file() and not path.suffix else b""
+    return "python" if _PYTHON.match(first) else "shell" if _SHELL.match(first) else ""
 
 
 def named(top: Path, names: list[str]) -> Lines:
@@ -69,15 +80,14 @@ def changed(top: Path, base: str) -> Lines:
 def bugs(top: Path, lines: Lines) -> list[Bug]:
     """All bugs of these places."""
     found = []
-    makers = {"python": python_bugs.bugs, "javascript": javascript_bugs.bugs, "declaration": line_bugs.bugs}
     for path, numbers in sorted(lines.items()):
         text = (top / path).read_text(encoding="utf-8")
-        made = makers[_kind(top / path)](path, text)
+        made = _MAKERS[_kind(top / path)](path, text)
         found += [it for it in made if numbers is None or it.number(text) in numbers]
     return found
 
 
 def is_good(top: Path, bug: Bug) -> bool:
-    """Whether the file of a bug can still be read. A Python that cannot is seen by everything."""
-    text = (top / bug.path).read_text(encoding="utf-8")
-    return _kind(top / bug.path) != "python" or python_bugs.parses(bug.applied(text))
+    """Whether the file of a bug can still be read. A script that cannot is seen by everything."""
+    parses = _PARSERS.get(_kind(top / bug.path))
+    return parses is None or parses(bug.applied((top / bug.path).read_text(encoding="utf-8")))
