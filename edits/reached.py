@@ -16,6 +16,7 @@ DOTTED = re.compile(r"\b(\w+)\.(?=(\w+))")
 CALL = re.compile(r"\.(\w+)\(|::(\w+)")
 DEFINED = re.compile(r"^(?:(?:unfoldable|abbrev|pub|record|data|mutual) )*([^\s:(){}=]+)", re.M)
 FUNCTION = re.compile(r"^(?:pub(?:\(crate\))? )?(?:const |unsafe )*fn (\w+)", re.M)
+TRAIT = re.compile(r"^(?:pub(?:\(crate\))? )?trait (\w+)", re.M)
 TYPE = re.compile(r"^(?:pub(?:\(crate\))? )?(?:struct|enum|trait|const|type) (\w+)", re.M)
 IMPLEMENTED = re.compile(r"^impl(?:<[^{]*?>)? (?:([\w:]+)[^{\n]*? for )?(\w+)", re.M)
 
@@ -25,16 +26,28 @@ def statements(crate, crates, texts, sources):
     the text. `crates` are all crates of the repository, and the texts of `sources` call methods."""
     calls = {method or function for text in sources for method, function in CALL.findall(text)}
     found, left = {}, {it for text in texts for it in named_in(text, crate, crates, None)}
-    while left:
+    named, waiting = {word for text in texts for word in WORD.findall(text)}, {}
+    while left or waiting:
+        if not left:
+            # What a type has by a trait of the repository counts where the trait is named.
+            left = {at for at, traits in waiting.items() if not traits.isdisjoint(named)}
+            waiting = {at: traits for at, traits in waiting.items() if left and at not in left}
+            continue
         path, name = left.pop()
         if (path, name) in found or path.split("/")[1] == crate or is_inner(path, name):
             continue
         is_source = path.endswith(".rt")
         found[path, name] = stated_in(path, name, calls) if is_source else definitions(path).get(name, "")
+        named.update(WORD.findall(found[path, name]))
         for method in methods_of(path, name) & {"", *calls} if is_source else [""]:
             left.update(named_by(path, name, method, crates))
         if is_source:
-            left.update((other, name) for other in beside(path) if adds_to(other, name, calls))
+            for other in beside(path):
+                is_certain, traits = additions(other, name, calls, crates)
+                if is_certain:
+                    left.add((other, name))
+                elif traits:
+                    waiting[other, name] = traits
     return {at: text for at, text in found.items() if text.strip()}
 
 
@@ -202,10 +215,20 @@ def beside(path):
     return [it for it in others if it.endswith(".rt") and IMPLEMENTED.search(text_of(it))]
 
 
-def adds_to(path, name, calls):
-    """Whether a source implements a trait for a type, or has methods of it that are called."""
+def additions(path, name, calls, crates):
+    """Returns whether a source has methods of a type that are called, or implements a trait of other libraries for it,
+    which may be called without a name; and the traits of the repository that it implements for it."""
     heads, methods = implemented_in(path)
-    return any(of == name and (trait or not calls.isdisjoint(methods)) for trait, of in heads)
+    traits = {trait.rpartition("::")[2] for trait, of in heads if of == name}
+    own = frozenset(traits & traits_of(crates))
+    return bool(traits - own - {""}) or "" in traits and not calls.isdisjoint(methods), own
+
+
+@functools.lru_cache(maxsize=None)
+def traits_of(crates):
+    """Returns the names of the traits that the crates declare."""
+    sources = (path for crate in sorted(crates) for path in all_of(crate) if path.endswith(".rt"))
+    return {name for path in sources for name in names_in(path, TRAIT)}
 
 
 @functools.lru_cache(maxsize=None)

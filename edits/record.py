@@ -66,6 +66,12 @@ def tried():
     return {edit: (found, toolchain) for edit, found, toolchain in rows}
 
 
+def logic_of(toolchain):
+    """Returns the logic by which a toolchain proves, of what `rt version` prints: kits with one logic differ in their
+    commands."""
+    return toolchain.rpartition(" logic ")[2]
+
+
 def write(rows):
     with open(TRIED, "w", encoding="utf-8") as file:
         file.write(HEAD)

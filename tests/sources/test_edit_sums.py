@@ -14,7 +14,32 @@ from fixtures.cases import Case
 
 FILES = {
     "crates.txt": "low:\na: low\n",
-    "crates/low/src/lib.rt": "mod count;\n\npub use count::count;\n",
+    "crates/low/src/lib.rt": """mod area;
+mod count;
+mod display;
+mod shape;
+
+pub use area::Area;
+pub use count::count;
+pub use shape::Shape;
+""",
+    "crates/low/src/shape.rt": "pub struct Shape {\n    pub n: usize,\n}\n",
+    "crates/low/src/area.rt": """use crate::shape::Shape;
+
+pub trait Area {
+    ghost area: { Self → ℕ };
+}
+
+impl Area for Shape {
+    ghost area = { λ s. s.n };
+}
+""",
+    "crates/low/src/display.rt": """use crate::shape::Shape;
+
+impl Display for Shape {
+    ghost shown = { λ s. s.n };
+}
+""",
     "crates/low/src/count.rt": "pub fn count(n: usize) -> usize\n    ensures { result ≡ n }\n{\n    n\n}\n",
     "crates/low/specs/Big.antt": "-- big\npub is_big : ℕ → Bool\nis_big n = nat_lt 9 n\n\npub other : ℕ\nother = 1\n",
     "crates/a/src/lib.rt": "#![tactic(auto)]\n\nmod kind;\nmod one;\nmod other;\nmod shown;\nmod two;\n",
@@ -26,10 +51,11 @@ ghost use Rattle.a.specs.One.{is_one};
 ghost use Rattle.low.specs.Big.{is_big};
 
 use crate::kind::Kind;
+use low::Shape;
 use low::count;
 
 /// Tells.
-pub(crate) fn one(n: usize, _kind: Kind) -> bool
+pub(crate) fn one(n: usize, _kind: Kind, _shape: Shape) -> bool
     ensures { result ≡ is_one n }
 {
     count(n) == 1
@@ -40,8 +66,9 @@ pub(crate) fn one(n: usize, _kind: Kind) -> bool
 ghost use Rattle.a.specs.Two.{is_two};
 
 use crate::one::one;
+use low::{Area, Shape};
 
-pub fn two(n: usize) -> bool
+pub fn two<A: Area>(n: usize, _area: A, _shape: Shape) -> bool
     ensures { result ≡ is_two n }
 {
     one(n) || n == 2
@@ -90,6 +117,9 @@ CHANGES = [
     ("crates/a/proofs/two/two/Answers.antt", "c = refl", "c = (refl)", "contract definition"),
     ("crates/low/src/count.rt", "result ≡ n", "n ≡ result", "body contract"),
     ("crates/low/src/count.rt", "\n    n\n", "\n    n + 0\n", ""),
+    # A trait of the repository has to be named, and that of another library has not.
+    ("crates/low/src/area.rt", "λ s. s.n", "λ s. s.n + 0", "contract definition"),
+    ("crates/low/src/display.rt", "λ s. s.n", "λ s. s.n + 0", "body contract definition"),
     ("crates/low/specs/Big.antt", "nat_lt 9 n", "nat_lt 8 n", "body contract"),
     ("crates/low/specs/Big.antt", "other = 1", "other = 2", ""),
     ("edits/a/body.edit", "new: == 2", "new: == 3", "body"),

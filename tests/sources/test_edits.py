@@ -2,8 +2,8 @@
 
 The gate tries those of crates/CRATE/must-fail/, whose number is limited. edits/try tries the others; the file
 edits/tried has a sum of what decided about each, and the toolchain that refused it. An edit fails here if it, what its
-crate's files say that can decide about it, the statements of lower crates that these depend on, or the toolchain have
-changed since then."""
+crate's files say that can decide about it, the statements of lower crates that these depend on, or the logic of the
+toolchain have changed since then."""
 from __future__ import annotations
 
 import os
@@ -52,10 +52,11 @@ def crates_of(edits: Iterable[str]) -> list[str]:
 
 
 def of_toolchains(toolchain: str, tried: Mapping[str, Any]) -> Iterator[str]:
-    """Which crates have edits that were refused by another toolchain than this one."""
-    others = [edit for edit, (_, refused_by) in tried.items() if refused_by != toolchain]
+    """Which crates have edits that were refused by another logic than that of this toolchain."""
+    logic = record.logic_of(toolchain)
+    others = [edit for edit, (_, refused_by) in tried.items() if record.logic_of(refused_by) != logic]
     if others:
-        yield f"tried by another toolchain than {toolchain}: run edits/try {' '.join(crates_of(others))}"
+        yield f"tried by another logic than that of {toolchain}: run edits/try {' '.join(crates_of(others))}"
 
 
 def of_numbers(gate: Edits, others: Edits) -> Iterator[str]:
@@ -134,6 +135,10 @@ class SpoiltEdits(Case):
         self.expect("one toolchain", [*of_toolchains("old", {"a/one": ("1", "old")})], [])
         found = [*of_toolchains("new", tried)]
         self.expect("two", [it.endswith("run edits/try a") for it in found], [True])
+        kits = {"a/one": ("1", "kit-1 logic 5a"), "b/two": ("2", "kit-2 logic 5a")}
+        self.expect("two kits of one logic", [*of_toolchains("kit-3 logic 5a", kits)], [])
+        found = [*of_toolchains("kit-1 logic 6b", kits)]
+        self.expect("another logic of a kit", [it.endswith("run edits/try a b") for it in found], [True])
 
     def test_numbers(self) -> None:
         one: Edits = [("a", "a/1.edit")]
