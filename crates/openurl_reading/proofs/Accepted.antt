@@ -1,8 +1,8 @@
 -- Pairs that count still count after all steps.
 use Rattle.std.proofs.Common.{◌≡◌, ℕ, List, [], ◌∷◌, ◌++◌, map, take, Bool, true, false, cond, not, ◌&&◌, ◌||◌}
-use Rattle.std.proofs.Common.{Option, Some, None, refl, sym, ap, subst, get_or, arith}
+use Rattle.std.proofs.Common.{Option, Some, None, refl, sym, subst, get_or, arith}
 use Rattle.std.specs.Prelude.{codes, nat_eq, nat_le}
-use Rattle.std.specs.Char.{is_ascii_digit, to_ascii_uppercase}
+use Rattle.std.specs.Char.{is_ascii_digit, to_ascii_lowercase, to_ascii_uppercase}
 use Rattle.std.specs.List.{All, starts_with}
 use Rattle.std.specs.Str.{bytes_eq}
 use Rattle.std.proofs.lemmas.Bool.{and_parts, and_from, not-true}
@@ -13,6 +13,10 @@ use Rattle.text_model.specs.Texts.{Text}
 use Rattle.kev_read.specs.Pairs.{KeyValue, all_of, first_of}
 use Rattle.kev_read.specs.Refusal.{is_other_version}
 use Rattle.openurl_reading.specs.Counting.{is_free, is_void, is_blank, is_any, is_prefix, is_one_of, row_keys, is_accepted, accepted, counting, most_pairs}
+use Rattle.work_identifiers.specs.declared.namespace.Namespace.{Namespace}
+use Rattle.work_identifiers.specs.declared.namespace.Namespace.TheVariants.{Doi, Pmid, Oclc}
+use Rattle.work_identifiers.specs.Forms.{IsIdentifier}
+use Rattle.openurl_reading.specs.Identifiers.{first_identifier, uri_of, naming, namings}
 use Rattle.openurl_reading.specs.Steps.{Step, unchanged, replacing, taken, after}
 use Rattle.openurl_reading.specs.Values.{most_values, led}
 use Rattle.openurl_reading.specs.Versions.{version, correction}
@@ -21,8 +25,10 @@ use Rattle.openurl_reading.specs.Referrers.{namespace, referrer_of, referrer_ste
 use Rattle.openurl_reading.specs.Numbers.{first_issn, first_eissn, first_isbn, issn_step, eissn_step, isbn_step}
 use Rattle.openurl_reading.specs.Dates.{date_keys, first_date, led_or_none, date_step}
 use Rattle.openurl_reading.specs.Reading.{normal_form}
-use Rattle.openurl_reading.proofs.Each.{none_has, one_has, each_taken, each_of_key, each_filled, each_led}
+use Rattle.openurl_reading.proofs.Each.{none_has, one_has, each_taken, each_of_key, each_filled, each_led, each_named}
 use Rattle.openurl_reading.proofs.FoundAre.{AreFound}
+use Rattle.openurl_reading.proofs.Identified.{AreIdentified, first_is, of_is}
+use Rattle.openurl_reading.proofs.IdentifierForms.{BeginsWithDigit, identifier_digit}
 use Rattle.openurl_reading.proofs.Stages.{last_steps, with_versions, normal_form-is}
 use Rattle.openurl_reading.proofs.Values.{same_key}
 
@@ -39,13 +45,6 @@ accepted_pass (pair ∷ pairs) = by_test (is_accepted pair) refl (accepted_pass 
 
 pub counting_pass : (pairs : List KeyValue) → AreAccepted (counting pairs)
 counting_pass pairs = All-take (λ p. is_accepted p ≡ true) most_pairs (accepted pairs) (accepted_pass pairs)
-
--- all that pass are kept
-pub all_accepted : (pairs : List KeyValue) → AreAccepted pairs → accepted pairs ≡ pairs
-all_accepted [] all = refl
-all_accepted (pair ∷ pairs) all =
-    let P : KeyValue → Type 0 = λ p. is_accepted p ≡ true in
-    rw (All-head P pair pairs all) (ap (λ rest. pair ∷ rest) (all_accepted pairs (All-tail P pair pairs all)))
 
 -- ---- a value that counts under a key counts under another one
 
@@ -130,10 +129,6 @@ referrer_passes pairs all =
     (λ k d h. let sid = get_or sids k d in
     referrer_passes_at sid (starts_with nat_eq sid namespace) refl (not_blank (codes "sid") sid (known k d h))))) all
 
--- a number or a date
-abbrev pub BeginsWithDigit : Text → Type 0
-BeginsWithDigit n = (b : ℕ) × (t : Text) × (n ≡ b ∷ t) × (is_ascii_digit b ≡ true)
-
 digit_is_no_blank : (b : ℕ) → is_ascii_digit b ≡ true → nat_le b 0x20 ≡ false
 digit_is_no_blank b h = grind (arith, nat_tests)
 
@@ -164,24 +159,48 @@ date_passes : (found first : Option Text) → ((n : Text) → found ≡ Some n �
 date_passes None first h = none_has (Passes (codes "rft.date"))
 date_passes (Some d) first h = led_passes (codes "rft.date") (Some d) first refl h
 
+-- ---- URIs of identifiers
+
+digit_is_no_letter : (b : ℕ) → is_ascii_digit b ≡ true → nat_eq 0x64 (to_ascii_lowercase b) ≡ false
+digit_is_no_letter b h = grind (arith, nat_tests)
+
+-- a URI is no prefix alone: not `info:doi/`, and not `info:doi/doi:`
+uri_passes : (namespace : Namespace) (n : Text) → BeginsWithDigit n → Passes (codes "rft_id") (uri_of namespace n)
+uri_passes Doi n is = rw is.2 (rw (digit_is_no_letter is.0 is.3) refl)
+uri_passes Pmid n is = rw is.2 refl
+uri_passes Oclc n is = rw is.2 refl
+
+naming_passes : AreIdentified → (namespace : Namespace) (pairs : List KeyValue) → AreAccepted pairs → AreAccepted (taken pairs (naming namespace))
+naming_passes identified namespace pairs all =
+    step_passes (naming namespace) pairs
+    (each_named (Passes (codes "rft_id")) namespace (first_identifier namespace pairs) (all_of pairs (codes "rft_id"))
+    (λ n e. uri_passes namespace n
+    (identifier_digit namespace n (first_is (IsIdentifier namespace) namespace (of_is identified namespace) pairs n e)))) all
+
+namings_pass : AreIdentified → (pairs : List KeyValue) → AreAccepted pairs → AreAccepted (after namings pairs)
+namings_pass identified pairs all =
+    let first = taken pairs (naming Oclc) in
+    naming_passes identified Doi (taken first (naming Pmid)) (naming_passes identified Pmid first (naming_passes identified Oclc pairs all))
+
 -- ---- all
 
-last_pass : AreFound BeginsWithDigit → (pairs : List KeyValue) → AreAccepted pairs → AreAccepted (after last_steps pairs)
-last_pass found pairs all =
+last_pass : AreIdentified → AreFound BeginsWithDigit → (pairs : List KeyValue) → AreAccepted pairs → AreAccepted (after last_steps pairs)
+last_pass identified found pairs all =
     let named = taken pairs referrer_step in
     let issns = taken named issn_step in
     let eissns = taken issns eissn_step in
     let isbns = taken eissns isbn_step in
-    step_passes date_step isbns (date_passes (first_date date_keys isbns) (first_of isbns (codes "rft.date")) (found.date isbns))
+    namings_pass identified (taken isbns date_step)
+    (step_passes date_step isbns (date_passes (first_date date_keys isbns) (first_of isbns (codes "rft.date")) (found.date isbns))
     (step_passes isbn_step eissns (led_passes (codes "rft.isbn") (first_isbn eissns) (first_of eissns (codes "rft.isbn")) refl (found.isbn eissns))
     (step_passes eissn_step issns (led_passes (codes "rft.eissn") (first_eissn issns) (first_of issns (codes "rft.eissn")) refl (found.eissn issns))
     (step_passes issn_step named (led_passes (codes "rft.issn") (first_issn named) (first_of named (codes "rft.issn")) refl (found.issn named))
-    (referrer_passes pairs all))))
+    (referrer_passes pairs all)))))
 
-pub normal_form_passes : AreFound BeginsWithDigit → (pairs : List KeyValue) → AreAccepted pairs → AreAccepted (normal_form pairs)
-normal_form_passes found pairs all =
+pub normal_form_passes : AreIdentified → AreFound BeginsWithDigit → (pairs : List KeyValue) → AreAccepted pairs → AreAccepted (normal_form pairs)
+normal_form_passes identified found pairs all =
     let first = taken pairs (correction (codes "ctx_ver")) in
     subst AreAccepted (sym (normal_form-is pairs))
-    (last_pass found (after copies (with_versions pairs))
+    (last_pass identified found (after copies (with_versions pairs))
     (copies_pass old_keys (with_versions pairs) old_keys_allow
     (version_passes (codes "url_ver") first refl (version_passes (codes "ctx_ver") pairs refl all))))

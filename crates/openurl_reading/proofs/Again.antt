@@ -1,43 +1,38 @@
 -- A reading is read as it is.
-use Rattle.std.proofs.Common.{◌≡◌, ◌≤◌, ◌-◌, List, [], ◌++◌, take, length, false, Option, Some, None, refl, ap, ◌∙◌, arith, append-nil}
-use Rattle.std.specs.Prelude.{codes}
+use Rattle.std.proofs.Common.{◌≡◌, ◌≤◌, ◌-◌, List, [], ◌++◌, take, length, false, not, ◌&&◌, get_or, refl, ap, ◌∙◌, arith}
+use Rattle.std.proofs.lemmas.Bool.{not-true}
 use Rattle.std.proofs.lemmas.List.{take_all}
 use Rattle.std.proofs.lemmas.List.Elements.{filter-append}
-use Rattle.text_model.specs.Texts.{Text}
+use Rattle.std.proofs.lemmas.List.Sums.{AllPass-from_list_all}
 use Rattle.kev_read.specs.Pairs.{KeyValue}
-use Rattle.openurl_reading.specs.Counting.{is_free, accepted, is_accepted, counting, most_pairs}
-use Rattle.openurl_reading.specs.Numbers.{first_number, first_isbn}
-use Rattle.openurl_reading.specs.Reading.{normal_form, added, issns_of, second_issn, derived, with_derived, reading_of}
-use Rattle.openurl_reading.proofs.Accepted.{AreAccepted, BeginsWithDigit, counting_pass, all_accepted, normal_form_passes}
+use Rattle.openurl_reading.specs.Counting.{is_free, is_void, accepted, is_accepted, counting, most_pairs}
+use Rattle.openurl_reading.specs.Reading.{normal_form, derived, with_derived, reading_of}
+use Rattle.openurl_reading.proofs.Accepted.{AreAccepted, counting_pass, normal_form_passes}
+use Rattle.openurl_reading.proofs.Additions.{additions, all_derived}
+use Rattle.openurl_reading.proofs.Each.{all_stay, none_stays}
 use Rattle.openurl_reading.proofs.FoundAre.{AreFound}
+use Rattle.openurl_reading.proofs.Identified.{AreIdentified}
+use Rattle.openurl_reading.proofs.IdentifierForms.{BeginsWithDigit}
 
-added_out : (key : Text) (value : Option Text) → is_free key ≡ false → accepted (added key value) ≡ []
-added_out key None h = refl
-added_out key (Some v) h = rw h refl
-
+-- no pair that the resolver adds counts
 derived_out : (pairs : List KeyValue) → accepted (derived pairs) ≡ []
 derived_out pairs =
-    let issn = added (codes "x.issn") (first_number (issns_of pairs)) in
-    let eissn = added (codes "x.eissn") (second_issn pairs) in
-    let isbn = added (codes "x.isbn") (first_isbn pairs) in
-    filter-append is_accepted (issn ++ eissn) isbn
-    ∙ ap (λ rest. accepted (issn ++ eissn) ++ rest) (added_out (codes "x.isbn") (first_isbn pairs) refl)
-    ∙ append-nil (accepted (issn ++ eissn))
-    ∙ filter-append is_accepted issn eissn
-    ∙ ap (λ rest. accepted issn ++ rest) (added_out (codes "x.eissn") (second_issn pairs) refl)
-    ∙ append-nil (accepted issn)
-    ∙ added_out (codes "x.issn") (first_number (issns_of pairs)) refl
+    none_stays is_accepted (derived pairs)
+    (all_derived (λ pair. is_accepted pair ≡ false) pairs
+    (λ k d h v e. ap (λ b. b && not (is_void (record { key = (get_or (additions pairs) k d).key; value = v })))
+    (not-true _ (AllPass-from_list_all (λ addition. not (is_free addition.key)) (additions pairs) refl k d h))))
 
 accepted_again : (pairs : List KeyValue) → AreAccepted pairs → accepted (with_derived pairs) ≡ pairs
 accepted_again pairs pass =
-    filter-append is_accepted (derived pairs) pairs ∙ ap (λ front. front ++ accepted pairs) (derived_out pairs) ∙ all_accepted pairs pass
+    filter-append is_accepted (derived pairs) pairs ∙ ap (λ front. front ++ accepted pairs) (derived_out pairs) ∙ all_stay is_accepted pairs pass
 
-pub reading_again : ((pairs : List KeyValue) → normal_form (normal_form pairs) ≡ normal_form pairs) → AreFound BeginsWithDigit → (pairs : List KeyValue)
+pub reading_again : AreIdentified → ((pairs : List KeyValue) → normal_form (normal_form pairs) ≡ normal_form pairs) → AreFound BeginsWithDigit
+    → (pairs : List KeyValue)
     → length (normal_form (counting pairs)) ≤ most_pairs
     → reading_of (reading_of pairs).pairs ≡ record { pairs = (reading_of pairs).pairs; left_out = 0 }
-reading_again once found pairs few =
+reading_again identified once found pairs few =
     let normal = normal_form (counting pairs) in
-    let same = accepted_again normal (normal_form_passes found (counting pairs) (counting_pass pairs)) in
+    let same = accepted_again normal (normal_form_passes identified found (counting pairs) (counting_pass pairs)) in
     let counted : counting (with_derived normal) ≡ normal = ap (take most_pairs) same ∙ take_all most_pairs normal few in
     let read : with_derived (normal_form (counting (with_derived normal))) ≡ with_derived normal =
     ap (λ list. with_derived (normal_form list)) counted ∙ ap with_derived (once (counting pairs)) in

@@ -9,6 +9,7 @@ use Rattle.kev_read.specs.Refusal.{is_other_version}
 use Rattle.standard_numbers.specs.Issn.{issns_in}
 use Rattle.standard_numbers.specs.Isbn.{isbns_in}
 use Rattle.publication_dates.specs.Dates.{date_in}
+use Rattle.work_identifiers.specs.declared.namespace.Namespace.{Namespace}
 use Rattle.openurl_reading.specs.Steps.{unchanged, replacing}
 use Rattle.openurl_reading.specs.Values.{most_values, searched, led}
 use Rattle.openurl_reading.specs.OldKeys.{OldKey, old_keys, filled, copied}
@@ -18,7 +19,7 @@ use Rattle.openurl_reading.specs.Dates.{led_or_none}
 use Rattle.openurl_reading.specs.Canonical.{Lacks, Under, IsVersion}
 use Rattle.openurl_reading.proofs.DateLed.{date_among, rest_of, IsSettledAmong}
 use Rattle.openurl_reading.proofs.FoundAgain.{issn_among, further_among, isbn_among}
-use Rattle.openurl_reading.proofs.Settled.{IsSettled, led-same, filled-none}
+use Rattle.openurl_reading.proofs.Settled.{IsSettled, IsNamed, led-same, filled-none}
 use Rattle.openurl_reading.proofs.Others.{bytes_eq-same}
 
 -- versions
@@ -110,6 +111,7 @@ pub record HasKept (pairs : List KeyValue) : Type 0 where
   pub eissns : Under pairs (codes "rft.eissn") (IsKept issns_in)
   pub isbns : Under pairs (codes "rft.isbn") (IsKept isbns_in)
   pub dates : Under pairs (codes "rft.date") IsDateKept
+  pub works : (namespace : Namespace) → IsNamed pairs namespace
 
 pub kept_settled : (pairs : List KeyValue) → HasKept pairs → IsSettled pairs
 kept_settled pairs has =
@@ -125,4 +127,5 @@ kept_settled pairs has =
       eissn = ap (λ n. led n (slice_get eissns 0)) (eissn_leads issns eissns has.issns has.eissns) ∙ led-same (slice_get eissns 0);
       isbn = ap (λ n. led n (slice_get isbns 0)) (isbn_leads (all_of pairs (codes "rft.eisbn")) isbns has.no_eisbn has.isbns) ∙ led-same (slice_get isbns 0);
       date = date_settled (all_of pairs (codes "rft.date")) _ _ _ has.no_year has.no_date has.no_old_year has.dates;
+      works = has.works;
     }

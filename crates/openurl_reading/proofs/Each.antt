@@ -1,10 +1,13 @@
 -- What holds of each pair, or of each value of a key, after a step.
-use Rattle.std.proofs.Common.{◌≡◌, List, [], ◌∷◌, map, Bool, true, false, cond, not, Option, Some, None, refl, arith, filter}
+use Rattle.std.proofs.Common.{◌≡◌, List, [], ◌∷◌, map, Bool, true, false, cond, not, Option, Some, None, refl, ap, arith, filter}
 use Rattle.std.specs.List.{All, flat_map}
 use Rattle.std.specs.Str.{bytes_eq}
 use Rattle.std.proofs.lemmas.List.Elements.{All-append, All-filter, All-cons, All-head, All-tail}
 use Rattle.text_model.specs.Texts.{Text}
 use Rattle.kev_read.specs.Pairs.{KeyValue, has_key, all_of}
+use Rattle.work_identifiers.specs.declared.namespace.Namespace.{Namespace}
+use Rattle.openurl_reading.specs.Counting.{is_one_of}
+use Rattle.openurl_reading.specs.Identifiers.{uri_of, named}
 use Rattle.openurl_reading.specs.Steps.{Step, unchanged, leading, pairs_with, kept, taken}
 use Rattle.openurl_reading.specs.Values.{led}
 use Rattle.openurl_reading.specs.OldKeys.{filled}
@@ -61,6 +64,15 @@ each_led P (Some n) (Some v) h = by_test (bytes_eq v n)
     by_test true = none_has P
     by_test false = one_has P n (h n refl)
 
+pub each_named : (P : Text → Type 0) (namespace : Namespace) (found : Option Text) (known : List Text)
+    → ((n : Text) → found ≡ Some n → P (uri_of namespace n)) → All P (named namespace found known).values
+each_named P namespace None known h = none_has P
+each_named P namespace (Some n) known h = by_test (is_one_of known (uri_of namespace n))
+  where
+    by_test : (b : Bool) → All P (cond b unchanged (leading (uri_of namespace n ∷ []))).values
+    by_test true = none_has P
+    by_test false = one_has P (uri_of namespace n) (h n refl)
+
 pub each_after : (P : Text → Type 0) (found first : Option Text) (values : List Text) → ((n : Text) → found ≡ Some n → P n) → All P values
     → All P (values_after (led found first) values)
 each_after P found first values h all =
@@ -77,3 +89,16 @@ each_found P f [] all = none_has P
 each_found P f (v ∷ vs) all =
     let Q : Text → Type 0 = λ v. All P (f v) in
     All-append P (f v) (flat_map f vs) (All-head Q v vs all) (each_found P f vs (All-tail Q v vs all))
+
+-- ---- a test that all pairs pass, or none
+
+pub all_stay : (test : KeyValue → Bool) (pairs : List KeyValue) → All (λ pair. test pair ≡ true) pairs → filter test pairs ≡ pairs
+all_stay test [] all = refl
+all_stay test (pair ∷ pairs) all =
+    let P : KeyValue → Type 0 = λ p. test p ≡ true in
+    rw (All-head P pair pairs all) (ap (λ rest. pair ∷ rest) (all_stay test pairs (All-tail P pair pairs all)))
+
+pub none_stays : (test : KeyValue → Bool) (pairs : List KeyValue) → All (λ pair. test pair ≡ false) pairs → filter test pairs ≡ []
+none_stays test [] all = refl
+none_stays test (pair ∷ pairs) all =
+    let P : KeyValue → Type 0 = λ p. test p ≡ false in rw (All-head P pair pairs all) (none_stays test pairs (All-tail P pair pairs all))

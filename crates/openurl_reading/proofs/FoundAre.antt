@@ -47,13 +47,13 @@ eissn_is P are issns [] n e =
     (all_flat P (λ v. drop 1 (issns_in (searched v))) (λ v. All-drop P 1 (issns_in (searched v)) (are.issns (searched v))) (take most_values issns)) e
 eissn_is P are issns (v ∷ vs) n e = first_has P _ n (issns_are P are (take most_values (v ∷ vs))) e
 
-abbrev IsAll : (Text → Type 0) → Option Text → Type 0
+abbrev pub IsAll : (Text → Type 0) → Option Text → Type 0
 IsAll P found = (d : Text) → found ≡ Some d → P d
 
-none_is : (P : Text → Type 0) → IsAll P None
+pub none_is : (P : Text → Type 0) → IsAll P None
 none_is P d h = cc
 
-or_is : (P : Text → Type 0) (a b : Option Text) → IsAll P a → IsAll P b → IsAll P (option_or a b)
+pub or_is : (P : Text → Type 0) (a b : Option Text) → IsAll P a → IsAll P b → IsAll P (option_or a b)
 or_is P None b p q = q
 or_is P (Some t) b p q = p
 

@@ -1,6 +1,5 @@
 -- No step gives a key that the request may not have, and the other keys are those that the resolver adds.
-use Rattle.std.proofs.Common.{◌≡◌, List, [], ◌∷◌, ◌++◌, filter, Bool, true, false, not, refl, Option, Some, None, arith, cond, get_or, ap, ◌∙◌, append-nil}
-use Rattle.std.specs.Prelude.{codes}
+use Rattle.std.proofs.Common.{◌≡◌, List, [], ◌∷◌, ◌++◌, filter, Bool, true, false, not, refl, arith, cond, get_or, ap, ◌∙◌, append-nil}
 use Rattle.std.specs.List.{All}
 use Rattle.std.proofs.lemmas.Bool.{and_parts, not-true}
 use Rattle.std.proofs.lemmas.List.Sums.{AllPass-from_list_all}
@@ -8,9 +7,10 @@ use Rattle.std.proofs.lemmas.List.Elements.{All-append, All-take, All-filter, Al
 use Rattle.text_model.specs.Texts.{Text}
 use Rattle.kev_read.specs.Pairs.{KeyValue, has_key}
 use Rattle.openurl_reading.specs.Counting.{is_added_key, is_free, is_accepted, is_column, accepted, counting, most_pairs}
-use Rattle.openurl_reading.specs.Numbers.{first_number, first_isbn}
 use Rattle.openurl_reading.specs.Steps.{Step, pairs_with, kept, taken, after}
-use Rattle.openurl_reading.specs.Reading.{steps, normal_form, added, issns_of, second_issn, derived, with_derived}
+use Rattle.openurl_reading.specs.Reading.{steps, normal_form, derived, with_derived}
+use Rattle.openurl_reading.proofs.Additions.{additions, all_derived}
+use Rattle.openurl_reading.proofs.Each.{all_stay, none_stays}
 
 abbrev pub AreFree : List KeyValue → Type 0
 AreFree pairs = All (λ pair. is_free pair.key ≡ true) pairs
@@ -59,20 +59,10 @@ not_column key h = not-true (is_column key) (and_parts _ _ h).1
 abbrev pub AreNoColumns : List KeyValue → Type 0
 AreNoColumns pairs = All (λ pair. is_column pair.key ≡ false) pairs
 
-added_no_column : (key : Text) (value : Option Text) → is_column key ≡ false → AreNoColumns (added key value)
-added_no_column key None h = λ k d g. absurd (omega arith)
-added_no_column key (Some v) h = All-cons (λ p. is_column p.key ≡ false) (record { key = key; value = v }) [] h (λ k d g. absurd (omega arith))
-
 derived_no_columns : (pairs : List KeyValue) → AreNoColumns (derived pairs)
 derived_no_columns pairs =
-    let P : KeyValue → Type 0 = λ p. is_column p.key ≡ false in
-    let issn = added (codes "x.issn") (first_number (issns_of pairs)) in
-    let eissn = added (codes "x.eissn") (second_issn pairs) in
-    let isbn = added (codes "x.isbn") (first_isbn pairs) in
-    All-append P (issn ++ eissn) isbn
-    (All-append P issn eissn (added_no_column (codes "x.issn") (first_number (issns_of pairs)) refl)
-    (added_no_column (codes "x.eissn") (second_issn pairs) refl))
-    (added_no_column (codes "x.isbn") (first_isbn pairs) refl)
+    all_derived (λ pair. is_column pair.key ≡ false) pairs
+    (λ k d h v e. not-true _ (AllPass-from_list_all (λ addition. not (is_column addition.key)) (additions pairs) refl k d h))
 
 pub no_columns : (pairs : List KeyValue) → AreFree pairs → AreNoColumns (with_derived pairs)
 no_columns pairs free =
@@ -80,27 +70,19 @@ no_columns pairs free =
 
 -- ---- keys that the resolver adds
 
-added_only : (key : Text) (value : Option Text) → is_added_key key ≡ true → filter (λ pair. is_added_key pair.key) (added key value) ≡ added key value
-added_only key None h = refl
-added_only key (Some v) h = rw h refl
-
 none_added : (pairs : List KeyValue) → AreFree pairs → filter (λ pair. is_added_key pair.key) pairs ≡ []
-none_added [] free = refl
-none_added (pair ∷ pairs) free =
-    let one : is_added_key pair.key ≡ false = not-true (is_added_key pair.key) (and_parts _ _ (All-head (λ p. is_free p.key ≡ true) pair pairs free)).0 in
-    rw one (none_added pairs (All-tail (λ p. is_free p.key ≡ true) pair pairs free))
+none_added pairs free =
+    none_stays (λ pair. is_added_key pair.key) pairs (λ k d h. not-true (is_added_key (get_or pairs k d).key) (and_parts _ _ (free k d h)).0)
+
+all_added : (pairs : List KeyValue) → filter (λ pair. is_added_key pair.key) (derived pairs) ≡ derived pairs
+all_added pairs =
+    let test : KeyValue → Bool = λ pair. is_added_key pair.key in
+    all_stay test (derived pairs)
+    (all_derived (λ pair. test pair ≡ true) pairs
+    (λ k d h v e. AllPass-from_list_all (λ addition. is_added_key addition.key) (additions pairs) refl k d h))
 
 pub added_are_derived : (pairs : List KeyValue) → AreFree pairs → filter (λ pair. is_added_key pair.key) (with_derived pairs) ≡ derived pairs
 added_are_derived pairs free =
     let test : KeyValue → Bool = λ pair. is_added_key pair.key in
-    let issn = added (codes "x.issn") (first_number (issns_of pairs)) in
-    let eissn = added (codes "x.eissn") (second_issn pairs) in
-    let isbn = added (codes "x.isbn") (first_isbn pairs) in
     filter-append test (derived pairs) pairs ∙ ap (λ rest. filter test (derived pairs) ++ rest) (none_added pairs free)
-    ∙ append-nil (filter test (derived pairs))
-    ∙ filter-append test (issn ++ eissn) isbn ∙ ap (λ front. front ++ filter test isbn) (filter-append test issn eissn)
-    ∙ three (added_only (codes "x.issn") (first_number (issns_of pairs)) refl) (added_only (codes "x.eissn") (second_issn pairs) refl)
-    (added_only (codes "x.isbn") (first_isbn pairs) refl)
-  where
-    three : {a a' b b' c c' : List KeyValue} → a ≡ a' → b ≡ b' → c ≡ c' → a ++ b ++ c ≡ a' ++ b' ++ c'
-    three p q r = rw (p, q, r) refl
+    ∙ append-nil (filter test (derived pairs)) ∙ all_added pairs

@@ -1,5 +1,5 @@
 -- After all steps, those of versions and old keys change nothing.
-use Rattle.std.proofs.Common.{◌≡◌, List, [], ◌∷◌, Bool, true, false, cond, not, refl, sym, ◌∙◌, subst, inl, inr, get_or, take, map, arith}
+use Rattle.std.proofs.Common.{◌≡◌, List, [], ◌∷◌, Bool, true, false, cond, not, refl, sym, ◌∙◌, subst, inl, inr, get_or, take, map}
 use Rattle.std.specs.Prelude.{codes, slice_get}
 use Rattle.std.specs.List.{All, list_all}
 use Rattle.std.specs.Str.{bytes_eq}
@@ -16,8 +16,13 @@ use Rattle.openurl_reading.specs.OldKeys.{OldKey, old_keys, copies, copied}
 use Rattle.openurl_reading.specs.Referrers.{referrer_of, referrer_step}
 use Rattle.openurl_reading.specs.Numbers.{first_issn, first_eissn, first_isbn, issn_step, eissn_step, isbn_step}
 use Rattle.openurl_reading.specs.Dates.{date_step}
+use Rattle.work_identifiers.specs.declared.namespace.Namespace.{Namespace}
+use Rattle.work_identifiers.specs.declared.namespace.Namespace.TheVariants.{Doi, Pmid, Oclc}
+use Rattle.openurl_reading.specs.Identifiers.{first_identifier, naming, namings}
+use Rattle.openurl_reading.proofs.Each.{one_has}
 use Rattle.openurl_reading.proofs.Filled.{MakesSome, KeepsKey, filled_unchanged, filled-keeps, all_keep_filled, copies_fill}
 use Rattle.openurl_reading.proofs.Led.{led-keeps}
+use Rattle.openurl_reading.proofs.Named.{named-keeps}
 use Rattle.openurl_reading.proofs.Stages.{last_steps}
 use Rattle.openurl_reading.proofs.Values.{values_after, all_of-taken-own, all_of-after}
 
@@ -54,13 +59,21 @@ first_referrer v vs = (referrer_of v, map referrer_of (take 0 vs), refl)
 abbrev pub referral : OldKey
 referral = record { old = codes "sid"; new = codes "rfr_id" }
 
+naming_keeps : (key : Text) (namespace : Namespace) → KeepsKey key (naming namespace)
+naming_keeps key namespace = inr (λ p. named-keeps namespace (first_identifier namespace p) (all_of p (codes "rft_id")))
+
+namings_keep : (key : Text) → All (KeepsKey key) namings
+namings_keep key =
+    All-cons (KeepsKey key) (naming Oclc) (naming Pmid ∷ naming Doi ∷ []) (naming_keeps key Oclc)
+    (All-cons (KeepsKey key) (naming Pmid) (naming Doi ∷ []) (naming_keeps key Pmid) (one_has (KeepsKey key) (naming Doi) (naming_keeps key Doi)))
+
 pub last_keep : (key : Text) → bytes_eq (codes "rft.date") key ≡ false → All (KeepsKey key) last_steps
 last_keep key h =
-    All-cons (KeepsKey key) referrer_step (issn_step ∷ eissn_step ∷ isbn_step ∷ date_step ∷ []) (inr (λ p. filled-keeps _ (all_of p (codes "rfr_id"))))
-    (All-cons (KeepsKey key) issn_step (eissn_step ∷ isbn_step ∷ date_step ∷ []) (inr (λ p. led-keeps (first_issn p) (first_of p (codes "rft.issn"))))
-    (All-cons (KeepsKey key) eissn_step (isbn_step ∷ date_step ∷ []) (inr (λ p. led-keeps (first_eissn p) (first_of p (codes "rft.eissn"))))
-    (All-cons (KeepsKey key) isbn_step (date_step ∷ []) (inr (λ p. led-keeps (first_isbn p) (first_of p (codes "rft.isbn"))))
-    (All-cons (KeepsKey key) date_step [] (inl h) (λ k d g. absurd (omega arith))))))
+    All-cons (KeepsKey key) referrer_step (issn_step ∷ eissn_step ∷ isbn_step ∷ date_step ∷ namings) (inr (λ p. filled-keeps _ (all_of p (codes "rfr_id"))))
+    (All-cons (KeepsKey key) issn_step (eissn_step ∷ isbn_step ∷ date_step ∷ namings) (inr (λ p. led-keeps (first_issn p) (first_of p (codes "rft.issn"))))
+    (All-cons (KeepsKey key) eissn_step (isbn_step ∷ date_step ∷ namings) (inr (λ p. led-keeps (first_eissn p) (first_of p (codes "rft.eissn"))))
+    (All-cons (KeepsKey key) isbn_step (date_step ∷ namings) (inr (λ p. led-keeps (first_isbn p) (first_of p (codes "rft.isbn"))))
+    (All-cons (KeepsKey key) date_step namings (inl h) (namings_keep key)))))
 
 old_apart : All (λ key. list_all (λ step. not (bytes_eq step.key key.old)) last_steps ≡ true) old_keys
 old_apart = AllPass-from_list_all (λ key. list_all (λ step. not (bytes_eq step.key key.old)) last_steps) old_keys refl

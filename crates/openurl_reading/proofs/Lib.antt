@@ -1,5 +1,7 @@
 pub mod Accepted
+pub mod Additions
 pub mod Again
+pub mod AnyTexts
 pub mod CanonicalStays
 pub mod CountedPairs
 pub mod DateLed
@@ -9,9 +11,13 @@ pub mod Firsts
 pub mod FoundAgain
 pub mod FoundAre
 pub mod Free
+pub mod IdentifierForms
+pub mod IdentifierOrigins
+pub mod Identified
 pub mod KeysSettle
 pub mod Led
 pub mod LowerLaws
+pub mod Named
 pub mod NothingInvented
 pub mod Origins
 pub mod Others

@@ -14,10 +14,10 @@ use Rattle.publication_dates.specs.Calendar.{hyphen}
 use Rattle.publication_dates.specs.Dates.{date_in}
 use Rattle.publication_dates.specs.Forms.{IsYear, IsDate, year_alone, with_month, with_day}
 use Rattle.openurl_reading.specs.Values.{most_bytes, searched}
-use Rattle.openurl_reading.proofs.Accepted.{BeginsWithDigit}
 use Rattle.openurl_reading.proofs.CanonicalStays.{IsKept, IsDateKept}
 use Rattle.openurl_reading.proofs.FoundAgain.{AreFoundAgain}
 use Rattle.openurl_reading.proofs.FoundAre.{AreFoundIn}
+use Rattle.openurl_reading.proofs.IdentifierForms.{BeginsWithDigit}
 
 -- what the laws say
 abbrev pub IssnsAre : Type 0

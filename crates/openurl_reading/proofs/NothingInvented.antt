@@ -1,5 +1,5 @@
 -- Each value of a reading has an origin.
-use Rattle.std.proofs.Common.{◌≡◌, List, [], ◌∷◌, map, take, Bool, true, false, cond, not, Option, Some, None, refl, sym, subst, get_or}
+use Rattle.std.proofs.Common.{◌≡◌, List, [], ◌∷◌, map, take, Bool, true, false, cond, not, Option, Some, None, refl, sym, subst, get_or, lit<}
 use Rattle.std.specs.Prelude.{codes, Contains}
 use Rattle.std.specs.List.{All, list_all}
 use Rattle.std.specs.Str.{bytes_eq}
@@ -15,11 +15,18 @@ use Rattle.openurl_reading.specs.OldKeys.{OldKey, old_keys, copy, copies}
 use Rattle.openurl_reading.specs.Referrers.{referrer_of, referrer_step}
 use Rattle.openurl_reading.specs.Numbers.{first_number, first_issn, first_eissn, first_isbn, issn_step, eissn_step, isbn_step}
 use Rattle.openurl_reading.specs.Dates.{date_keys, first_date, led_or_none, date_step}
-use Rattle.openurl_reading.specs.Reading.{normal_form, added, issns_of, second_issn, derived, with_derived}
+use Rattle.work_identifiers.specs.declared.namespace.Namespace.{Namespace}
+use Rattle.work_identifiers.specs.declared.namespace.Namespace.TheVariants.{Doi, Pmid, Oclc}
+use Rattle.openurl_reading.specs.Identifiers.{first_under, first_identifier, naming, namings}
+use Rattle.openurl_reading.specs.Reading.{normal_form, issns_of, derived, with_derived}
 use Rattle.openurl_reading.specs.Origins.{HasOrigin, from_request, version_of_openurl, source_in, all_values}
-use Rattle.openurl_reading.proofs.Each.{none_has, one_has, each_taken, each_of_key, each_filled, each_led}
+use Rattle.openurl_reading.proofs.Additions.{derived_values}
+use Rattle.openurl_reading.proofs.Each.{none_has, one_has, each_taken, each_of_key, each_filled, each_led, each_named}
 use Rattle.openurl_reading.proofs.FoundAgain.{AreFoundAgain, first_has, issn_among_again, eissn_among_again, isbn_among_again}
+use Rattle.openurl_reading.proofs.Identified.{AreIdentified}
+use Rattle.openurl_reading.proofs.IdentifierOrigins.{AreRead, identifiers_under, first_read, referent_read, naming_read, identifier_has_origin, uri_has_origin}
 use Rattle.openurl_reading.proofs.KeysSettle.{same_after}
+use Rattle.openurl_reading.proofs.Origins.{number_keys, no_number}
 use Rattle.openurl_reading.proofs.Origins.{GivesIssns, GivesIsbns, sent_gives_issns, sent_gives_isbns, issn_has, eissn_has, isbn_has}
 use Rattle.openurl_reading.proofs.Origins.{issns_have, second_has, dates_have, led_gives_issns, led_gives_isbns}
 use Rattle.openurl_reading.proofs.Sent.{IsNoVersion, IsSent, counting_values, sent_under, copied_sent}
@@ -88,6 +95,19 @@ kept_under : (P : Text → Type 0) (step : Step) (pairs : List KeyValue) (key : 
     → All P (all_of (taken pairs step) key)
 kept_under P step pairs key h all = subst (All P) (sym (all_of-taken step pairs key h)) all
 
+-- what is read after a step, if it is known of the keys of numbers that steps write
+step_reads : (sent : List Text) (step : Step) (pairs : List KeyValue) → bytes_eq step.key (codes "rft.eisbn") ≡ false
+    → All (HasOrigin sent) (step.change pairs).values → Reads sent pairs → All (GivesIssns sent) (all_of (taken pairs step) (codes "rft.issn"))
+    → All (GivesIssns sent) (all_of (taken pairs step) (codes "rft.eissn")) → All (GivesIsbns sent) (all_of (taken pairs step) (codes "rft.isbn"))
+    → Reads sent (taken pairs step)
+step_reads sent step pairs apart values reads issns eissns isbns = record {
+  issns = issns;
+  eissns = eissns;
+  isbns = isbns;
+  eisbns = kept_under (GivesIsbns sent) step pairs (codes "rft.eisbn") apart reads.eisbns;
+  all = step_has sent step pairs values reads.all;
+}
+
 referrer_reads : (sent : List Text) (pairs : List KeyValue) → All (IsSent sent) pairs → HaveOrigin sent pairs → Reads sent (taken pairs referrer_step)
 referrer_reads sent pairs is all =
     let under : (key : Text) → IsNoVersion key → All (Contains sent) (all_of pairs key) = λ key other. sent_under sent pairs key other is in
@@ -104,14 +124,11 @@ issn_reads laws sent pairs reads =
     let values = all_of pairs (codes "rft.issn") in
     let first = first_of pairs (codes "rft.issn") in
     let found = issn_has sent values reads.issns in
-    record {
-      issns = subst (All (GivesIssns sent)) (sym (all_of-taken-own issn_step pairs))
-          (led_gives_issns sent (first_issn pairs) first values found (issn_among_again laws values) reads.issns);
-      eissns = kept_under (GivesIssns sent) issn_step pairs (codes "rft.eissn") refl reads.eissns;
-      isbns = kept_under (GivesIsbns sent) issn_step pairs (codes "rft.isbn") refl reads.isbns;
-      eisbns = kept_under (GivesIsbns sent) issn_step pairs (codes "rft.eisbn") refl reads.eisbns;
-      all = step_has sent issn_step pairs (each_led (HasOrigin sent) (first_issn pairs) first found) reads.all;
-    }
+    step_reads sent issn_step pairs refl (each_led (HasOrigin sent) (first_issn pairs) first found) reads
+    (subst (All (GivesIssns sent)) (sym (all_of-taken-own issn_step pairs))
+    (led_gives_issns sent (first_issn pairs) first values found (issn_among_again laws values) reads.issns))
+    (kept_under (GivesIssns sent) issn_step pairs (codes "rft.eissn") refl reads.eissns)
+    (kept_under (GivesIsbns sent) issn_step pairs (codes "rft.isbn") refl reads.isbns)
 
 eissn_reads : AreFoundAgain → (sent : List Text) (pairs : List KeyValue) → Reads sent pairs → Reads sent (taken pairs eissn_step)
 eissn_reads laws sent pairs reads =
@@ -119,14 +136,11 @@ eissn_reads laws sent pairs reads =
     let values = all_of pairs (codes "rft.eissn") in
     let first = first_of pairs (codes "rft.eissn") in
     let found = eissn_has sent issns values reads.issns reads.eissns in
-    record {
-      issns = kept_under (GivesIssns sent) eissn_step pairs (codes "rft.issn") refl reads.issns;
-      eissns = subst (All (GivesIssns sent)) (sym (all_of-taken-own eissn_step pairs))
-          (led_gives_issns sent (first_eissn pairs) first values found (eissn_among_again laws issns values) reads.eissns);
-      isbns = kept_under (GivesIsbns sent) eissn_step pairs (codes "rft.isbn") refl reads.isbns;
-      eisbns = kept_under (GivesIsbns sent) eissn_step pairs (codes "rft.eisbn") refl reads.eisbns;
-      all = step_has sent eissn_step pairs (each_led (HasOrigin sent) (first_eissn pairs) first found) reads.all;
-    }
+    step_reads sent eissn_step pairs refl (each_led (HasOrigin sent) (first_eissn pairs) first found) reads
+    (kept_under (GivesIssns sent) eissn_step pairs (codes "rft.issn") refl reads.issns)
+    (subst (All (GivesIssns sent)) (sym (all_of-taken-own eissn_step pairs))
+    (led_gives_issns sent (first_eissn pairs) first values found (eissn_among_again laws issns values) reads.eissns))
+    (kept_under (GivesIsbns sent) eissn_step pairs (codes "rft.isbn") refl reads.isbns)
 
 isbn_reads : AreFoundAgain → (sent : List Text) (pairs : List KeyValue) → Reads sent pairs → Reads sent (taken pairs isbn_step)
 isbn_reads laws sent pairs reads =
@@ -134,14 +148,11 @@ isbn_reads laws sent pairs reads =
     let values = all_of pairs (codes "rft.isbn") in
     let first = first_of pairs (codes "rft.isbn") in
     let found = isbn_has sent others values reads.eisbns reads.isbns in
-    record {
-      issns = kept_under (GivesIssns sent) isbn_step pairs (codes "rft.issn") refl reads.issns;
-      eissns = kept_under (GivesIssns sent) isbn_step pairs (codes "rft.eissn") refl reads.eissns;
-      isbns = subst (All (GivesIsbns sent)) (sym (all_of-taken-own isbn_step pairs))
-          (led_gives_isbns sent (first_isbn pairs) first values found (isbn_among_again laws others values) reads.isbns);
-      eisbns = kept_under (GivesIsbns sent) isbn_step pairs (codes "rft.eisbn") refl reads.eisbns;
-      all = step_has sent isbn_step pairs (each_led (HasOrigin sent) (first_isbn pairs) first found) reads.all;
-    }
+    step_reads sent isbn_step pairs refl (each_led (HasOrigin sent) (first_isbn pairs) first found) reads
+    (kept_under (GivesIssns sent) isbn_step pairs (codes "rft.issn") refl reads.issns)
+    (kept_under (GivesIssns sent) isbn_step pairs (codes "rft.eissn") refl reads.eissns)
+    (subst (All (GivesIsbns sent)) (sym (all_of-taken-own isbn_step pairs))
+    (led_gives_isbns sent (first_isbn pairs) first values found (isbn_among_again laws others values) reads.isbns))
 
 -- the values of dates, before the numbers
 dates_under : (sent : List Text) (copied : List KeyValue) → All (IsSent sent) copied
@@ -155,50 +166,79 @@ dates_under sent copied is =
     dates_have sent _ _ _ _ (under (codes "rft.date") (refl, refl) refl) (under (codes "rft.year") (refl, refl) refl)
     (under (codes "date") (refl, refl) refl) (under (codes "year") (refl, refl) refl)
 
+-- a step of another key
+other_reads : (sent : List Text) (step : Step) (pairs : List KeyValue) → All (λ key. bytes_eq step.key key ≡ false) number_keys
+    → All (HasOrigin sent) (step.change pairs).values → Reads sent pairs → Reads sent (taken pairs step)
+other_reads sent step pairs apart values reads =
+    step_reads sent step pairs (apart 3 [] (lit< tt)) values reads
+    (kept_under (GivesIssns sent) step pairs (codes "rft.issn") (apart 0 [] (lit< tt)) reads.issns)
+    (kept_under (GivesIssns sent) step pairs (codes "rft.eissn") (apart 1 [] (lit< tt)) reads.eissns)
+    (kept_under (GivesIsbns sent) step pairs (codes "rft.isbn") (apart 2 [] (lit< tt)) reads.isbns)
+
 date_reads : (sent : List Text) (pairs : List KeyValue) → ((n : Text) → first_date date_keys pairs ≡ Some n → HasOrigin sent n) → Reads sent pairs
     → Reads sent (taken pairs date_step)
-date_reads sent pairs found reads = record {
-  issns = kept_under (GivesIssns sent) date_step pairs (codes "rft.issn") refl reads.issns;
-  eissns = kept_under (GivesIssns sent) date_step pairs (codes "rft.eissn") refl reads.eissns;
-  isbns = kept_under (GivesIsbns sent) date_step pairs (codes "rft.isbn") refl reads.isbns;
-  eisbns = kept_under (GivesIsbns sent) date_step pairs (codes "rft.eisbn") refl reads.eisbns;
-  all = step_has sent date_step pairs (date_values sent (first_date date_keys pairs) (first_of pairs (codes "rft.date")) found) reads.all;
-}
+date_reads sent pairs found reads =
+    other_reads sent date_step pairs (no_number (codes "rft.date") refl)
+    (date_values sent (first_date date_keys pairs) (first_of pairs (codes "rft.date")) found) reads
 
-last_reads : AreFoundAgain → (sent : List Text) (copied : List KeyValue) → All (IsSent sent) copied → HaveOrigin sent copied
-    → Reads sent (after last_steps copied)
-last_reads laws sent copied is all =
-    date_reads sent _ (dates_under sent copied is)
-    (isbn_reads laws sent _ (eissn_reads laws sent _ (issn_reads laws sent _ (referrer_reads sent copied is all))))
+-- ---- identifiers
+
+naming_reads : (sent : List Text) (namespace : Namespace) (pairs : List KeyValue) → AreRead sent pairs → Reads sent pairs
+    → Reads sent (taken pairs (naming namespace))
+naming_reads sent namespace pairs read reads =
+    other_reads sent (naming namespace) pairs (no_number (codes "rft_id") refl)
+    (each_named (HasOrigin sent) namespace (first_identifier namespace pairs) (all_of pairs (codes "rft_id"))
+    (λ n e. uri_has_origin sent namespace n (first_read sent namespace pairs read n e))) reads
+
+-- what the derived keys are read from
+record ReadAll (sent : List Text) (pairs : List KeyValue) : Type 0 where
+  numbers : Reads sent pairs
+  identifiers : AreRead sent pairs
+
+namings_read : AreIdentified → (sent : List Text) (pairs : List KeyValue) → ReadAll sent pairs → ReadAll sent (after namings pairs)
+namings_read identified sent pairs reads =
+    one Doi (taken (taken pairs (naming Oclc)) (naming Pmid)) (one Pmid (taken pairs (naming Oclc)) (one Oclc pairs reads))
+  where
+    one : (namespace : Namespace) (pairs : List KeyValue) → ReadAll sent pairs → ReadAll sent (taken pairs (naming namespace))
+    one namespace pairs reads = record {
+      numbers = naming_reads sent namespace pairs reads.identifiers reads.numbers;
+      identifiers = naming_read identified sent namespace pairs reads.identifiers;
+    }
+
+last_reads : AreFoundAgain → AreIdentified → (sent : List Text) (copied : List KeyValue) → All (IsSent sent) copied → HaveOrigin sent copied
+    → ReadAll sent (after last_steps copied)
+last_reads laws identified sent copied is all =
+    namings_read identified sent _ record {
+      numbers = date_reads sent _ (dates_under sent copied is)
+          (isbn_reads laws sent _ (eissn_reads laws sent _ (issn_reads laws sent _ (referrer_reads sent copied is all))));
+      identifiers = identifiers_under sent copied is;
+    }
 
 -- ---- all
 
-added_has : (sent : List Text) (key : Text) (value : Option Text) → ((n : Text) → value ≡ Some n → HasOrigin sent n) → HaveOrigin sent (added key value)
-added_has sent key None h = none_has (λ pair. HasOrigin sent pair.value)
-added_has sent key (Some v) h = one_has (λ pair. HasOrigin sent pair.value) (record { key = key; value = v }) (h v refl)
-
-derived_have : (sent : List Text) (pairs : List KeyValue) → Reads sent pairs → HaveOrigin sent (with_derived pairs)
+derived_have : (sent : List Text) (pairs : List KeyValue) → ReadAll sent pairs → HaveOrigin sent (with_derived pairs)
 derived_have sent pairs reads =
     let P : KeyValue → Type 0 = λ pair. HasOrigin sent pair.value in
+    let numbers = reads.numbers in
     let issns = all_of pairs (codes "rft.issn") in
     let eissns = all_of pairs (codes "rft.eissn") in
-    let found = All-append (HasOrigin sent) _ _ (issns_have sent issns reads.issns) (issns_have sent eissns reads.eissns) in
+    let found = All-append (HasOrigin sent) _ _ (issns_have sent issns numbers.issns) (issns_have sent eissns numbers.eissns) in
+    let identifier : (namespace : Namespace) (n : Text) → first_under namespace pairs (codes "rft_id") ≡ Some n → HasOrigin sent n =
+    λ namespace n e. identifier_has_origin sent namespace n (referent_read sent namespace pairs reads.identifiers n e) in
     All-append P (derived pairs) pairs
-    (All-append P _ _
-    (All-append P _ _ (added_has sent (codes "x.issn") (first_number (issns_of pairs)) (λ n e. first_has (HasOrigin sent) (issns_of pairs) n found e))
-    (added_has sent (codes "x.eissn") (second_issn pairs) (second_has sent issns eissns (first_number (issns_of pairs)) reads.issns reads.eissns)))
-    (added_has sent (codes "x.isbn") (first_isbn pairs)
-    (isbn_has sent (all_of pairs (codes "rft.eisbn")) (all_of pairs (codes "rft.isbn")) reads.eisbns reads.isbns)))
-    reads.all
+    (derived_values (HasOrigin sent) pairs identifier (λ n e. first_has (HasOrigin sent) (issns_of pairs) n found e)
+    (second_has sent issns eissns (first_number (issns_of pairs)) numbers.issns numbers.eissns)
+    (isbn_has sent (all_of pairs (codes "rft.eisbn")) (all_of pairs (codes "rft.isbn")) numbers.eisbns numbers.isbns))
+    numbers.all
 
-pub nothing_invented : AreFoundAgain → (request : List KeyValue)
+pub nothing_invented : AreFoundAgain → AreIdentified → (request : List KeyValue)
     → All (λ pair. HasOrigin (all_values request) pair.value) (with_derived (normal_form (counting request)))
-nothing_invented laws request =
+nothing_invented laws identified request =
     let sent = all_values request in
     let first = counting request in
     let known = counting_values request in
     let origins : HaveOrigin sent first = λ k d h. from_request (get_or first k d).value (known k d h) in
     let versions = version_has sent (codes "url_ver") (taken first (correction (codes "ctx_ver"))) (version_has sent (codes "ctx_ver") first origins) in
     let copied = after copies (with_versions first) in
-    let reads = last_reads laws sent copied (copied_sent sent first known) (copies_have sent old_keys (with_versions first) versions) in
+    let reads = last_reads laws identified sent copied (copied_sent sent first known) (copies_have sent old_keys (with_versions first) versions) in
     subst (λ pairs. HaveOrigin sent (with_derived pairs)) (sym (normal_form-is first)) (derived_have sent _ reads)

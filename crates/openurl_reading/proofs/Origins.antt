@@ -1,8 +1,11 @@
 -- Nothing in a reading is invented.
-use Rattle.std.proofs.Common.{◌≡◌, List, [], ◌∷◌, ◌++◌, take, drop, Option, Some, None, sym, subst, inl, inr, get_or, arith}
-use Rattle.std.specs.Prelude.{Contains}
-use Rattle.std.specs.List.{All, flat_map}
+use Rattle.std.proofs.Common.{◌≡◌, List, [], ◌∷◌, ◌++◌, take, drop, false, true, not, Option, Some, None, sym, subst, inl, inr, get_or, arith}
+use Rattle.std.specs.Prelude.{codes, Contains}
+use Rattle.std.specs.List.{All, flat_map, list_all}
 use Rattle.std.specs.Option.{option_or}
+use Rattle.std.specs.Str.{bytes_eq}
+use Rattle.std.proofs.lemmas.Bool.{not-true}
+use Rattle.std.proofs.lemmas.List.Sums.{AllPass-from_list_all}
 use Rattle.std.proofs.lemmas.List.Elements.{All-append, All-take, All-drop, Contains-get_or}
 use Rattle.text_model.specs.Texts.{Text}
 use Rattle.standard_numbers.specs.Issn.{issns_in}
@@ -14,6 +17,14 @@ use Rattle.openurl_reading.proofs.DateLed.{date_of_first}
 use Rattle.openurl_reading.proofs.Each.{none_has, one_has, each_after, each_found}
 use Rattle.openurl_reading.proofs.FoundAgain.{IsIssnAgain, IsIsbnAgain, first_has, other_has, issn_among, further_among, isbn_among}
 use Rattle.openurl_reading.proofs.Values.{values_after}
+
+-- ---- the keys of numbers
+
+abbrev pub number_keys : List Text
+number_keys = codes "rft.issn" ∷ codes "rft.eissn" ∷ codes "rft.isbn" ∷ codes "rft.eisbn" ∷ []
+
+pub no_number : (key : Text) → list_all (λ other. not (bytes_eq key other)) number_keys ≡ true → All (λ other. bytes_eq key other ≡ false) number_keys
+no_number key h k d g = not-true _ (AllPass-from_list_all (λ other. not (bytes_eq key other)) number_keys h k d g)
 
 -- ---- values of which each number that is found in them has an origin
 

@@ -1,5 +1,5 @@
 -- After all steps, no step changes anything: each has done its work, and the later ones do not undo it.
-use Rattle.std.proofs.Common.{◌≡◌, List, [], ◌∷◌, refl, sym, ◌∙◌, subst, take, map}
+use Rattle.std.proofs.Common.{◌≡◌, List, ◌∷◌, refl, sym, ◌∙◌, subst, take, map}
 use Rattle.std.specs.Prelude.{codes, slice_get}
 use Rattle.std.proofs.lemmas.List.Elements.{All-tail}
 use Rattle.text_model.specs.Texts.{Text}
@@ -11,12 +11,15 @@ use Rattle.openurl_reading.specs.OldKeys.{copies}
 use Rattle.openurl_reading.specs.Referrers.{referrer_of, referrer_step, referred}
 use Rattle.openurl_reading.specs.Numbers.{first_issn, first_eissn, first_isbn, eissn_among, issn_step, eissn_step, isbn_step}
 use Rattle.openurl_reading.specs.Dates.{date_keys, first_date, led_or_none, date_step}
+use Rattle.openurl_reading.specs.Identifiers.{namings}
 use Rattle.openurl_reading.specs.Reading.{normal_form}
 use Rattle.openurl_reading.proofs.DateLed.{rest_of, IsSettledAmong, date_settles, found_again}
 use Rattle.openurl_reading.proofs.Filled.{KeepsKey, filled_unchanged, fill-fills, all_keep_filled}
 use Rattle.openurl_reading.proofs.FoundAgain.{AreFoundAgain, issn_among, issn_again, further_among, eissn_again, isbn_among, isbn_again}
+use Rattle.openurl_reading.proofs.Identified.{AreIdentified}
 use Rattle.openurl_reading.proofs.KeysSettle.{apart, same_after, version_settles, first_referrer, referral, last_keep, copies_settle}
 use Rattle.openurl_reading.proofs.Led.{led_settles}
+use Rattle.openurl_reading.proofs.Named.{works_named}
 use Rattle.openurl_reading.proofs.Settled.{IsSettled, IsDateSettled, settled_stays}
 use Rattle.openurl_reading.proofs.Stages.{last_steps, with_versions, normal_form-is}
 use Rattle.openurl_reading.proofs.Values.{all_of-taken, all_of-taken-own}
@@ -24,63 +27,64 @@ use Rattle.openurl_reading.proofs.Values.{all_of-taken, all_of-taken-own}
 referrer_settles : (before : List KeyValue) → referred (after last_steps before) ≡ unchanged
 referrer_settles before =
     let f : List Text → List Text = λ sids. map referrer_of (take 1 sids) in
-    let rest = issn_step ∷ eissn_step ∷ isbn_step ∷ date_step ∷ [] in
+    let rest = issn_step ∷ eissn_step ∷ isbn_step ∷ date_step ∷ namings in
     filled_unchanged f referral (after last_steps before) refl
     (all_keep_filled referral rest (taken before referrer_step) (apart rest (codes "sid") refl)
     (All-tail (KeepsKey (codes "rfr_id")) referrer_step rest (last_keep (codes "rfr_id") refl)) (fill-fills f referral before first_referrer refl))
 
-issn_settles : AreFoundAgain → (before : List KeyValue) → let now = after (issn_step ∷ eissn_step ∷ isbn_step ∷ date_step ∷ []) before in
+issn_settles : AreFoundAgain → (before : List KeyValue) → let now = after (issn_step ∷ eissn_step ∷ isbn_step ∷ date_step ∷ namings) before in
     led (first_issn now) (first_of now (codes "rft.issn")) ≡ unchanged
 issn_settles laws before =
     let key = codes "rft.issn" in
     let values = all_of before key in
     subst (λ vs. led (issn_among vs) (slice_get vs 0) ≡ unchanged)
-    (sym (same_after (eissn_step ∷ isbn_step ∷ date_step ∷ []) (taken before issn_step) key refl ∙ all_of-taken-own issn_step before))
+    (sym (same_after (eissn_step ∷ isbn_step ∷ date_step ∷ namings) (taken before issn_step) key refl ∙ all_of-taken-own issn_step before))
     (led_settles issn_among values (issn_again laws values))
 
-eissn_settles : AreFoundAgain → (before : List KeyValue) → let now = after (eissn_step ∷ isbn_step ∷ date_step ∷ []) before in
+eissn_settles : AreFoundAgain → (before : List KeyValue) → let now = after (eissn_step ∷ isbn_step ∷ date_step ∷ namings) before in
     led (first_eissn now) (first_of now (codes "rft.eissn")) ≡ unchanged
 eissn_settles laws before =
     let key = codes "rft.eissn" in
     let values = all_of before key in
     let issns = all_of before (codes "rft.issn") in
-    let now = after (eissn_step ∷ isbn_step ∷ date_step ∷ []) before in
+    let now = after (eissn_step ∷ isbn_step ∷ date_step ∷ namings) before in
     subst (λ others. led (eissn_among (all_of now key) (further_among others)) (slice_get (all_of now key) 0) ≡ unchanged)
-    (sym (same_after (eissn_step ∷ isbn_step ∷ date_step ∷ []) before (codes "rft.issn") refl))
+    (sym (same_after (eissn_step ∷ isbn_step ∷ date_step ∷ namings) before (codes "rft.issn") refl))
     (subst (λ vs. led (eissn_among vs (further_among issns)) (slice_get vs 0) ≡ unchanged)
-    (sym (same_after (isbn_step ∷ date_step ∷ []) (taken before eissn_step) key refl ∙ all_of-taken-own eissn_step before))
+    (sym (same_after (isbn_step ∷ date_step ∷ namings) (taken before eissn_step) key refl ∙ all_of-taken-own eissn_step before))
     (led_settles (λ vs. eissn_among vs (further_among issns)) values (eissn_again laws issns values)))
 
-isbn_settles : AreFoundAgain → (before : List KeyValue) → let now = after (isbn_step ∷ date_step ∷ []) before in
+isbn_settles : AreFoundAgain → (before : List KeyValue) → let now = after (isbn_step ∷ date_step ∷ namings) before in
     led (first_isbn now) (first_of now (codes "rft.isbn")) ≡ unchanged
 isbn_settles laws before =
     let key = codes "rft.isbn" in
     let values = all_of before key in
     let others = all_of before (codes "rft.eisbn") in
-    let now = after (isbn_step ∷ date_step ∷ []) before in
+    let now = after (isbn_step ∷ date_step ∷ namings) before in
     subst (λ others'. led (isbn_among others' (all_of now key)) (slice_get (all_of now key) 0) ≡ unchanged)
-    (sym (same_after (isbn_step ∷ date_step ∷ []) before (codes "rft.eisbn") refl))
+    (sym (same_after (isbn_step ∷ date_step ∷ namings) before (codes "rft.eisbn") refl))
     (subst (λ vs. led (isbn_among others vs) (slice_get vs 0) ≡ unchanged)
-    (sym (same_after (date_step ∷ []) (taken before isbn_step) key refl ∙ all_of-taken-own isbn_step before))
+    (sym (same_after (date_step ∷ namings) (taken before isbn_step) key refl ∙ all_of-taken-own isbn_step before))
     (led_settles (isbn_among others) values (isbn_again laws others values)))
 
 same_rest : (y y' d d' o o' : List Text) → y ≡ y' → d ≡ d' → o ≡ o' → rest_of y d o ≡ rest_of y' d' o'
 same_rest y y' d d' o o' a b c = rw (a, b, c) refl
 
-date_is_settled : AreFoundAgain → (before : List KeyValue) → let now = taken before date_step in
+date_is_settled : AreFoundAgain → (before : List KeyValue) → let now = after (date_step ∷ namings) before in
     IsDateSettled (led_or_none (first_date date_keys now) (first_of now (codes "rft.date"))) (all_of now (codes "rft.date"))
 date_is_settled laws before =
-    let now = taken before date_step in
+    let steps = date_step ∷ namings in
+    let now = after steps before in
     let values = all_of before (codes "rft.date") in
     let rest = rest_of (all_of before (codes "rft.year")) (all_of before (codes "date")) (all_of before (codes "year")) in
-    let same = same_rest _ _ _ _ _ _ (all_of-taken date_step before (codes "rft.year") refl)
-    (all_of-taken date_step before (codes "date") refl) (all_of-taken date_step before (codes "year") refl) in
+    let same = same_rest _ _ _ _ _ _ (same_after steps before (codes "rft.year") refl)
+    (same_after steps before (codes "date") refl) (same_after steps before (codes "year") refl) in
     subst (λ rest'. IsSettledAmong rest' (all_of now (codes "rft.date"))) (sym same)
-    (subst (IsSettledAmong rest) (sym (all_of-taken-own date_step before))
+    (subst (IsSettledAmong rest) (sym (same_after namings (taken before date_step) (codes "rft.date") refl ∙ all_of-taken-own date_step before))
     (date_settles rest values (found_again (λ value d h. laws.dates (searched value) d h) before)))
 
-settled_stages : AreFoundAgain → (pairs : List KeyValue) → IsSettled (after last_steps (after copies (with_versions pairs)))
-settled_stages laws pairs =
+settled_stages : AreFoundAgain → AreIdentified → (pairs : List KeyValue) → IsSettled (after last_steps (after copies (with_versions pairs)))
+settled_stages laws identified pairs =
     let first = taken pairs (correction (codes "ctx_ver")) in
     let second = with_versions pairs in
     let copied_all = after copies second in
@@ -100,8 +104,9 @@ settled_stages laws pairs =
       eissn = eissn_settles laws issns;
       isbn = isbn_settles laws eissns;
       date = date_is_settled laws isbns;
+      works = works_named identified (taken isbns date_step);
     }
 
-pub read_once : AreFoundAgain → (pairs : List KeyValue) → normal_form (normal_form pairs) ≡ normal_form pairs
-read_once laws pairs =
-    settled_stays (normal_form pairs) (subst IsSettled (sym (normal_form-is pairs)) (settled_stages laws pairs))
+pub read_once : AreFoundAgain → AreIdentified → (pairs : List KeyValue) → normal_form (normal_form pairs) ≡ normal_form pairs
+read_once laws identified pairs =
+    settled_stays (normal_form pairs) (subst IsSettled (sym (normal_form-is pairs)) (settled_stages laws identified pairs))

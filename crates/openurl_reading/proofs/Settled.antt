@@ -13,6 +13,9 @@ use Rattle.openurl_reading.specs.OldKeys.{OldKey, old_keys, filled, copied, copy
 use Rattle.openurl_reading.specs.Referrers.{referred, referrer_step}
 use Rattle.openurl_reading.specs.Numbers.{first_issn, first_eissn, first_isbn, issn_step, eissn_step, isbn_step}
 use Rattle.openurl_reading.specs.Dates.{date_keys, first_date, led_or_none, date_step}
+use Rattle.work_identifiers.specs.declared.namespace.Namespace.{Namespace}
+use Rattle.work_identifiers.specs.declared.namespace.Namespace.TheVariants.{Doi, Pmid, Oclc}
+use Rattle.openurl_reading.specs.Identifiers.{first_identifier, named, naming, namings}
 use Rattle.openurl_reading.specs.Reading.{normal_form}
 use Rattle.openurl_reading.proofs.Firsts.{not_first}
 use Rattle.openurl_reading.proofs.Others.{bytes_eq-same}
@@ -21,6 +24,10 @@ use Rattle.openurl_reading.proofs.Stages.{last_steps, with_versions, normal_form
 -- the change of the date leaves all values
 abbrev pub IsDateSettled : Change → List Text → Type 0
 IsDateSettled change values = (change ≡ unchanged) ⊎ ((change ≡ replacing []) × (values ≡ []))
+
+-- the first identifier of the namespace has its URI in `rft_id`, if there is one
+abbrev pub IsNamed : List KeyValue → Namespace → Type 0
+IsNamed pairs namespace = named namespace (first_identifier namespace pairs) (all_of pairs (codes "rft_id")) ≡ unchanged
 
 pub record IsSettled (pairs : List KeyValue) : Type 0 where
   pub context : is_other_version (first_of pairs (codes "ctx_ver")) ≡ false
@@ -31,6 +38,7 @@ pub record IsSettled (pairs : List KeyValue) : Type 0 where
   pub eissn : led (first_eissn pairs) (first_of pairs (codes "rft.eissn")) ≡ unchanged
   pub isbn : led (first_isbn pairs) (first_of pairs (codes "rft.isbn")) ≡ unchanged
   pub date : IsDateSettled (led_or_none (first_date date_keys pairs) (first_of pairs (codes "rft.date"))) (all_of pairs (codes "rft.date"))
+  pub works : (namespace : Namespace) → IsNamed pairs namespace
 
 pub led-same : (first : Option Text) → led first first ≡ unchanged
 led-same None = refl
@@ -71,13 +79,19 @@ date-stays pairs is =
       | inr none ↦ stays-replaced date_step pairs none.0 none.1
     ]
 
+works-stay : (pairs : List KeyValue) → IsSettled pairs → after namings pairs ≡ pairs
+works-stay pairs is =
+    ap (after (naming Pmid ∷ naming Doi ∷ [])) (stays-unchanged (naming Oclc) pairs (is.works Oclc))
+    ∙ ap (after (naming Doi ∷ [])) (stays-unchanged (naming Pmid) pairs (is.works Pmid)) ∙ stays-unchanged (naming Doi) pairs (is.works Doi)
+
 last-stay : (pairs : List KeyValue) → IsSettled pairs → after last_steps pairs ≡ pairs
 last-stay pairs is =
-    ap (after (issn_step ∷ eissn_step ∷ isbn_step ∷ date_step ∷ [])) (stays-unchanged referrer_step pairs is.referrer)
-    ∙ ap (after (eissn_step ∷ isbn_step ∷ date_step ∷ [])) (stays-unchanged issn_step pairs is.issn)
-    ∙ ap (after (isbn_step ∷ date_step ∷ [])) (stays-unchanged eissn_step pairs is.eissn)
-    ∙ ap (after (date_step ∷ [])) (stays-unchanged isbn_step pairs is.isbn)
-    ∙ date-stays pairs is
+    ap (after (issn_step ∷ eissn_step ∷ isbn_step ∷ date_step ∷ namings)) (stays-unchanged referrer_step pairs is.referrer)
+    ∙ ap (after (eissn_step ∷ isbn_step ∷ date_step ∷ namings)) (stays-unchanged issn_step pairs is.issn)
+    ∙ ap (after (isbn_step ∷ date_step ∷ namings)) (stays-unchanged eissn_step pairs is.eissn)
+    ∙ ap (after (date_step ∷ namings)) (stays-unchanged isbn_step pairs is.isbn)
+    ∙ ap (after namings) (date-stays pairs is)
+    ∙ works-stay pairs is
 
 pub settled_stays : (pairs : List KeyValue) → IsSettled pairs → normal_form pairs ≡ pairs
 settled_stays pairs is =

@@ -15,22 +15,35 @@ use Rattle.openurl_reading.specs.OldKeys.{old_keys, copies}
 use Rattle.openurl_reading.specs.Referrers.{namespace, referrer_of, referrer_step}
 use Rattle.openurl_reading.specs.Numbers.{first_number, first_issn, first_eissn, first_isbn, issn_step, eissn_step, isbn_step}
 use Rattle.openurl_reading.specs.Dates.{date_keys, first_date, led_or_none, date_step}
+use Rattle.work_identifiers.specs.declared.namespace.Namespace.{Namespace}
+use Rattle.work_identifiers.specs.declared.namespace.Namespace.TheVariants.{Doi, Pmid, Oclc}
+use Rattle.work_identifiers.specs.Forms.{IsIdentifier}
+use Rattle.openurl_reading.specs.Identifiers.{first_under, first_identifier, uri_of, naming, namings}
 use Rattle.openurl_reading.specs.Reading.{normal_form, added, issns_of, second_issn, with_derived}
 use Rattle.openurl_reading.proofs.FoundAre.{AreFound}
+use Rattle.openurl_reading.proofs.Identified.{AreIdentified, under_is, first_is, of_is}
 use Rattle.openurl_reading.proofs.KeysSettle.{all_apart, same_after}
 use Rattle.openurl_reading.proofs.Stages.{last_steps, with_versions, normal_form-is}
-use Rattle.openurl_reading.proofs.Totals.{total, total_taken, filled_weighs, led_weighs, shares-le, olds, copies_weigh}
+use Rattle.openurl_reading.proofs.Totals.{total, total_taken, filled_weighs, led_weighs, named_weighs, shares-le, olds, copies_weigh}
 
--- numbers and dates that are found weigh at most so much, and so does the namespace of a source
-pub record AreLight (g : Text → ℕ) (m : ℕ) : Type 0 where
+-- the greatest weight of a number, a date, or the namespace of a source, and that of the identifiers of a namespace
+pub record AreLight (g : Text → ℕ) (m : ℕ) (u : Namespace → ℕ) : Type 0 where
   pub found : AreFound (λ n. g n ≤ m)
   pub version : g version ≤ m
   pub source : (sid : Text) → g (referrer_of sid) ≤ m + g sid
+  pub identified : AreIdentified
+  pub identifier : (namespace : Namespace) (n : Text) → IsIdentifier namespace n → g n ≤ u namespace
+  pub uri : (namespace : Namespace) (n : Text) → IsIdentifier namespace n → g (uri_of namespace n) ≤ u namespace
+
+-- one of each namespace
+abbrev pub all_three : (Namespace → ℕ) → ℕ
+all_three u = u Doi + u Pmid + u Oclc
 
 -- ---- versions
 
-version_weighs : (g : Text → ℕ) (m : ℕ) → AreLight g m → (key : Text) (pairs : List KeyValue) → total g (taken pairs (correction key)) ≤ m + total g pairs
-version_weighs g m light key pairs =
+version_weighs : (g : Text → ℕ) (m : ℕ) (u : Namespace → ℕ) → AreLight g m u → (key : Text) (pairs : List KeyValue)
+    → total g (taken pairs (correction key)) ≤ m + total g pairs
+version_weighs g m u light key pairs =
     omega (arith, total_taken g (correction key) pairs, by_test (is_other_version (first_of pairs key)))
   where
     by_test : (b : Bool) → sum_by g (cond b (replacing (version ∷ [])) unchanged).values ≤ m
@@ -39,25 +52,51 @@ version_weighs g m light key pairs =
 
 -- ---- old keys and the source
 
-source_weighs : (g : Text → ℕ) (m : ℕ) → AreLight g m → (sids : List Text) → sum_by g (map referrer_of (take 1 sids)) ≤ m + sum_by g sids
-source_weighs g m light [] = omega arith
-source_weighs g m light (sid ∷ sids) = omega (arith, sum_by-cons g (referrer_of sid) [], sum_by-cons g sid sids, light.source sid)
+source_weighs : (g : Text → ℕ) (m : ℕ) (u : Namespace → ℕ) → AreLight g m u → (sids : List Text)
+    → sum_by g (map referrer_of (take 1 sids)) ≤ m + sum_by g sids
+source_weighs g m u light [] = omega arith
+source_weighs g m u light (sid ∷ sids) = omega (arith, sum_by-cons g (referrer_of sid) [], sum_by-cons g sid sids, light.source sid)
 
-keys_weigh : (g : Text → ℕ) (m : ℕ) → AreLight g m → (pairs : List KeyValue) → total g (taken (after copies pairs) referrer_step) ≤ m + 2 * total g pairs
-keys_weigh g m light pairs =
+keys_weigh : (g : Text → ℕ) (m : ℕ) (u : Namespace → ℕ) → AreLight g m u → (pairs : List KeyValue)
+    → total g (taken (after copies pairs) referrer_step) ≤ m + 2 * total g pairs
+keys_weigh g m u light pairs =
     let copied = after copies pairs in
     let sids = all_of copied (codes "sid") in
     let all = total_taken g referrer_step copied in
     let few = filled_weighs g (map referrer_of (take 1 sids)) (all_of copied (codes "rfr_id")) in
     let same : sum_by g sids ≡ sum_by g (all_of pairs (codes "sid")) = ap (sum_by g) (same_after copies pairs (codes "sid") refl) in
     let each = shares-le g (codes "sid" ∷ olds old_keys) pairs refl in
-    omega (arith, all, few, source_weighs g m light sids, same, copies_weigh g old_keys pairs all_apart, each)
+    omega (arith, all, few, source_weighs g m u light sids, same, copies_weigh g old_keys pairs all_apart, each)
+
+-- ---- identifiers
+
+naming_weighs : (g : Text → ℕ) (m : ℕ) (u : Namespace → ℕ) → AreLight g m u → (namespace : Namespace) (pairs : List KeyValue)
+    → total g (taken pairs (naming namespace)) ≤ u namespace + total g pairs
+naming_weighs g m u light namespace pairs =
+    let is = first_is (IsIdentifier namespace) namespace (of_is light.identified namespace) pairs in
+    omega (
+      arith,
+      total_taken g (naming namespace) pairs,
+      named_weighs g (u namespace) namespace (first_identifier namespace pairs) (all_of pairs (codes "rft_id"))
+          (λ n e. light.uri namespace n (is n e)),
+    )
+
+namings_weigh : (g : Text → ℕ) (m : ℕ) (u : Namespace → ℕ) → AreLight g m u → (pairs : List KeyValue)
+    → total g (after namings pairs) ≤ all_three u + total g pairs
+namings_weigh g m u light pairs =
+    let first = taken pairs (naming Oclc) in
+    omega (
+      arith,
+      naming_weighs g m u light Oclc pairs,
+      naming_weighs g m u light Pmid first,
+      naming_weighs g m u light Doi (taken first (naming Pmid)),
+    )
 
 -- ---- all
 
-last_weigh : (g : Text → ℕ) (m : ℕ) → AreLight g m → (pairs : List KeyValue)
-    → total g (after (issn_step ∷ eissn_step ∷ isbn_step ∷ date_step ∷ []) pairs) ≤ 4 * m + total g pairs
-last_weigh g m light pairs =
+last_weigh : (g : Text → ℕ) (m : ℕ) (u : Namespace → ℕ) → AreLight g m u → (pairs : List KeyValue)
+    → total g (after (issn_step ∷ eissn_step ∷ isbn_step ∷ date_step ∷ namings) pairs) ≤ 4 * m + all_three u + total g pairs
+last_weigh g m u light pairs =
     let issns = taken pairs issn_step in
     let eissns = taken issns eissn_step in
     let isbns = taken eissns isbn_step in
@@ -71,6 +110,7 @@ last_weigh g m light pairs =
       led_weighs g m (first_isbn eissns) (first_of eissns (codes "rft.isbn")) (light.found.isbn eissns),
       total_taken g date_step isbns,
       date_weighs (first_date date_keys isbns) (first_of isbns (codes "rft.date")) (light.found.date isbns),
+      namings_weigh g m u light (taken isbns date_step),
     )
   where
     date_weighs : (found first : Option Text) → ((n : Text) → found ≡ Some n → g n ≤ m) → sum_by g (led_or_none found first).values ≤ m
@@ -81,37 +121,52 @@ added_weighs : (g : Text → ℕ) (m : ℕ) (key : Text) (value : Option Text) �
 added_weighs g m key None h = omega arith
 added_weighs g m key (Some v) h = omega (arith, sum_by-cons (λ (p : KeyValue). g p.value) (record { key = key; value = v }) [], h v refl)
 
-derived_weigh : (g : Text → ℕ) (m : ℕ) → AreLight g m → (pairs : List KeyValue) → total g (with_derived pairs) ≤ 3 * m + total g pairs
-derived_weigh g m light pairs =
+derived_weigh : (g : Text → ℕ) (m : ℕ) (u : Namespace → ℕ) → AreLight g m u → (pairs : List KeyValue)
+    → total g (with_derived pairs) ≤ 3 * m + all_three u + total g pairs
+derived_weigh g m u light pairs =
     let w : KeyValue → ℕ = λ p. g p.value in
+    let doi = added (codes "x.doi") (first_under Doi pairs (codes "rft_id")) in
+    let pmid = added (codes "x.pmid") (first_under Pmid pairs (codes "rft_id")) in
+    let oclc = added (codes "x.oclc") (first_under Oclc pairs (codes "rft_id")) in
     let issn = added (codes "x.issn") (first_number (issns_of pairs)) in
     let eissn = added (codes "x.eissn") (second_issn pairs) in
     let isbn = added (codes "x.isbn") (first_isbn pairs) in
     omega (
       arith,
-      sum_by-append w (issn ++ eissn ++ isbn) pairs,
-      sum_by-append w (issn ++ eissn) isbn,
-      sum_by-append w issn eissn,
+      sum_by-append w (doi ++ pmid ++ oclc ++ issn ++ eissn ++ isbn) pairs,
+      sum_by-append w (doi ++ pmid ++ oclc ++ issn ++ eissn) isbn,
+      sum_by-append w (doi ++ pmid ++ oclc ++ issn) eissn,
+      sum_by-append w (doi ++ pmid ++ oclc) issn,
+      sum_by-append w (doi ++ pmid) oclc,
+      sum_by-append w doi pmid,
+      identifier_weighs (codes "x.doi") Doi,
+      identifier_weighs (codes "x.pmid") Pmid,
+      identifier_weighs (codes "x.oclc") Oclc,
       added_weighs g m (codes "x.issn") (first_number (issns_of pairs)) (light.found.one pairs),
       added_weighs g m (codes "x.eissn") (second_issn pairs) (light.found.other pairs),
       added_weighs g m (codes "x.isbn") (first_isbn pairs) (light.found.isbn pairs),
     )
+  where
+    identifier_weighs : (key : Text) (namespace : Namespace) → total g (added key (first_under namespace pairs (codes "rft_id"))) ≤ u namespace
+    identifier_weighs key namespace =
+        added_weighs g (u namespace) key (first_under namespace pairs (codes "rft_id"))
+        (λ n e. light.identifier namespace n (under_is (IsIdentifier namespace) namespace (of_is light.identified namespace) pairs (codes "rft_id") n e))
 
--- twice the request, and some numbers and dates
-pub reading_weighs : (g : Text → ℕ) (m : ℕ) → AreLight g m → (pairs : List KeyValue)
-    → total g (with_derived (normal_form pairs)) ≤ 2 * total g pairs + 12 * m
-reading_weighs g m light pairs =
+-- twice the request, and some numbers, dates and identifiers
+pub reading_weighs : (g : Text → ℕ) (m : ℕ) (u : Namespace → ℕ) → AreLight g m u → (pairs : List KeyValue)
+    → total g (with_derived (normal_form pairs)) ≤ 2 * total g pairs + 12 * m + 2 * all_three u
+reading_weighs g m u light pairs =
     let first = taken pairs (correction (codes "ctx_ver")) in
     let second = with_versions pairs in
     let named = taken (after copies second) referrer_step in
-    subst (λ normal. total g (with_derived normal) ≤ 2 * total g pairs + 12 * m) (sym (normal_form-is pairs))
+    subst (λ normal. total g (with_derived normal) ≤ 2 * total g pairs + 12 * m + 2 * all_three u) (sym (normal_form-is pairs))
     (omega (
       arith,
-      derived_weigh g m light (after last_steps (after copies second)),
-      last_weigh g m light named,
-      keys_weigh g m light second,
-      version_weighs g m light (codes "url_ver") first,
-      version_weighs g m light (codes "ctx_ver") pairs,
+      derived_weigh g m u light (after last_steps (after copies second)),
+      last_weigh g m u light named,
+      keys_weigh g m u light second,
+      version_weighs g m u light (codes "url_ver") first,
+      version_weighs g m u light (codes "ctx_ver") pairs,
     ))
 
 accepted_weigh : (g : Text → ℕ) (pairs : List KeyValue) → total g (accepted pairs) ≤ total g pairs

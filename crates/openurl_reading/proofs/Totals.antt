@@ -8,6 +8,9 @@ use Rattle.std.proofs.lemmas.List.Sums.{sum_by-take-le, sum_by-cons, sum_by-appe
 use Rattle.std.proofs.lemmas.List.Elements.{All-head, All-tail, All-map}
 use Rattle.text_model.specs.Texts.{Text}
 use Rattle.kev_read.specs.Pairs.{KeyValue, has_key, all_of}
+use Rattle.work_identifiers.specs.declared.namespace.Namespace.{Namespace}
+use Rattle.openurl_reading.specs.Counting.{is_one_of}
+use Rattle.openurl_reading.specs.Identifiers.{uri_of, named}
 use Rattle.openurl_reading.specs.Steps.{Step, unchanged, leading, pairs_with, others, kept, taken, after}
 use Rattle.openurl_reading.specs.Values.{most_values, led}
 use Rattle.openurl_reading.specs.OldKeys.{OldKey, filled, copy}
@@ -61,6 +64,15 @@ led_weighs g m (Some n) (Some v) h = by_test (bytes_eq v n)
     by_test : (b : Bool) → sum_by g (cond b unchanged (leading (n ∷ []))).values ≤ m
     by_test true = omega arith
     by_test false = omega (arith, sum_by-cons g n [], h n refl)
+
+pub named_weighs : (g : Text → ℕ) (m : ℕ) (namespace : Namespace) (found : Option Text) (known : List Text)
+    → ((n : Text) → found ≡ Some n → g (uri_of namespace n) ≤ m) → sum_by g (named namespace found known).values ≤ m
+named_weighs g m namespace None known h = omega arith
+named_weighs g m namespace (Some n) known h = by_test (is_one_of known (uri_of namespace n))
+  where
+    by_test : (b : Bool) → sum_by g (cond b unchanged (leading (uri_of namespace n ∷ []))).values ≤ m
+    by_test true = omega arith
+    by_test false = omega (arith, sum_by-cons g (uri_of namespace n) [], h n refl)
 
 -- ---- the copies of old keys: each value is copied at most once
 

@@ -1,11 +1,15 @@
 -- Requests that are OpenURL 1.0 (ANSI/NISO Z39.88-2004, and the guidelines for KEV ContextObjects).
-use Rattle.std.specs.Prelude.{◌≡◌, false, List, [], ◌∷◌, codes, All}
+use Rattle.std.specs.Prelude.{◌≡◌, false, List, [], ◌∷◌, codes, All, None}
 use Rattle.text_model.specs.Texts.{Text}
 use Rattle.kev_read.specs.Pairs.{KeyValue, all_of}
 use Rattle.standard_numbers.specs.Issn.{IsIssn, is_doubtful}
 use Rattle.standard_numbers.specs.Isbn.{IsIsbn}
 use Rattle.publication_dates.specs.Forms.{IsDate}
+use Rattle.work_identifiers.specs.declared.namespace.Namespace.{Namespace}
+use Rattle.work_identifiers.specs.Forms.{IsIdentifier}
+use Rattle.work_identifiers.specs.Places.{identifier_in}
 use Rattle.openurl_reading.specs.OldKeys.{old_keys}
+use Rattle.openurl_reading.specs.Identifiers.{identifier_of, source_keys, uri_of}
 
 -- no pair has the key
 abbrev pub Lacks : List KeyValue → Text → Type 0
@@ -22,6 +26,15 @@ IsVersion value = value ≡ codes "Z39.88-2004"
 abbrev pub IsSureIssn : Text → Type 0
 IsSureIssn issn = IsIssn issn × (is_doubtful issn ≡ false)
 
+-- an identifier of the referent: the URI of a DOI, or of a number of PubMed or OCLC (RFC 4452), or another URI, which has none of them
+pub data IsReferentUri : Text → Type 0 where
+  registered : (namespace : Namespace) (identifier : Text) → IsIdentifier namespace identifier → IsReferentUri (uri_of namespace identifier)
+  other_uri : (value : Text) → ((namespace : Namespace) → identifier_in namespace value ≡ None) → IsReferentUri value
+
+-- no identifier, under a key other than `rft_id`
+abbrev pub HasNoIdentifier : Text → Text → Type 0
+HasNoIdentifier key value = (namespace : Namespace) → identifier_of namespace key value ≡ None
+
 -- keys of OpenURL 0.1 that have no key in their place, and such as no format of OpenURL 1.0 has
 abbrev pub other_keys : List Text
 other_keys = codes "sid" ∷ codes "date" ∷ codes "year" ∷ codes "rft.year" ∷ codes "rft.eisbn" ∷ []
@@ -35,3 +48,5 @@ pub record IsCanonical (pairs : List KeyValue) : Type 0 where
   pub eissns : Under pairs (codes "rft.eissn") IsSureIssn
   pub isbns : Under pairs (codes "rft.isbn") IsIsbn
   pub dates : Under pairs (codes "rft.date") IsDate
+  pub referents : Under pairs (codes "rft_id") IsReferentUri
+  pub no_other_identifiers : All (λ key. Under pairs key (HasNoIdentifier key)) source_keys

@@ -5,6 +5,8 @@ use Rattle.kev_read.specs.Pairs.{KeyValue}
 use Rattle.standard_numbers.specs.Issn.{issns_in}
 use Rattle.standard_numbers.specs.Isbn.{isbns_in}
 use Rattle.publication_dates.specs.Dates.{date_in}
+use Rattle.work_identifiers.specs.declared.namespace.Namespace.{Namespace}
+use Rattle.openurl_reading.specs.Identifiers.{identifier_of, uri_of}
 use Rattle.openurl_reading.specs.Values.{searched}
 use Rattle.openurl_reading.specs.Versions.{version}
 use Rattle.openurl_reading.specs.Referrers.{referrer_of}
@@ -20,3 +22,7 @@ pub data HasOrigin (sent : List Text) : Text → Type 0 where
   issn_in : (value issn : Text) → Contains sent value → Contains (issns_in (searched value)) issn → HasOrigin sent issn
   isbn_in : (value isbn : Text) → Contains sent value → Contains (isbns_in (searched value)) isbn → HasOrigin sent isbn
   date_of : (value date : Text) → Contains sent value → date_in (searched value) ≡ Some date → HasOrigin sent date
+  identifier_in_value : (namespace : Namespace) (key value identifier : Text) → Contains sent value
+      → identifier_of namespace key value ≡ Some identifier → HasOrigin sent identifier
+  uri_of_identifier : (namespace : Namespace) (key value identifier : Text) → Contains sent value
+      → identifier_of namespace key value ≡ Some identifier → HasOrigin sent (uri_of namespace identifier)

@@ -2,6 +2,7 @@
 use Rattle.std.specs.Prelude.{ℕ, List, [], ◌∷◌, ◌++◌, codes, Option, Some, None}
 use Rattle.text_model.specs.Texts.{Text}
 use Rattle.kev_read.specs.Pairs.{KeyValue}
+use Rattle.work_identifiers.specs.declared.namespace.Namespace.TheVariants.{Doi, Pmid, Oclc}
 use Rattle.openurl_reading.specs.Counting.{counting, left_out}
 use Rattle.openurl_reading.specs.Steps.{Step, after}
 use Rattle.openurl_reading.specs.Versions.{versions}
@@ -9,9 +10,10 @@ use Rattle.openurl_reading.specs.OldKeys.{copies}
 use Rattle.openurl_reading.specs.Referrers.{referrer_step}
 use Rattle.openurl_reading.specs.Numbers.{issns_under, first_number, other_than, issn_step, eissn_step, isbn_step, first_isbn}
 use Rattle.openurl_reading.specs.Dates.{date_step}
+use Rattle.openurl_reading.specs.Identifiers.{first_under, namings}
 
 unfoldable pub steps : List Step
-steps = versions ++ copies ++ referrer_step ∷ issn_step ∷ eissn_step ∷ isbn_step ∷ date_step ∷ []
+steps = versions ++ copies ++ referrer_step ∷ issn_step ∷ eissn_step ∷ isbn_step ∷ date_step ∷ namings
 
 -- the pairs of OpenURL 1.0
 abbrev pub normal_form : List KeyValue → List KeyValue
@@ -32,7 +34,9 @@ second_issn pairs = other_than (first_number (issns_of pairs)) (issns_of pairs)
 
 abbrev pub derived : List KeyValue → List KeyValue
 derived pairs =
-    added (codes "x.issn") (first_number (issns_of pairs)) ++ added (codes "x.eissn") (second_issn pairs) ++ added (codes "x.isbn") (first_isbn pairs)
+    added (codes "x.doi") (first_under Doi pairs (codes "rft_id")) ++ added (codes "x.pmid") (first_under Pmid pairs (codes "rft_id"))
+    ++ added (codes "x.oclc") (first_under Oclc pairs (codes "rft_id")) ++ added (codes "x.issn") (first_number (issns_of pairs))
+    ++ added (codes "x.eissn") (second_issn pairs) ++ added (codes "x.isbn") (first_isbn pairs)
 
 abbrev pub with_derived : List KeyValue → List KeyValue
 with_derived pairs = derived pairs ++ pairs

@@ -56,7 +56,7 @@ fn is_column(key: &str) -> bool
     is_one_of(known_columns(), key) || key == "title_page"
 }
 
-fn is_one_of(texts: &[&str], text: &str) -> bool
+pub(crate) fn is_one_of(texts: &[&str], text: &str) -> bool
     ensures { result ≡ spec.is_one_of (texts_of texts.now) text.now }
 {
     texts.iter().any(|one| *one == text)

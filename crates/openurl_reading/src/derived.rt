@@ -1,12 +1,15 @@
 //! Keys that the resolver adds for the rules of targets.
 
-ghost use Rattle.std.specs.Prelude.{◌≡◌, ◌++◌, IfOk, OnOk};
+ghost use Rattle.std.specs.Prelude.{◌≡◌, ◌++◌, IfOk, OnOk, codes};
+ghost use Rattle.openurl_reading.specs.Identifiers.{first_under};
 ghost use Rattle.openurl_reading.specs.Reading as spec;
 
+use crate::identifiers::first_under;
 use crate::numbers::{first, first_isbn, issns_under, other_than, push_all};
 use crate::pairs::{Pair, Pairs, copy};
 use std::alloc::{AllocError, Global};
 use uri_text::Text;
+use work_identifiers::Namespace;
 
 /// The pairs after those that are derived from them.
 pub(crate) fn with_derived(alloc: Global, pairs: Pairs) -> Result<Pairs, AllocError>
@@ -24,10 +27,28 @@ fn derived(alloc: Global, pairs: &Pairs) -> Result<Vec<Pair>, AllocError>
     ensures { IfOk result (λ list. list.items ≡ spec.derived pairs.now) }
 {
     let mut list = Vec::new(alloc);
+    push_identifier(alloc, &mut list, "x.doi", Namespace::Doi, pairs)?;
+    push_identifier(alloc, &mut list, "x.pmid", Namespace::Pmid, pairs)?;
+    push_identifier(alloc, &mut list, "x.oclc", Namespace::Oclc, pairs)?;
     push_added(alloc, &mut list, "x.issn", first(issns_of(alloc, pairs)?))?;
     push_added(alloc, &mut list, "x.eissn", second_issn(alloc, pairs)?)?;
     push_added(alloc, &mut list, "x.isbn", first_isbn(alloc, pairs)?)?;
     Ok(list)
+}
+
+/// Appends a pair of the key for the first identifier of a namespace in `rft_id`, if there is one.
+fn push_identifier(
+    alloc: Global,
+    list: &mut Vec<Pair>,
+    key: &str,
+    namespace: Namespace,
+    pairs: &Pairs,
+) -> Result<(), AllocError>
+    ensures { OnOk result (list.new.items
+        ≡ list.old.items ++ spec.added key.now (first_under namespace pairs.now (codes "rft_id"))) }
+{
+    let identifier = first_under(alloc, namespace, pairs, "rft_id")?;
+    push_added(alloc, list, key, identifier)
 }
 
 /// The second ISSN of a request.

@@ -13,6 +13,9 @@ use publication_dates::laws::{dates_are_read, dates_stay};
 use standard_numbers::laws::{
     isbns_are_isbns, isbns_stay, issns_are_found_alone, issns_are_issns, issns_stay,
 };
+use work_identifiers::laws::{
+    identifiers_are_identifiers, identifiers_stay, uris_have_one_namespace,
+};
 
 /// A step leaves the pairs of all other keys as they are, in their order.
 pub fn steps_touch_their_key()
@@ -36,6 +39,9 @@ pub fn canonical_requests_stay()
     issns_stay();
     isbns_stay();
     dates_stay();
+    identifiers_are_identifiers();
+    identifiers_stay();
+    uris_have_one_namespace();
 }
 
 /// Reading twice is reading once. A reading is read as it is if its pairs, without the derived ones, are few enough.
@@ -50,10 +56,13 @@ pub fn readings_are_read_as_they_are()
     isbns_stay();
     dates_are_read();
     dates_stay();
+    identifiers_are_identifiers();
+    identifiers_stay();
+    uris_have_one_namespace();
 }
 
 /// Nothing is invented: each value of a reading is one of the request, the version of OpenURL, or what is read in one
-/// value of the request.
+/// value of the request, an identifier also as its URI.
 pub fn nothing_is_invented()
     ensures { (pairs : List KeyValue) → All (λ pair. HasOrigin (all_values pairs) pair.value) (reading_of pairs).pairs }
 {
@@ -63,17 +72,23 @@ pub fn nothing_is_invented()
     isbns_stay();
     dates_are_read();
     dates_stay();
+    identifiers_are_identifiers();
+    identifiers_stay();
+    uris_have_one_namespace();
 }
 
 /// A reading has at most twice the pairs that count, of which there are at most 300, and twice the bytes of the values
 /// of the request, and what the resolver adds.
 pub fn readings_are_bounded()
-    ensures few { (pairs : List KeyValue) → length (reading_of pairs).pairs ≤ 2 * length (counting pairs) + 12 }
+    ensures few { (pairs : List KeyValue) → length (reading_of pairs).pairs ≤ 2 * length (counting pairs) + 18 }
     ensures counting { (pairs : List KeyValue) → length (counting pairs) ≤ most_pairs }
     ensures bytes { (pairs : List KeyValue)
-        → value_bytes (reading_of pairs).pairs ≤ 2 * value_bytes pairs + 156 }
+        → value_bytes (reading_of pairs).pairs ≤ 2 * value_bytes pairs + 1262 }
 {
     issns_are_issns();
     isbns_are_isbns();
     dates_are_read();
+    identifiers_are_identifiers();
+    identifiers_stay();
+    uris_have_one_namespace();
 }

@@ -1,15 +1,16 @@
 //! Requests of any source, read as OpenURL 1.0 (ANSI/NISO Z39.88-2004).
 //!
-//! Sources send OpenURL 0.1, other versions, and numbers and dates in free forms. A reading has
+//! Sources send OpenURL 0.1, other versions, and identifiers, numbers and dates in free forms. A reading has
 //!
 //! 1. the pairs that count: not those without a value, and none that names a column of holdings tables;
 //! 2. after steps, each of which changes the values of one key;
 //! 3. and before them keys that begin with `x.`, for the rules of targets.
 //!
 //! ```rust
-//! let reading = read_openurl(rt.alloc(), b"issn=29010012&volume=12&date=20030501")?;
+//! let reading = read_openurl(rt.alloc(), b"issn=29010012&volume=12&date=20030501&id=doi:10.1000/182")?;
 //! assert!(rt; reading.pairs().first("rft.issn") == Some("2901-0012"));
 //! assert!(rt; reading.pairs().first("rft.date") == Some("2003-05-01"));
+//! assert!(rt; reading.pairs().first("rft_id") == Some("info:doi/10.1000/182"));
 //! ```
 #![tactic(auto)]
 
@@ -17,6 +18,7 @@ mod change;
 mod counting;
 mod dates;
 mod derived;
+mod identifiers;
 pub mod laws;
 mod normal_form;
 mod numbers;

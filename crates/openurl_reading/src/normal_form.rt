@@ -4,6 +4,7 @@ ghost use Rattle.std.specs.Prelude.{◌≡◌, IfOk};
 ghost use Rattle.openurl_reading.specs.Reading as spec;
 
 use crate::dates::lead_date;
+use crate::identifiers::name_works;
 use crate::numbers::{lead_eissn, lead_isbn, lead_issn};
 use crate::old_keys::copy_old_keys;
 use crate::pairs::Pairs;
@@ -23,5 +24,6 @@ pub(crate) fn normal_form(alloc: Global, pairs: Pairs) -> Result<Pairs, AllocErr
     let pairs = lead_eissn(alloc, pairs)?;
     let pairs = lead_isbn(alloc, pairs)?;
     let pairs = lead_date(alloc, pairs)?;
+    let pairs = name_works(alloc, pairs)?;
     Ok(pairs)
 }

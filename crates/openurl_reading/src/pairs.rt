@@ -115,7 +115,7 @@ impl Pairs {
     }
 
     /// The values of a key, in order.
-    fn all(&self, alloc: Global, key: &str) -> Result<Vec<&str>, AllocError>
+    pub(crate) fn all(&self, alloc: Global, key: &str) -> Result<Vec<&str>, AllocError>
         ensures { IfOk result (λ values. texts_of values.items ≡ spec.all_of self.now key.now) }
     {
         let mut values = Vec::new(alloc);

@@ -1,5 +1,5 @@
 //! Tests of numbers, dates and identifiers in texts as sources send them, with examples of the standards, and of whole
-//! requests.
+//! queries and requests.
 #![tactic(auto)]
 
 #[cfg(test)]
@@ -7,12 +7,22 @@ mod counted;
 #[cfg(test)]
 mod dates;
 #[cfg(test)]
+mod encodings;
+#[cfg(test)]
+mod enumerations;
+#[cfg(test)]
 mod identifiers;
 #[cfg(test)]
 mod isbns;
 #[cfg(test)]
 mod issns;
 #[cfg(test)]
+mod pages;
+#[cfg(test)]
+mod queries;
+#[cfg(test)]
 mod requests;
 #[cfg(test)]
 mod shared;
+#[cfg(test)]
+mod works;

@@ -28,3 +28,16 @@ fn other_value<'a>(pairs: &Pairs, values: &'a [(&'static str, &'static str)]) ->
     }
     None
 }
+
+/// The values of a key, each with a space after it.
+pub(crate) fn values(alloc: Global, pairs: &Pairs, key: &str) -> Result<String, Fail> {
+    let mut all = String::new(alloc);
+    for index in 0..pairs.len() {
+        let (name, value) = pairs.pair(index);
+        if name == key {
+            all.push_str(value)?;
+            all.push_str(" ")?;
+        }
+    }
+    Ok(all)
+}

@@ -1,16 +1,12 @@
-use Rattle.std.proofs.Common.{◌≡◌, List, ap, ◌∙◌, rules, tests, refl, [], ◌∷◌, ◌||◌}
+use Rattle.std.proofs.Common.{ap, ◌∙◌, rules, tests}
 use Rattle.std.specs.Borrow.{Bor}
 use Rattle.std.specs.List.{list_any}
 use Rattle.std.specs.Str.{str_eq_ignore_ascii_case}
 use Rattle.std.proofs.lemmas.Iterator.{YieldsList-from_slice}
 use Rattle.std.proofs.lemmas.Iterator.Search.{any_from_yields_List}
-use Rattle.text_model.specs.Texts.{Text, texts_of}
+use Rattle.text_model.specs.Texts.{Text}
+use Rattle.openurl_reading.proofs.AnyTexts.{any-texts_of}
 use Rattle.openurl_reading.proofs.counting.is_prefix.Goals as goal
-
-any-texts_of : (value : Text) (texts : List (Bor Text))
-    → list_any (λ one. str_eq_ignore_ascii_case one.now value) texts ≡ list_any (λ one. str_eq_ignore_ascii_case one value) (texts_of texts)
-any-texts_of value [] = refl
-any-texts_of value (one ∷ texts) = ap (λ b. str_eq_ignore_ascii_case one.now value || b) (any-texts_of value texts)
 
 pub returns : goal.returns
 returns c =
@@ -18,5 +14,5 @@ returns c =
     let prefixes = c.prefixes.result.now in
     any_from_yields_List (λ (one : Bor Text). str_eq_ignore_ascii_case one.now value) _ _ _ c.any.ensures.ran
     (YieldsList-from_slice prefixes cc) (λ x b q k. search (rules, tests))
-    ∙ any-texts_of value prefixes
+    ∙ any-texts_of str_eq_ignore_ascii_case value prefixes
     ∙ ap (list_any (λ one. str_eq_ignore_ascii_case one value)) c.prefixes.ensures

@@ -1,6 +1,8 @@
 use Rattle.std.proofs.Common.{[], ap, ◌∙◌, lit<}
 use Rattle.openurl_reading.specs.Reading.{normal_form, with_derived}
 use Rattle.openurl_reading.proofs.CanonicalStays.{kept_settled}
+use Rattle.openurl_reading.proofs.Identified.{identified}
+use Rattle.openurl_reading.proofs.Named.{canonical_named}
 use Rattle.openurl_reading.proofs.LowerLaws.{issn_kept, isbn_kept, date_kept}
 use Rattle.openurl_reading.proofs.Settled.{settled_stays}
 use Rattle.openurl_reading.proofs.laws.canonical_requests_stay.Goals as goal
@@ -21,6 +23,10 @@ returns-clause-steps c pairs is =
       eissns = λ k d h. let one = is.eissns k d h in issn_kept c.issns_stay.ensures _ one.0 one.1;
       isbns = λ k d h. isbn_kept c.isbns_stay.ensures _ (is.isbns k d h);
       dates = λ k d h. date_kept c.dates_stay.ensures _ (is.dates k d h);
+      works = canonical_named
+          (identified c.identifiers_are_identifiers.ensures.named c.identifiers_are_identifiers.ensures.alone c.identifiers_stay.ensures.named
+          c.uris_have_one_namespace.ensures)
+          pairs is.referents is.no_other_identifiers;
     })
 
 pub returns-clause-reading : goal.returns-clause-reading

@@ -1,3 +1,4 @@
+use Rattle.openurl_reading.proofs.Identified.{identified}
 use Rattle.openurl_reading.proofs.LowerLaws.{found_again}
 use Rattle.openurl_reading.proofs.NothingInvented.{nothing_invented}
 use Rattle.openurl_reading.proofs.laws.nothing_is_invented.Goals as goal
@@ -7,3 +8,5 @@ returns c =
     nothing_invented
     (found_again c.issns_are_issns.ensures c.issns_are_found_alone.ensures c.isbns_are_isbns.ensures c.isbns_stay.ensures
     c.dates_are_read.ensures c.dates_stay.ensures)
+    (identified c.identifiers_are_identifiers.ensures.named c.identifiers_are_identifiers.ensures.alone c.identifiers_stay.ensures.named
+    c.uris_have_one_namespace.ensures)

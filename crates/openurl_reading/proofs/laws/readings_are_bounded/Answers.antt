@@ -3,6 +3,8 @@ use Rattle.std.proofs.lemmas.List.{length-take}
 use Rattle.openurl_reading.specs.Counting.{accepted, counting, most_pairs}
 use Rattle.openurl_reading.specs.Reading.{normal_form, with_derived}
 use Rattle.openurl_reading.proofs.FoundAre.{AreFoundIn, found_are}
+use Rattle.openurl_reading.proofs.Identified.{identified}
+use Rattle.openurl_reading.proofs.IdentifierForms.{longest_uri, uri_short, identifier_short}
 use Rattle.openurl_reading.proofs.LowerLaws.{found_short}
 use Rattle.openurl_reading.proofs.Sizes.{AreLight, reading_weighs, counting_weighs, total-one, source_short}
 use Rattle.openurl_reading.proofs.laws.readings_are_bounded.Goals as goal
@@ -15,8 +17,16 @@ returns-clause-few c pairs =
       isbns = λ value k d h. omega arith;
       dates = λ value date e. omega arith;
     } in
-    let light : AreLight (λ n. 1) 1 = record { found = found_are (λ n. 1 ≤ 1) each; version = omega arith; source = λ sid. omega arith } in
-    omega (arith, reading_weighs (λ n. 1) 1 light counted, total-one counted, total-one (with_derived (normal_form counted)))
+    let light : AreLight (λ n. 1) 1 (λ namespace. 1) = record {
+      found = found_are (λ n. 1 ≤ 1) each;
+      version = omega arith;
+      source = λ sid. omega arith;
+      identified = identified c.identifiers_are_identifiers.ensures.named c.identifiers_are_identifiers.ensures.alone
+          c.identifiers_stay.ensures.named c.uris_have_one_namespace.ensures;
+      identifier = λ namespace n is. omega arith;
+      uri = λ namespace n is. omega arith;
+    } in
+    omega (arith, reading_weighs (λ n. 1) 1 (λ namespace. 1) light counted, total-one counted, total-one (with_derived (normal_form counted)))
 
 pub returns-clause-counting : goal.returns-clause-counting
 returns-clause-counting c pairs = omega (arith, length-take most_pairs (accepted pairs))
@@ -24,9 +34,13 @@ returns-clause-counting c pairs = omega (arith, length-take most_pairs (accepted
 pub returns-clause-bytes : goal.returns-clause-bytes
 returns-clause-bytes c pairs =
     let counted = counting pairs in
-    let light : AreLight (λ n. length n) 13 = record {
+    let light : AreLight (λ n. length n) 13 longest_uri = record {
       found = found_are (λ n. length n ≤ 13) (found_short c.issns_are_issns.ensures c.isbns_are_isbns.ensures c.dates_are_read.ensures);
       version = omega arith;
       source = source_short;
+      identified = identified c.identifiers_are_identifiers.ensures.named c.identifiers_are_identifiers.ensures.alone
+          c.identifiers_stay.ensures.named c.uris_have_one_namespace.ensures;
+      identifier = identifier_short;
+      uri = uri_short;
     } in
-    omega (arith, reading_weighs (λ n. length n) 13 light counted, counting_weighs (λ n. length n) pairs)
+    omega (arith, reading_weighs (λ n. length n) 13 longest_uri light counted, counting_weighs (λ n. length n) pairs)

@@ -1,0 +1,13 @@
+pub mod OtherWords
+pub mod Letters
+pub mod PartLaws
+pub mod Found
+pub mod Stay
+pub mod Joined
+pub mod NumberLaws
+pub mod PageParts
+pub mod PageAlone
+pub mod PageShapes
+pub mod PageStay
+pub mod LastStay
+pub mod WrittenNumbers

@@ -1,0 +1,59 @@
+//! What follows from the definitions. These functions have empty bodies; each contract is a theorem.
+
+ghost use Rattle.std.specs.Prelude.{◌≡◌, ◌≢◌, ◌+◌, ◌≤◌, [], length, Some, true};
+ghost use Rattle.std.specs.Char.{is_ascii_digit};
+ghost use Rattle.std.specs.List.{list_all};
+ghost use Rattle.text_model.specs.Texts.{Text};
+ghost use Rattle.article_places.specs.Enumerations.{Numbers, alone, numbers_in, written};
+ghost use Rattle.article_places.specs.Pages.{Range, only, pages_in};
+ghost use Rattle.article_places.specs.Parts.{IsFromFirst, IsPartOf};
+
+/// What is found is a part of the text: no byte of it is invented.
+pub fn numbers_are_parts()
+    ensures first { (text number : Text) (n : Numbers) → numbers_in text ≡ Some n → n.first ≡ Some number
+        → IsPartOf text number }
+    ensures issue { (text number : Text) (n : Numbers) → numbers_in text ≡ Some n → n.issue ≡ Some number
+        → IsPartOf text number }
+    ensures supplement { (text mark : Text) (n : Numbers) → numbers_in text ≡ Some n → n.supplement ≡ Some mark
+        → IsPartOf text mark }
+{}
+
+/// A plain number is found as it is, and so is each number that was found.
+pub fn numbers_stay()
+    ensures plain { (number : Text) → number ≢ [] → list_all is_ascii_digit number ≡ true
+        → numbers_in number ≡ Some (alone number) }
+    ensures first { (text number : Text) (n : Numbers) → numbers_in text ≡ Some n → n.first ≡ Some number
+        → numbers_in number ≡ Some (alone number) }
+    ensures issue { (text number : Text) (n : Numbers) → numbers_in text ≡ Some n → n.issue ≡ Some number
+        → numbers_in number ≡ Some (alone number) }
+{}
+
+/// The numbers in a text are those of the text that they make, such as `53 no. 2 Suppl 1`.
+pub fn written_numbers_stay()
+    ensures { (text : Text) (n : Numbers) → numbers_in text ≡ Some n → numbers_in (written n) ≡ Some n }
+{}
+
+/// A first page that is found is a part of the text. So is a last page, but for the letters and digits with which the
+/// first page begins.
+pub fn pages_are_parts()
+    ensures first { (text : Text) (pages : Range) → pages_in text ≡ Some pages → IsPartOf text pages.first }
+    ensures last { (text last : Text) (pages : Range) → pages_in text ≡ Some pages → pages.last ≡ Some last
+        → IsFromFirst text pages.first last }
+{}
+
+/// A plain page is found as it is, and so is each page that was found, a last page in full.
+pub fn pages_stay()
+    ensures plain { (page : Text) → page ≢ [] → list_all is_ascii_digit page ≡ true
+        → pages_in page ≡ Some (only page) }
+    ensures first { (text : Text) (pages : Range) → pages_in text ≡ Some pages
+        → pages_in pages.first ≡ Some (only pages.first) }
+    ensures last { (text last : Text) (pages : Range) → pages_in text ≡ Some pages → pages.last ≡ Some last
+        → pages_in last ≡ Some (only last) }
+{}
+
+/// A part of a text is not longer than the text, and a last page not longer than the first page and the text.
+pub fn parts_are_short()
+    ensures part { (text part : Text) → IsPartOf text part → length part ≤ length text }
+    ensures last { (text first last : Text) → IsFromFirst text first last
+        → length last ≤ length first + length text }
+{}

@@ -1,0 +1,117 @@
+-- Each identifier that is found was read in one value of the request.
+use Rattle.std.proofs.Common.{◌≡◌, List, [], ◌∷◌, ◌++◌, cond, not, Some, refl, sym, subst, ap, ◌∙◌, get_or, lit<}
+use Rattle.std.specs.Prelude.{codes, Contains}
+use Rattle.std.specs.List.{All, list_all}
+use Rattle.std.specs.Str.{bytes_eq}
+use Rattle.std.proofs.lemmas.Bool.{not-true}
+use Rattle.std.proofs.lemmas.List.Sums.{AllPass-from_list_all}
+use Rattle.std.proofs.lemmas.List.Elements.{All-append, All-cons, All-tail}
+use Rattle.text_model.specs.Texts.{Text}
+use Rattle.kev_read.specs.Pairs.{KeyValue, all_of}
+use Rattle.work_identifiers.specs.declared.namespace.Namespace.{Namespace}
+use Rattle.work_identifiers.specs.Forms.{IsIdentifier}
+use Rattle.openurl_reading.specs.Steps.{taken, after}
+use Rattle.openurl_reading.specs.Referrers.{referrer_step}
+use Rattle.openurl_reading.specs.Numbers.{issn_step, eissn_step, isbn_step}
+use Rattle.openurl_reading.specs.Dates.{date_step}
+use Rattle.openurl_reading.specs.Identifiers.{identifier_of, source_keys, identifier_keys, first_under, first_identifier, uri_of, named, naming}
+use Rattle.openurl_reading.specs.Origins.{HasOrigin, identifier_in_value, uri_of_identifier}
+use Rattle.openurl_reading.proofs.Each.{each_named}
+use Rattle.openurl_reading.proofs.FoundAre.{IsAll}
+use Rattle.openurl_reading.proofs.Identified.{AreIdentified, found_is, first_is, of_is, uri_gives}
+use Rattle.openurl_reading.proofs.KeysSettle.{same_after}
+use Rattle.openurl_reading.proofs.Named.{named-keeps, sources_apart}
+use Rattle.openurl_reading.proofs.Sent.{IsSent, sent_under}
+use Rattle.openurl_reading.proofs.Values.{all_of-taken, all_of-taken-own}
+
+-- it is read in a value of the request
+pub record IsRead (sent : List Text) (namespace : Namespace) (n : Text) : Type 0 where
+  pub key : Text
+  pub value : Text
+  pub is_sent : Contains sent value
+  pub is : identifier_of namespace key value ≡ Some n
+
+pub identifier_has_origin : (sent : List Text) (namespace : Namespace) (n : Text) → IsRead sent namespace n → HasOrigin sent n
+identifier_has_origin sent namespace n read = identifier_in_value namespace read.key read.value n read.is_sent read.is
+
+pub uri_has_origin : (sent : List Text) (namespace : Namespace) (n : Text) → IsRead sent namespace n → HasOrigin sent (uri_of namespace n)
+uri_has_origin sent namespace n read = uri_of_identifier namespace read.key read.value n read.is_sent read.is
+
+-- what is found in a value of a key is
+abbrev GivesRead : List Text → Text → Text → Type 0
+GivesRead sent key value = (namespace : Namespace) → IsAll (IsRead sent namespace) (identifier_of namespace key value)
+
+abbrev pub AreRead : List Text → List KeyValue → Type 0
+AreRead sent pairs = All (λ key. All (GivesRead sent key) (all_of pairs key)) identifier_keys
+
+sent_read : (sent : List Text) (pairs : List KeyValue) → All (λ key. All (Contains sent) (all_of pairs key)) identifier_keys
+    → AreRead sent pairs
+sent_read sent pairs all k d h j e g namespace n is =
+    let key = get_or identifier_keys k d in
+    record { key = key; value = get_or (all_of pairs key) j e; is_sent = all k d h j e g; is = is }
+
+-- after the steps before those that name works, each value is one of the request
+pub identifiers_under : (sent : List Text) (copied : List KeyValue) → All (IsSent sent) copied
+    → AreRead sent (after (referrer_step ∷ issn_step ∷ eissn_step ∷ isbn_step ∷ date_step ∷ []) copied)
+identifiers_under sent copied is =
+    let steps = referrer_step ∷ issn_step ∷ eissn_step ∷ isbn_step ∷ date_step ∷ [] in
+    sent_read sent (after steps copied) (λ k d h.
+    let key = get_or identifier_keys k d in
+    subst (All (Contains sent)) (sym (same_after steps copied key (AllPass-from_list_all (λ key. list_all (λ step. not (bytes_eq step.key key)) steps)
+    identifier_keys refl k d h)))
+    (sent_under sent copied key (
+      not-true _ (AllPass-from_list_all (λ key. not (bytes_eq key (codes "ctx_ver"))) identifier_keys refl k d h),
+      not-true _ (AllPass-from_list_all (λ key. not (bytes_eq key (codes "url_ver"))) identifier_keys refl k d h),
+    ) is))
+
+-- ---- what a request has
+
+under_read : (sent : List Text) (namespace : Namespace) (pairs : List KeyValue) (key : Text) → All (GivesRead sent key) (all_of pairs key)
+    → IsAll (IsRead sent namespace) (first_under namespace pairs key)
+under_read sent namespace pairs key all =
+    found_is (IsRead sent namespace) (identifier_of namespace key) (all_of pairs key) (λ k d h. all k d h namespace)
+
+pub first_read : (sent : List Text) (namespace : Namespace) (pairs : List KeyValue) → AreRead sent pairs
+    → IsAll (IsRead sent namespace) (first_identifier namespace pairs)
+first_read sent namespace pairs all =
+    found_is (IsRead sent namespace) (first_under namespace pairs) identifier_keys
+    (λ k d h. under_read sent namespace pairs (get_or identifier_keys k d) (all k d h))
+
+pub referent_read : (sent : List Text) (namespace : Namespace) (pairs : List KeyValue) → AreRead sent pairs
+    → IsAll (IsRead sent namespace) (first_under namespace pairs (codes "rft_id"))
+referent_read sent namespace pairs all = under_read sent namespace pairs (codes "rft_id") (all 0 [] (lit< tt))
+
+-- ---- after a step
+
+-- a URI has its identifier and no other
+uri_read : AreIdentified → (sent : List Text) (namespace : Namespace) (n : Text) → IsIdentifier namespace n → IsRead sent namespace n
+    → GivesRead sent (codes "rft_id") (uri_of namespace n)
+uri_read laws sent namespace n is read other m h =
+    let same = uri_gives laws namespace other n m is h in
+    subst (λ o. IsRead sent o m) same.0 (subst (IsRead sent namespace) same.1 read)
+
+naming_gives : AreIdentified → (sent : List Text) (namespace : Namespace) (pairs : List KeyValue) → AreRead sent pairs
+    → All (GivesRead sent (codes "rft_id")) (all_of (taken pairs (naming namespace)) (codes "rft_id"))
+naming_gives laws sent namespace pairs all =
+    let key = codes "rft_id" in
+    let values = all_of pairs key in
+    let found = first_identifier namespace pairs in
+    let P : Text → Type 0 = GivesRead sent key in
+    let now : all_of (taken pairs (naming namespace)) key ≡ (named namespace found values).values ++ values =
+    all_of-taken-own (naming namespace) pairs
+    ∙ ap (λ b. (named namespace found values).values ++ cond b values []) (named-keeps namespace found values) in
+    subst (All P) (sym now)
+    (All-append P (named namespace found values).values values
+    (each_named P namespace found values
+    (λ n e. uri_read laws sent namespace n (first_is (IsIdentifier namespace) namespace (of_is laws namespace) pairs n e)
+    (first_read sent namespace pairs all n e)))
+    (all 0 [] (lit< tt)))
+
+pub naming_read : AreIdentified → (sent : List Text) (namespace : Namespace) (pairs : List KeyValue) → AreRead sent pairs
+    → AreRead sent (taken pairs (naming namespace))
+naming_read laws sent namespace pairs all =
+    let now = taken pairs (naming namespace) in
+    All-cons (λ key. All (GivesRead sent key) (all_of now key)) (codes "rft_id") source_keys (naming_gives laws sent namespace pairs all)
+    (λ k d h. let key = get_or source_keys k d in
+    subst (All (GivesRead sent key)) (sym (all_of-taken (naming namespace) pairs key (sources_apart k d h)))
+    (All-tail (λ key. All (GivesRead sent key) (all_of pairs key)) (codes "rft_id") source_keys all k d h))

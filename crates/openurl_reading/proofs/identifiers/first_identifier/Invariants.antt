@@ -1,0 +1,10 @@
+use Rattle.std.proofs.Common.{◌≡◌, drop}
+use Rattle.text_model.specs.Texts.{texts_of}
+use Rattle.openurl_reading.specs.Identifiers.{first_under}
+use Rattle.openurl_reading.proofs.Identified.{first_found}
+use Rattle.openurl_reading.proofs.identifiers.first_identifier.Given as goal
+
+abbrev pub invariant-loop-key : goal.invariant-loop-key
+invariant-loop-key l =
+    first_found (first_under l.namespace l.pairs) (texts_of (drop l.key-index l.key-items))
+    ≡ first_found (first_under l.namespace l.pairs) (texts_of l.key-items)

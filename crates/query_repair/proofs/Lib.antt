@@ -1,0 +1,10 @@
+pub mod Marks
+pub mod Stays
+pub mod Unmarked
+pub mod Bounds
+pub mod Appended
+pub mod CleanPieces
+pub mod Groups
+pub mod Semicolons
+pub mod OnceRepaired
+pub mod Forms

@@ -1,0 +1,113 @@
+-- Texts of bytes.
+use Rattle.std.proofs.Common.{◌≡◌, ℕ, suc, ◌+◌, ◌*◌, ◌<◌, ◌≤◌, Bool, true, false, cond, ◌&&◌, [], ◌∷◌, ◌++◌, map, length, get_or, take}
+use Rattle.std.proofs.Common.{refl, ap, ◌∙◌, arith, length-append}
+use Rattle.std.specs.Prelude.{encode_utf8, encode_utf8_all}
+use Rattle.std.specs.Char.{IsScalar, len_utf8}
+use Rattle.std.specs.List.{All}
+use Rattle.std.specs.Str.{IsUtf8, IsAscii, is_utf8}
+use Rattle.std.proofs.lemmas.Bool.{lt-ltb}
+use Rattle.std.proofs.lemmas.Bool.Decides.{nat_tests}
+use Rattle.std.proofs.lemmas.List.{append-nil, map-append, take_more}
+use Rattle.std.proofs.lemmas.List.Elements.{All-head, All-tail}
+use Rattle.std.proofs.lemmas.Str.{IsUtf8-nil, IsUtf8-append, IsUtf8-encode, IsUtf8-from_ascii, IsUtf8-from_is_utf8, is_utf8-from_IsUtf8}
+use Rattle.std.proofs.lemmas.Str.{encodes-append, encodes-IsAscii, length-encode}
+use Rattle.text_model.specs.Texts.{Text}
+use Rattle.request_encodings.specs.declared.encoding.Encoding.{Encoding}
+use Rattle.request_encodings.specs.declared.encoding.Encoding.TheVariants.{Utf8, Bytes, Unknown}
+use Rattle.request_encodings.specs.declared.encoding.ByteEncoding.{ByteEncoding}
+use Rattle.request_encodings.specs.declared.encoding.ByteEncoding.TheVariants.{Windows1252}
+use Rattle.request_encodings.specs.Texts.{character, decoded, are_ascii, text_in}
+use Rattle.request_encodings.proofs.Characters.{small, low}
+
+abbrev AreBytes : Text → Type 0
+AreBytes bytes = All (λ b. b < 0x100) bytes
+
+-- ---- one byte more
+
+pub decoded_more : (encoding : ByteEncoding) (bytes : Text) (i : ℕ) → i < length bytes
+    → decoded encoding (take (i + 1) bytes) ≡ decoded encoding (take i bytes) ++ encode_utf8 (character encoding (get_or bytes i 0))
+decoded_more encoding bytes i within =
+    ap (decoded encoding) (take_more bytes i 0 within)
+    ∙ ap encode_utf8_all (map-append (character encoding) (take i bytes) (get_or bytes i 0 ∷ []))
+    ∙ encodes-append (map (character encoding) (take i bytes)) (character encoding (get_or bytes i 0) ∷ [])
+    ∙ ap (λ last. decoded encoding (take i bytes) ++ last) (append-nil (encode_utf8 (character encoding (get_or bytes i 0))))
+
+-- ---- UTF-8
+
+pub no_utf8 : (bytes : Text) (b : Bool) → is_utf8 bytes ≡ b → (IsUtf8 bytes → ⊥) → is_utf8 bytes ≡ false
+no_utf8 bytes true e none = absurd (none (IsUtf8-from_is_utf8 bytes e))
+no_utf8 bytes false e none = e
+
+small_scalar : (c : ℕ) → c < 0xd800 → IsScalar c
+small_scalar c h = grind (arith, nat_tests)
+
+decoded_utf8 : (encoding : ByteEncoding) (bytes : Text) → AreBytes bytes → IsUtf8 (decoded encoding bytes)
+decoded_utf8 encoding [] are = IsUtf8-nil
+decoded_utf8 encoding (b ∷ bytes) are =
+    let P : ℕ → Type 0 = λ x. x < 0x100 in
+    IsUtf8-append (encode_utf8 (character encoding b)) (decoded encoding bytes)
+    (IsUtf8-encode (character encoding b) (small_scalar (character encoding b) (small encoding b (All-head P b bytes are))))
+    (decoded_utf8 encoding bytes (All-tail P b bytes are))
+
+utf8_choice : (bytes : Text) (b : Bool) → is_utf8 bytes ≡ b → AreBytes bytes → IsUtf8 (cond b bytes (decoded Windows1252 bytes))
+utf8_choice bytes true e are = IsUtf8-from_is_utf8 bytes e
+utf8_choice bytes false e are = decoded_utf8 Windows1252 bytes are
+
+ascii_choice : (bytes : Text) (b : Bool) → AreBytes bytes → IsUtf8 (cond b (decoded Windows1252 bytes) [])
+ascii_choice bytes true are = decoded_utf8 Windows1252 bytes are
+ascii_choice bytes false are = IsUtf8-nil
+
+pub texts_utf8 : (encoding : Encoding) (bytes : Text) → AreBytes bytes → IsUtf8 (text_in encoding bytes)
+texts_utf8 Utf8 bytes are = utf8_choice bytes (is_utf8 bytes) refl are
+texts_utf8 (Bytes encoding) bytes are = decoded_utf8 encoding bytes are
+texts_utf8 Unknown bytes are = ascii_choice bytes (are_ascii bytes) are
+
+pub utf8_same : (bytes : Text) → IsUtf8 bytes → text_in Utf8 bytes ≡ bytes
+utf8_same bytes is = ap (λ b. cond b bytes (decoded Windows1252 bytes)) (is_utf8-from_IsUtf8 bytes is)
+
+-- ---- ASCII
+
+same_characters : (encoding : ByteEncoding) (bytes : Text) → IsAscii bytes → map (character encoding) bytes ≡ bytes
+same_characters encoding [] are = refl
+same_characters encoding (b ∷ bytes) are =
+    ap (λ c. c ∷ map (character encoding) bytes) (low encoding b (are 0))
+    ∙ ap (λ cs. b ∷ cs) (same_characters encoding bytes (λ i. are (suc i)))
+
+decoded_ascii : (encoding : ByteEncoding) (bytes : Text) → IsAscii bytes → decoded encoding bytes ≡ bytes
+decoded_ascii encoding bytes are = ap encode_utf8_all (same_characters encoding bytes are) ∙ encodes-IsAscii bytes are
+
+passes : (bytes : Text) → IsAscii bytes → are_ascii bytes ≡ true
+passes [] are = refl
+passes (b ∷ bytes) are =
+    ap (λ t. t && are_ascii bytes) (lt-ltb b 0x80 (are 0)) ∙ passes bytes (λ i. are (suc i))
+
+pub ascii_same : (encoding : Encoding) (bytes : Text) → IsAscii bytes → text_in encoding bytes ≡ bytes
+ascii_same Utf8 bytes are = utf8_same bytes (IsUtf8-from_ascii bytes are)
+ascii_same (Bytes encoding) bytes are = decoded_ascii encoding bytes are
+ascii_same Unknown bytes are =
+    ap (λ b. cond b (decoded Windows1252 bytes) []) (passes bytes are) ∙ decoded_ascii Windows1252 bytes are
+
+-- ---- how long they are
+
+three : (c : ℕ) → c < 0xd800 → len_utf8 c ≤ 3
+three c h = grind (arith, nat_tests)
+
+decoded_short : (encoding : ByteEncoding) (bytes : Text) → AreBytes bytes → length (decoded encoding bytes) ≤ 3 * length bytes
+decoded_short encoding [] are = omega arith
+decoded_short encoding (b ∷ bytes) are =
+    let P : ℕ → Type 0 = λ x. x < 0x100 in
+    let c : ℕ = character encoding b in
+    let one : length (encode_utf8 c) ≤ 3 = omega (arith, length-encode c, three c (small encoding b (All-head P b bytes are))) in
+    let rest = decoded_short encoding bytes (All-tail P b bytes are) in
+    simp length-append (omega (arith, one, rest))
+
+chosen_short : (b : Bool) (x y : Text) (n : ℕ) → length x ≤ n → length y ≤ n → length (cond b x y) ≤ n
+chosen_short true x y n h k = h
+chosen_short false x y n h k = k
+
+pub texts_short : (encoding : Encoding) (bytes : Text) → AreBytes bytes → length (text_in encoding bytes) ≤ 3 * length bytes
+texts_short Utf8 bytes are =
+    chosen_short (is_utf8 bytes) bytes (decoded Windows1252 bytes) (3 * length bytes) (omega arith) (decoded_short Windows1252 bytes are)
+texts_short (Bytes encoding) bytes are = decoded_short encoding bytes are
+texts_short Unknown bytes are =
+    chosen_short (are_ascii bytes) (decoded Windows1252 bytes) [] (3 * length bytes) (decoded_short Windows1252 bytes are) (omega arith)
