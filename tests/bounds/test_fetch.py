@@ -12,6 +12,7 @@ from unittest import mock
 
 from fixtures import needs
 from fixtures.cases import Case
+from fixtures.patience import best_of_three
 from fixtures.patience import patience
 from fixtures.patience import wait_until
 from fixtures.provider import Held
@@ -133,18 +134,23 @@ class Bytes(Case):
             self.expect(name, (is_whole, (fault or "").replace("after 5 bytes", "after 0 bytes")), (False, wanted))
             self.expect(f"{name}: the connection is closed", wait_until(floods[0].has_ended.is_set))
 
+    def fault_of_slow_headers(self, first: bytes, sent: int) -> str | None:
+        """What is wrong with a download of which headers come without an end, after these bytes of a body."""
+        self.provider.steps = {"/table": [Held(first, b"X-Odd: x\r\n")]}
+        body = self.folder / "body"
+        body.write_bytes(b"")
+        seconds = round(patience(2))
+        download = Download(self.provider.address("/table"), [], [], body, seconds, 0)
+        start = time.monotonic()
+        list(downloads.run([download]))
+        took, wanted = time.monotonic() - start, f"no end, after {sent} bytes, within {seconds} seconds"
+        is_right = not download.is_whole and download.fault == wanted and took < seconds + patience(5)
+        return None if is_right else f"after {took:.1f} of {seconds} s: {download.fault}"
+
     def test_headers_that_come_slowly(self) -> None:
         for name, first, sent in (("headers", b"HTTP/1.1 200 X\r\n", 0), ("after the body", WITH_TRAILERS, 5)):
-            self.provider.steps = {"/table": [Held(first, b"X-Odd: x\r\n")]}
-            body = self.folder / "body"
-            body.write_bytes(b"")
-            seconds = round(patience(2))
-            download = Download(self.provider.address("/table"), [], [], body, seconds, 0)
-            start = time.monotonic()
-            list(downloads.run([download]))
-            wanted = f"no end, after {sent} bytes, within {seconds} seconds"
-            self.expect(name, (download.is_whole, download.fault), (False, wanted))
-            self.expect(f"{name}: it ends in time", time.monotonic() - start < seconds + patience(5))
+            fault: object = best_of_three(lambda: self.fault_of_slow_headers(first, sent))
+            self.expect(name, fault, None)
 
     def test_length_that_is_told(self) -> None:
         for digits, wanted in (("9" * 15, f"of {int('9' * 15):,} bytes"), ("9" * 16, "bytes, too early")):

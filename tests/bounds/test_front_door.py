@@ -10,6 +10,7 @@ import socket
 import subprocess
 import tempfile
 import time
+from collections.abc import Callable
 from collections.abc import Iterator
 from pathlib import Path
 
@@ -81,6 +82,16 @@ class Replies(SiteCase):
     processes = 1
     has_processes = False
 
+    def expect_soon(self, name: str, got: Callable[[], object], wanted: object) -> None:
+        """One of three tries gives this. nginx waits some seconds for a reply, which may be late on a busy machine."""
+
+        def fault_of() -> str | None:
+            found = got()
+            return None if found == wanted else f"got {found!r}, wanted {wanted!r}"
+
+        fault: object = best_of_three(fault_of)
+        self.expect(name, fault, None)
+
     def links(self, length: int) -> list[str] | str:
         """Those of a page if the menu of a process has that many bytes, or why there is no page."""
         with in_place(self.site.ports, [lambda head: WHOLE if FOR_ANY in head else menu(length)]):
@@ -92,8 +103,8 @@ class Replies(SiteCase):
 
     def test_menus(self) -> None:
         """Eight megabytes are read, and beyond them nginx ends the connection."""
-        self.expect("8 MB", self.links(8 * KB * KB), ["tidal-press"])
-        self.expect("8 MB and a byte", self.links(8 * KB * KB + 1), "RemoteDisconnected")
+        self.expect_soon("8 MB", lambda: self.links(8 * KB * KB), ["tidal-press"])
+        self.expect_soon("8 MB and a byte", lambda: self.links(8 * KB * KB + 1), "RemoteDisconnected")
 
     def title_of(self, length: int) -> str | None:
         """That of an article whose DOI a service knows, if the reply of the service has that many bytes."""
@@ -109,14 +120,17 @@ class Replies(SiteCase):
         return title
 
     def test_replies_of_services(self) -> None:
-        self.expect("1 MB", self.title_of(KB * KB), "Silt")
+        self.expect_soon("1 MB", lambda: self.title_of(KB * KB), "Silt")
         self.expect("1 MB and a byte", self.title_of(KB * KB + 1), None)
 
     def test_replies_for_health(self) -> None:
-        for length, expected in ((64 * KB, "answers"), (64 * KB + 1, "does not answer")):
+        def answers(length: int) -> bool:
             with in_place(self.site.ports, [lambda _: menu(length)]):
                 lines = self.site.get("/health", port=self.site.report_port).text.splitlines()
-            self.expect(f"a reply of {length} bytes", f"port {self.site.ports[0]} {expected}" in lines)
+            return f"port {self.site.ports[0]} answers" in lines
+
+        self.expect_soon("64 KB", lambda: answers(64 * KB), True)
+        self.expect("64 KB and a byte", answers(64 * KB + 1), False)
 
 
 @contextlib.contextmanager
@@ -127,13 +141,14 @@ def without_room(port: int) -> Iterator[None]:
         listener.setsockopt(socket.SOL_SOCKET, socket.SO_REUSEADDR, 1)
         listener.bind(("127.0.0.1", port))
         listener.listen(0)
-        for _ in range(8):
+        late = 0  # one alone may be late on a busy machine
+        while late < 2:
             peer = stack.enter_context(socket.socket())
             peer.settimeout(0.3)
             try:
                 peer.connect(("127.0.0.1", port))
             except TimeoutError:
-                break
+                late += 1
         yield
 
 

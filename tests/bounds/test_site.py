@@ -13,6 +13,7 @@ from unittest import mock
 
 from bounds.refusals import reason
 from fixtures.cases import Case
+from fixtures.patience import patience
 from fixtures.provider import Held
 from fixtures.provider import Provider
 from fixtures.provider import Step
@@ -138,7 +139,7 @@ class Times(Case):
             path.write_text("#!/bin/sh\necho slow >&2\nexec sleep 1000\n")
             path.chmod(0o755)
             port = children.free_port()
-            with mock.patch.object(probing, "_SECONDS", 1):
+            with mock.patch.object(probing, "_SECONDS", patience(1)):
                 told = reason(probing.Trial(str(path), Path(folder), port).__enter__)
             self.expect("one that does not listen", told, f"{folder} cannot be served: slow")
 

@@ -39,7 +39,7 @@ def rest(peer):
 
 def fault_of_wait(waited):
     """What is wrong with a time-out of the service that took these seconds; None if nothing is."""
-    return None if WAIT * 0.9 < waited < WAIT * 1.5 else f"a time-out of {waited:.2f} s"
+    return None if WAIT * 0.9 < waited < WAIT + patience(1) else f"a time-out of {waited:.2f} s"
 
 
 def expect_served(program, service):

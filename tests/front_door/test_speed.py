@@ -12,7 +12,7 @@ from fixtures import needs
 from fixtures.cases import Case
 from front_door.test_rules import write_modules
 
-TRIES = 5
+TRIES = 9
 SECONDS = 20  # of processor time, after which a script that does not end is killed
 SCRIPT = """import languages from './languages.js';
 import openurl from './openurl.js';
@@ -109,7 +109,7 @@ class Speed(Case):
 
     def test_costs(self) -> None:
         """Each costs at most what it may. The least time of each script counts, since other processes on the machine
-        make a time longer and never shorter. If one costs more, all are measured again, up to five times."""
+        make a time longer and never shorter. If one costs more, all are measured again, up to nine times."""
         most = {name: most for name, (_, most) in {**REQUESTS, **HEADERS}.items()}
         least: dict[str, float] = {}
         costs: dict[str, float] = {}
