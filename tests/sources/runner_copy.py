@@ -10,6 +10,7 @@ import signal
 import subprocess
 import sys
 import tempfile
+import time
 from collections.abc import Sequence
 from typing import Any
 
@@ -69,6 +70,13 @@ for sys.argv[1:] in json.load(sys.stdin):
 
 def _heed_interrupts() -> None:
     signal.signal(signal.SIGINT, signal.SIG_DFL)
+
+
+def send_until_it_ends(process: subprocess.Popen[str], number: signal.Signals) -> None:
+    """Sends a signal again and again: `timeout` sends it to a command, and to the group that the command is in."""
+    while process.poll() is None:
+        process.send_signal(number)
+        time.sleep(0.02)
 
 
 def lines_of(printed: str) -> list[str]:

@@ -17,6 +17,7 @@ from fixtures import needs
 from fixtures.cases import Case
 from fixtures.patience import patience
 from fixtures.patience import wait_until
+from sources.runner_copy import send_until_it_ends
 
 TOP = Path(fixtures.TOP)
 sys.path.insert(0, f"{TOP}/tools")
@@ -357,7 +358,7 @@ class Planting(Repository):
             waits = self.folder / f"waits.{number}"
             process = self.start("tools/plant", "update/openlink_update/numbers.py", PLANT_WAITS=str(waits))
             wait_until(lambda: waits.exists() and waits.read_text() != "")
-            process.send_signal(number)
+            send_until_it_ends(process, number)
             said = process.communicate()[0]
             self.expect(f"after {number.name}", (process.returncode, said), (1, "tools/plant: interrupted\n"))
             self.expect("the test runs in a copy", Path(waits.read_text()) != self.top)

@@ -15,6 +15,7 @@ from sources.runner_copy import IMPORTS
 from sources.runner_copy import RunnerCase
 from sources.runner_copy import SKIPPED
 from sources.runner_copy import long_modules
+from sources.runner_copy import send_until_it_ends
 
 sys.path.insert(0, f"{TOP}/tools/run_tests")
 import catalogue
@@ -235,11 +236,13 @@ class Interrupts(RunnerCase):
         """The process of the module, and what it started."""
         for number in signal.SIGINT, signal.SIGTERM:
             self.module("sleeps", SLEEPS)
-            run = self.start()
+            os.makedirs(f"{self.top}/temporary", exist_ok=True)
+            run = self.start(TMPDIR=f"{self.top}/temporary")
             pids = wait_until(lambda: os.path.exists(f"{self.top}/pids") and open(f"{self.top}/pids").read().split())
             self.expect("what was started", len(pids), 2)
-            run.send_signal(number)
+            send_until_it_ends(run, number)
             printed = run.communicate()[0]
-            self.expect(f"signal {number}: {printed}", (run.returncode, "interrupted" in printed), (1, True))
+            self.expect(f"signal {number}", (run.returncode, printed), (1, "./test: interrupted\n"))
             self.expect("what still runs", [it for it in pids if is_running(int(it))], [])
+            self.expect("what is left of temporary files", os.listdir(f"{self.top}/temporary"), [])
             os.remove(f"{self.top}/pids")
