@@ -34,6 +34,28 @@ class Arguments(Case):
             self.expect("a folder that exists", releases.made(folder), (1, f"packaging/release: {folder} exists\n"))
 
 
+# Each is not the last command of a pipe of packaging/release, whose other commands do not miss what it prints.
+PIPED = ("grep", "sort", "tar")
+# dpkg-deb would find the faults of some.
+STANDINS = {"dpkg-deb": 'for it; do :; done; : >"$it"', **dict.fromkeys(PIPED, "exit 3")}
+
+
+@needs.program()
+class FailingSteps(Case):
+    def test_commands_of_pipes(self) -> None:
+        """A command that fails ends the release, which then has no sums."""
+        for name in (None, *PIPED):
+            with tempfile.TemporaryDirectory() as folder:
+                for it in filter(None, ("dpkg-deb", name)):
+                    command = Path(folder, it)
+                    command.write_text(f"#!/bin/sh\n{STANDINS[it]}\n", encoding="utf-8")
+                    command.chmod(0o755)
+                with mock.patch.dict(os.environ, PATH=f"{folder}:{os.environ['PATH']}"):
+                    status, said = releases.made(f"{folder}/release")
+                found = status == 0, Path(folder, "release/SHA256SUMS").exists()
+                self.expect(f"{name} fails: {said}", found, (name is None,) * 2)
+
+
 class ReleaseCase(Case):
     """Tests of a release that is unpacked."""
 
