@@ -16,6 +16,7 @@ from fixtures import TOP
 from fixtures import needs
 from fixtures.cases import Case
 from packaging import releases
+from packaging.test_package import LINKS
 
 PROGRAM = Path(needs.PROGRAM)
 PAGE = "docs/INSTALLING.md"
@@ -204,13 +205,28 @@ class FirstStart(ReleaseCase):
 
     def runs(self, what: str, first: str, last: str) -> None:
         commands = commands_of_first_start((self.tree / PAGE).read_text(encoding="utf-8"), first, last)
-        for name in "etc", "var":
-            commands = commands.replace(f"/{name}/", f"{self.machine}/{name}/")
+        for name in "etc", "var", "usr":
+            commands = commands.replace(f" /{name}/", f" {self.machine}/{name}/")
         environment = {**os.environ, "PATH": f"{self.tree}/bin:{os.environ['PATH']}"}
         done = subprocess.run(
             ["bash", "-e"], input=commands, cwd=self.tree, env=environment, capture_output=True, encoding="utf-8"
         )
         self.expect(f"{what}: {done.stderr}", done.returncode, 0)
+
+    def test_commands_of_units(self) -> None:
+        """Without the package, what each unit starts is there, and so is each command that has a link in it."""
+        local = self.machine / "usr/local"
+        for folder in (local / "bin", local / "sbin", self.machine / "etc/systemd/system"):
+            folder.mkdir(parents=True)
+        shutil.copy(self.tree / "bin/openlink", local / "bin")
+        self.runs("the program", "mkdir -p /usr/local/share/openlink", "cp packaging/systemd/")
+        units = sorted((self.machine / "etc/systemd/system").iterdir())
+        texts = [it.read_text(encoding="utf-8") for it in units]
+        commands = [it for text in texts for it in re.findall(r"^ExecStart=/usr/local/(\S+)", text, re.M)]
+        self.expect(f"{len(units)} units, {commands}", len(units) >= 6 and len(commands) >= 4)
+        linked = [it.removeprefix("usr/") for it in LINKS]
+        wanted = sorted({*commands, *linked})
+        self.expect("commands that are missing", [it for it in wanted if not os.access(local / it, os.X_OK)], [])
 
     def test_labels(self) -> None:
         for name in ("targets.json", *(f"words/{it}" for it in releases.WORDS)):
