@@ -1,17 +1,22 @@
 """The files of a library beside its folder: its site, its logs and its units, on machines that differ."""
 from __future__ import annotations
 
+import contextlib
+import io
 import os
 import shutil
 import stat
 import tempfile
+from pathlib import Path
 from unittest import mock
 
 from fixtures.cases import Case
+from openlink_update.commands import library
 from openlink_update.machines import library_files
 from openlink_update.machines.library_files import Places
 
 INET6 = "/proc/net/if_inet6"
+LINKS = ("current", "before")
 
 
 class Machines(Case):
@@ -79,3 +84,22 @@ class Machines(Case):
         self.expect("the operator's file", os.listdir(folder), ["own.conf"])
         library_files.remove_units(self.places, [])
         self.expect("of no ports", library_files.unit_ports(self.places), [8101])
+
+
+class Removal(Case):
+    def test_links(self) -> None:
+        """A library that is removed while a run of it was killed: neither link to a version stays."""
+        with tempfile.TemporaryDirectory() as room, contextlib.redirect_stdout(io.StringIO()):
+            systemctl = Path(room, "bin/systemctl")
+            systemctl.parent.mkdir()
+            systemctl.write_text("#!/bin/sh\n", encoding="utf-8")
+            systemctl.chmod(0o755)
+            with mock.patch.dict(os.environ, PATH=f"{systemctl.parent}:{os.environ['PATH']}"):
+                added = library.main(["--root", room, "add", "north", "north.example.org"])
+                folder = Places(room).libraries / "north"
+                for link in LINKS:
+                    (folder / link).symlink_to("versions/20261121T000000Z")
+                removed = library.main(["--root", room, "remove", "north"])
+            self.expect("the statuses", (added, removed), (0, 0))
+            names = os.listdir(f"{folder}.removed")
+            self.expect(f"{names}", ("site.conf" in names, [it for it in LINKS if it in names]), (True, []))
