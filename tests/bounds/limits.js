@@ -183,6 +183,20 @@ async function testLookup() {
         expect('lookup', `a DOI after ${before} other numbers`, q.first('x.doi'), before === 19 ? '10.5555/a' : '');
     }
 }
+// How often a service is asked for a request with a DOI of that many characters.
+async function testLongDois() {
+    const site = { openlink_lookup: 'http://127.0.0.1:8078', openlink_free_copies: 'on' };
+    for (let length = 300; length <= 301; length++) {
+        const ask = () => openurl.begun('id=doi:10.5555/' + repeated('a', length - 8));
+        const asked = length === 300 ? 1 : 0;
+        replyAfter(0, {});
+        await lookup.complete({ variables: site, rawVariables: {} }, ask());
+        expect('lookup', `a request for a DOI of ${length} characters`, ngx.asked, asked);
+        replyAfter(0, {});
+        await copies.find({ variables: site, rawVariables: {} }, ask());
+        expect('copies', `a request for a copy of a DOI of ${length} characters`, ngx.asked, asked);
+    }
+}
 function testCopies() {
     const address = (length) => 'https://a.example.org/' + repeated('a', length - 22);
     expect('copies', '2000 characters', copies.hostOf(address(2000)), 'a.example.org');
@@ -470,6 +484,7 @@ async function testAll() {
     await testCompletion();
     await testReplies();
     await testLookup();
+    await testLongDois();
     testNotices();
     testCopies();
     await testFind(200, 'b');

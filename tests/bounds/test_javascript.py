@@ -52,7 +52,7 @@ class Scripts(Case):
         self.check("contact")
 
     def test_copies(self) -> None:
-        self.check("copies", 6)
+        self.check("copies", 8)
 
     def test_find(self) -> None:
         self.check("find")
