@@ -66,6 +66,7 @@ ADDRESSES: list[tuple[str, str, int, dict[str, str]]] = [  # method, address, st
     ("GET", "/logo.svg", 200, {}),
     ("GET", "/favicon.ico", 204, DAY),
     ("GET", "/robots.txt", 200, DAY),
+    ("GET", "/opensearch.xml", 200, {}),
     ("GET", "/.well-known/security.txt", 404, {}),
     ("GET", "/.well-known/acme-challenge/none", 404, {}),
     ("GET", "/export/kbart.txt", 404, {}),
@@ -85,11 +86,15 @@ ADDRESSES: list[tuple[str, str, int, dict[str, str]]] = [  # method, address, st
     ("TRACE", "/cite", 405, PAGES),
     ("OPTIONS", "/cite", 405, PAGES),
     ("POST", "/menu.css", 405, {**PAGES, "cache-control": "public, max-age=3600"}),
+    ("POST", "/opensearch.xml", 405, PAGES),
 ]
 STAFF_ADDRESSES: list[tuple[str, str, int, dict[str, str]]] = [
     ("GET", f"/why?{ARTICLE}", 200, {}),
     ("GET", "/health", 200, {}),
+    ("GET", "/metrics", 200, {}),
+    ("GET", f"/report?{ARTICLE}", 200, {}),
     ("GET", f"/report.txt?{ARTICLE}", 200, {}),
+    ("GET", "/desk", 301, {}),
     ("GET", "/none", 404, {}),
     ("POST", "/why", 405, PAGES),
     ("DELETE", "/health", 405, PAGES),
