@@ -16,6 +16,8 @@ pub mod RowOrder
 pub mod NormalBytes
 pub mod IndexLemmas
 pub mod EntryLemmas
+pub mod SharingLemmas
+pub mod RowSharing
 pub mod RunLemmas
 pub mod MatchLemmas
 pub mod NameSetLemmas

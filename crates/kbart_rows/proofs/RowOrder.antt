@@ -38,7 +38,7 @@ below_end test first (suc n) =
 pub matching_rows_within : (table : Holdings) (ids : List Text) → All (λ row. row < length table.rows) (matching_rows table ids)
 matching_rows_within table ids = grind (arith, below_end)
 
-rest_rises : (row : ℕ) (rows : List ℕ) → Rise (row ∷ rows) → Rise rows
+pub rest_rises : (row : ℕ) (rows : List ℕ) → Rise (row ∷ rows) → Rise rows
 rest_rises row rows rise i j d before within = rise (suc i) (suc j) d (omega (arith, before)) (omega (arith, within))
 
 -- ---- the rows at or after one

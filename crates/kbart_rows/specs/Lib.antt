@@ -1,6 +1,7 @@
 pub mod Cells
 pub mod Lines
 pub mod Identifiers
+pub mod Sharing
 pub mod Reading
 pub mod Filling
 pub mod NameSets

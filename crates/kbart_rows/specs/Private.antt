@@ -4,6 +4,7 @@ pub mod Line
 pub mod WholeLines
 pub mod Hashed
 pub mod Index
+pub mod Groups
 pub mod Runs
 pub mod Normal
 pub mod NameSetTexts

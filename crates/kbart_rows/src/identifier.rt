@@ -21,8 +21,10 @@ pub fn normalised(alloc: Global, text: &str) -> Result<String, AllocError>
         .collect(alloc)
 }
 
-/// Writes the bytes of an identifier, normalised, in place of those in the vector.
-pub(crate) fn write_normal(text: &str, bytes: &mut Vec<u8>) -> Result<(), AllocError>
+/// Writes the bytes of an identifier, [normalised], in place of those in the vector.
+///
+/// Fails if an allocation failed.
+pub fn write_normal(text: &str, bytes: &mut Vec<u8>) -> Result<(), AllocError>
     ensures { OnOk result (bytes.new.items ≡ spec.normalised text.now) }
 {
     bytes.clear();
@@ -43,10 +45,10 @@ fn push_normal(byte: u8, bytes: &mut Vec<u8>) -> Result<(), AllocError>
 }
 
 /// Whether a cell, normalised, is the identifier, which is in normal form.
-pub(crate) fn is_identifier(cell: &str, id: &str) -> bool
+pub(crate) fn is_identifier(cell: &str, id: &[u8]) -> bool
     ensures { result ≡ bytes_eq id.now (spec.normalised cell.now) }
 {
-    is_normal_form(cell.as_bytes(), id.as_bytes())
+    is_normal_form(cell.as_bytes(), id)
 }
 
 /// Whether the bytes of a cell, normalised, are these.

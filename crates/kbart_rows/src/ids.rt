@@ -1,6 +1,7 @@
 //! The identifiers of a request.
 
-ghost use Rattle.std.specs.Prelude.{◌≡◌, ◌≤◌, ◌+◌, ◌++◌, [], All, IfNone, IfOk, IfSome, OnOk, get_or, length, map};
+ghost use Rattle.std.specs.Prelude.{◌≡◌, ◌≤◌, ◌+◌, ◌++◌, ◌∷◌, [], All, IfNone, IfOk, IfSome, OnErr, OnOk};
+ghost use Rattle.std.specs.Prelude.{get_or, length, map};
 ghost use Rattle.std.specs.List.{list_any};
 ghost use Rattle.std.specs.Option.{option_to_list};
 ghost use Rattle.std.specs.Str.{bytes_eq};
@@ -25,7 +26,7 @@ pub struct Ids {
 /// A normalised identifier, and its hash.
 #[derive(Drop)]
 pub(crate) struct Id {
-    text: String,
+    text: Vec<u8>,
     hash: u64,
 }
 
@@ -67,6 +68,36 @@ impl Ids {
         Ok(Ids { ids, keys })
     }
 
+    /// No identifiers, to be replaced by [`set`](Ids::set). They are hashed under these keys.
+    pub fn none(alloc: Global, keys: Keys) -> Ids
+        ensures { result ≡ [] }
+    {
+        Ids {
+            ids: Vec::new(alloc),
+            keys,
+        }
+    }
+
+    /// Replaces the identifiers by one, given in normal form ([`write_normal`](crate::write_normal)). Calls share its
+    /// memory.
+    ///
+    /// Fails if an allocation failed; there is no identifier then.
+    pub fn set(&mut self, alloc: Global, id: &[u8]) -> Result<(), AllocError>
+        ensures ok { OnOk result (self.new ≡ id.now ∷ []) }
+        ensures err { OnErr result (self.new ≡ []) }
+    {
+        let mut text = match self.ids.pop() {
+            Some(last) => last.text,
+            None => Vec::new(alloc),
+        };
+        self.ids.clear();
+        text.clear();
+        text.extend_from_slice(id)?;
+        let hash = self.keys.hash(id);
+        self.ids.push(Id { text, hash })?;
+        Ok(())
+    }
+
     /// Whether the look-ups in tables with these keys need no other hash.
     pub fn is_keyed(&self, keys: &Keys) -> bool {
         self.keys.is_same(keys)
@@ -82,7 +113,7 @@ impl Ids {
         if self.keys.is_same(keys) {
             Some(id.hash)
         } else {
-            Some(keys.hash(id.text.as_bytes()))
+            Some(keys.hash(id.text.as_slice()))
         }
     }
 
@@ -91,7 +122,7 @@ impl Ids {
         ensures { result ≡ list_any (λ id. bytes_eq id (spec.normalised cell.now)) self.now }
     {
         for id in self.ids.iter() {
-            if is_identifier(cell, id.text.as_str()) {
+            if is_identifier(cell, id.text.as_slice()) {
                 return true;
             }
         }
@@ -115,9 +146,9 @@ fn add_first(
     let Some(value) = request.first(key) else {
         return Ok(());
     };
-    let text = normalised(alloc, value)?;
-    if !text.as_str().is_empty() {
-        let hash = keys.hash(text.as_bytes());
+    let text = normalised(alloc, value)?.into_bytes();
+    if !text.is_empty() {
+        let hash = keys.hash(text.as_slice());
         ids.push(Id { text, hash })?;
     }
     Ok(())

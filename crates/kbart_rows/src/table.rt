@@ -1,7 +1,7 @@
 //! A holdings table.
 
 ghost use Rattle.std.specs.Prelude.{◌≡◌, ◌≤◌, ◌<◌, ◌+◌, ◌*◌, ◌↔◌, [], ◌∷◌, All, IfErr, IfOk, IfSome, OnOk, IsUtf8, Err};
-ghost use Rattle.std.specs.Prelude.{get_or, length};
+ghost use Rattle.std.specs.Prelude.{ℕ, get_or, length};
 ghost use Rattle.std.specs.List.{list_any};
 ghost use Rattle.std.specs.Option.{option_copied};
 ghost use Rattle.environment_model.specs.Environment.{byte_count, member_count};
@@ -17,7 +17,9 @@ ghost use Rattle.kbart_rows.specs.Lines.{cells_in};
 ghost use Rattle.kbart_rows.specs.Private.Kept.{is_id};
 ghost use Rattle.kbart_rows.specs.Private.Runs.{AreReady, matches};
 ghost use Rattle.kbart_rows.specs.Reading.{AllFit, IsFault, IsTable};
+ghost use Rattle.kbart_rows.specs.Sharing.{SharesAtMost};
 ghost use Rattle.kbart_rows.specs.declared.read.TheConstants.{MAX_ROW_BYTES, MAX_ROWS, MAX_TABLE_BYTES};
+ghost use Rattle.kbart_rows.specs.declared.sharing.Sharing.{Sharing};
 
 use crate::cells::cell_in;
 use crate::columns::{columns_of, firsts_of};
@@ -30,8 +32,9 @@ use crate::matches::{Matches, next_row};
 use crate::read::{check_bytes, read_lines};
 use crate::records::Records;
 use crate::runs::Runs;
+use crate::sharing::{Sharing, sharing_of};
 use crate::sums::sums_of;
-use std::alloc::Global;
+use std::alloc::{AllocError, Global};
 use std::collections::HashMap;
 use std::marker::Model;
 use target_vars::{Env, VarsError};
@@ -209,6 +212,18 @@ impl Table {
         ensures within { All (λ row. row < length self.now.rows) result }
     {
         Matches::new(self, ids)
+    }
+
+    /// What each row's identifiers have in common with other rows at most. It takes one pass over the index, and no
+    /// look-up. Identifiers whose hashes share their upper half may have less in common than it says.
+    ///
+    /// Fails if an allocation failed.
+    pub fn sharing(&self, alloc: Global) -> Result<Vec<Sharing>, AllocError>
+        ensures count { IfOk result (λ sharing. length sharing.items ≡ length self.now.rows) }
+        ensures bounds { IfOk result (λ sharing. (row : ℕ) (d : Sharing) → row < length self.now.rows
+            → SharesAtMost self.now row (get_or sharing.items row d).first (get_or sharing.items row d).rows) }
+    {
+        sharing_of(alloc, self.index.as_slice(), self.rows())
     }
 
     /// Runs through the index, one for each identifier, from this row on.
