@@ -1,19 +1,21 @@
 -- The first of the texts with the largest number.
-use Rattle.std.proofs.Common.{◌≡◌, ℕ, ◌<◌, ◌≤◌, ◌&&◌, ◌||◌, ◌++◌, Bool, true, false, List, [], ◌∷◌, All, Option, None, Some, refl, sym, ap, ◌∙◌, arith}
+use Rattle.std.proofs.Common.{◌≡◌, ℕ, ◌<◌, ◌≤◌, ◌||◌, ◌++◌, Bool, true, false, List, [], ◌∷◌, All, Option, None, Some, refl, sym, ap, ◌∙◌, arith}
 use Rattle.std.proofs.lemmas.Grind.{common_steps}
-use Rattle.std.proofs.Common.{◌==◌, length, not}
-use Rattle.std.proofs.Common.{append-nil, append_assoc, nat_le}
+use Rattle.std.proofs.Common.{length}
+use Rattle.std.proofs.Common.{append-nil, append_assoc, nat_le, subst}
 use Rattle.std.specs.Prelude.{nat_lt}
 use Rattle.std.proofs.lemmas.Bool.{false≢true}
 use Rattle.std.proofs.lemmas.List.Elements.{All-nil, All-cons, All-head, All-tail, All-weaker, All-append, All-push}
-use Rattle.std.specs.List.{find, list_all}
+use Rattle.std.specs.List.{find, list_all, list_any}
+use Rattle.std.specs.Str.{bytes_eq}
+use Rattle.std.proofs.lemmas.Slice.Eq.{bytes_eq-Decides}
 use Rattle.std.specs.Option.{option_map_or, option_to_list}
 use Rattle.kbart_rows.specs.Cells.{defined}
 use Rattle.table_inspection.specs.Columns.{is_empty_text}
 use Rattle.table_inspection.proofs.Ranges.{not_none}
 use Rattle.text_model.specs.Texts.{Text}
-use Rattle.table_inspection.specs.Identifiers.{finding_of_most, first_of_most}
-use Rattle.table_inspection.specs.Private.Counting.{IsMost, none, some}
+use Rattle.table_inspection.specs.Identifiers.{first_of_most}
+use Rattle.table_inspection.specs.Private.Tallying.{IsMost, none, some}
 
 -- ---- one more text
 
@@ -72,18 +74,6 @@ most_is_first number texts (Some text) (some front _ back is below above) =
     (λ other low. not_all number (number other) front text back low) front below)
     (all_from number (number text) parts all))
 
-pub same_most : (f g : Text → ℕ) (texts : List Text) (most : Option Text) → ((text : Text) → f text ≡ g text) → IsMost f texts most → IsMost g texts most
-same_most f g texts None same (none empty) = none empty
-same_most f g texts (Some text) same (some front _ back is below above) =
-    some front text back is
-    (All-weaker (λ other. f other < f text) (λ other. g other < g text) (λ other low. omega (arith, low, same other, same text)) front below)
-    (All-weaker (λ other. f other ≤ f text) (λ other. g other ≤ g text) (λ other low. omega (arith, low, same other, same text)) back above)
-
-pub finding_is : (f g : Text → ℕ) (texts : List Text) (most : Option Text) → ((text : Text) → f text ≡ g text) → IsMost f texts most → (found : Option Text)
-    → most ≡ found → finding_of_most g (first_of_most g texts) ≡ finding_of_most g found
-finding_is f g texts most same is found found_is =
-    ap (finding_of_most g) (most_is_first g texts most (same_most f g texts most same is) ∙ found_is)
-
 -- ---- an identifier that may be empty
 
 pub empty_is : (text : Text) → is_empty_text text ≡ true → text ≡ []
@@ -95,38 +85,45 @@ defined_is [] is = absurd (false≢true (sym is))
 defined_is (b ∷ text) is = refl
 
 -- one that has more rows, or the first one
-pub most_taken : (number : Text → ℕ) (texts : List Text) (first second : Text) (rows : ℕ) → rows ≡ option_map_or number (defined first) 0
-    → (is_empty_text first || nat_lt rows (number second)) ≡ true → IsMost number texts (defined first) → IsMost number (texts ++ second ∷ []) (Some second)
-most_taken number texts [] second rows rows_is more most = most_of_none number texts (Some second) most
-most_taken number texts (b ∷ first) second rows rows_is more most =
-    let less : nat_lt rows (number second) ≡ true = ap (λ empty. empty || nat_lt rows (number second)) (sym (not_none (length first))) ∙ more in
-    let below : rows < number second = grind arith in
-    most_is_later number texts (b ∷ first) second (omega (arith, rows_is, below)) most
+pub most_taken : (number : Text → ℕ) (texts : List Text) (first second : Text) (old new : ℕ) → old ≡ option_map_or number (defined first) 0
+    → new ≡ number second → (is_empty_text first || nat_lt old new) ≡ true → IsMost number texts (defined first)
+    → IsMost number (texts ++ second ∷ []) (Some second)
+most_taken number texts [] second old new old_is new_is more most = most_of_none number texts (Some second) most
+most_taken number texts (b ∷ first) second old new old_is new_is more most =
+    let less : nat_lt old new ≡ true = ap (λ empty. empty || nat_lt old new) (sym (not_none (length first))) ∙ more in
+    let below : old < new = grind arith in
+    most_is_later number texts (b ∷ first) second (omega (arith, old_is, new_is, below)) most
 
-pub most_kept : (number : Text → ℕ) (texts : List Text) (first second : Text) (rows : ℕ) → rows ≡ option_map_or number (defined first) 0
-    → (is_empty_text first || nat_lt rows (number second)) ≡ false → IsMost number texts (defined first) → IsMost number (texts ++ second ∷ []) (defined first)
-most_kept number texts [] second rows rows_is more most = absurd (false≢true (sym more))
-most_kept number texts (b ∷ first) second rows rows_is more most =
-    let less : nat_lt rows (number second) ≡ false = ap (λ empty. empty || nat_lt rows (number second)) (sym (not_none (length first))) ∙ more in
-    let above : number second ≤ rows = grind arith in
-    most_stays number texts (b ∷ first) second (omega (arith, rows_is, above)) most
+-- one that has not more rows, since a bound of them is not more
+pub most_kept : (number : Text → ℕ) (texts : List Text) (first second : Text) (rows bound : ℕ) → rows ≡ option_map_or number (defined first) 0
+    → number second ≤ bound → (is_empty_text first || nat_lt rows bound) ≡ false → IsMost number texts (defined first)
+    → IsMost number (texts ++ second ∷ []) (defined first)
+most_kept number texts [] second rows bound rows_is few more most = absurd (false≢true (sym more))
+most_kept number texts (b ∷ first) second rows bound rows_is few more most =
+    let less : nat_lt rows bound ≡ false = ap (λ empty. empty || nat_lt rows bound) (sym (not_none (length first))) ∙ more in
+    let above : bound ≤ rows = grind arith in
+    most_stays number texts (b ∷ first) second (omega (arith, rows_is, few, above)) most
 
--- one that no text exceeds stays, whatever follows
-most_settled : (number : Text → ℕ) (texts more : List Text) (text : Text) → ((other : Text) → number other ≤ number text)
-    → IsMost number texts (Some text) → IsMost number (texts ++ more) (Some text)
-most_settled number texts more text largest (some front _ back is below above) =
-    some front text (back ++ more) (ap (λ texts. texts ++ more) is ∙ append_assoc front (text ∷ back) more) below
-    (All-append (λ other. number other ≤ number text) back more above (every more))
+-- one that is among the texts already
+among : (number : Text → ℕ) (n : ℕ) (texts : List Text) (second : Text) → All (λ other. number other ≤ n) texts → list_any (bytes_eq second) texts ≡ true
+    → number second ≤ n
+among number n [] second all known = absurd (false≢true known)
+among number n (text ∷ texts) second all known =
+    by_test (bytes_eq second text) refl (among number n texts second (All-tail (λ other. number other ≤ n) text texts all)) known
   where
-    every : (texts : List Text) → All (λ other. number other ≤ number text) texts
-    every [] = All-nil (λ other. number other ≤ number text)
-    every (other ∷ texts) = All-cons (λ other. number other ≤ number text) other texts (largest other) (every texts)
+    by_test : (b : Bool) → bytes_eq second text ≡ b → (list_any (bytes_eq second) texts ≡ true → number second ≤ n)
+        → (b || list_any (bytes_eq second) texts) ≡ true → number second ≤ n
+    by_test true same later known =
+        let is = ap number ((bytes_eq-Decides second text).0 same) in
+        let low = All-head (λ other. number other ≤ n) text texts all in
+        omega (arith, is, low)
+    by_test false other later known = later known
 
-pub most_has_all : (number : Text → ℕ) (texts more : List Text) (text : Text) (rows largest : ℕ) → (not (is_empty_text text) && rows == largest) ≡ true
-    → rows ≡ option_map_or number (defined text) 0 → ((other : Text) → number other ≤ largest) → IsMost number texts (defined text)
-    → IsMost number (texts ++ more) (defined text)
-most_has_all number texts more [] rows largest has rows_is few most = absurd (false≢true has)
-most_has_all number texts more (b ∷ text) rows largest has rows_is few most =
-    let same : (rows == largest) ≡ true = ap (λ empty. not empty && rows == largest) (sym (not_none (length text))) ∙ has in
-    let all : rows ≡ largest = grind arith in
-    most_settled number texts more (b ∷ text) (λ other. omega (arith, few other, rows_is, all)) most
+pub most_of_known : (number : Text → ℕ) (texts : List Text) (first second : Text) → list_any (bytes_eq second) texts ≡ true
+    → IsMost number texts (defined first) → IsMost number (texts ++ second ∷ []) (defined first)
+most_of_known number texts [] second known (none empty) = absurd (false≢true (ap (list_any (bytes_eq second)) (sym empty) ∙ known))
+most_of_known number texts (b ∷ first) second known (some front text back is below above) =
+    let P : Text → Type 0 = λ other. number other ≤ number text in
+    let all = All-append P front (text ∷ back) (All-weaker (λ other. number other < number text) P (λ other low. omega (arith, low)) front below)
+    (All-cons P text back (omega arith) above) in
+    most_stays number texts text second (among number (number text) texts second (subst (All P) (sym is) all) known) (some front text back is below above)

@@ -5,3 +5,4 @@ pub mod Counting
 pub mod Forms
 pub mod Headers
 pub mod Spelling
+pub mod Tallying

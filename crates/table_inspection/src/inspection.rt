@@ -28,9 +28,9 @@ pub fn inspect(alloc: Global, table: &Table) -> Result<Findings, AllocError>
         text,
         warned: false,
     };
-    add_counts(&mut findings, table, found.counts.len())?;
+    add_counts(&mut findings, table, found.tally.identifiers)?;
     add_columns(alloc, &mut findings, table)?;
-    add_identifiers(alloc, &mut findings, table, &found)?;
+    add_identifiers(&mut findings, table, &found)?;
     add_values(&mut findings, table)?;
     Ok(findings)
 }
@@ -49,7 +49,6 @@ fn add_counts(findings: &mut Findings, table: &Table, identifiers: usize) -> Res
 
 /// Adds the findings in the columns of identifiers.
 fn add_identifiers(
-    alloc: Global,
     findings: &mut Findings,
     table: &Table,
     found: &Identified<'_>,
@@ -61,6 +60,6 @@ fn add_identifiers(
         .unidentified
         .tell(findings, "rows without an identifier", true)?;
     found.bad_numbers.tell(findings, "not an ISSN or ISBN")?;
-    add_most(alloc, findings, table, &found.counts, found.most)?;
+    add_most(findings, &found.tally.most)?;
     Ok(())
 }

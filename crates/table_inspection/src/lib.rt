@@ -15,10 +15,10 @@ mod inspection;
 mod lines;
 mod most_rows;
 mod number;
-mod row_counts;
 mod row_line;
 mod rows;
 mod spelling;
+mod tally;
 mod values;
 
 pub use inspection::inspect;

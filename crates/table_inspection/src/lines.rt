@@ -127,7 +127,7 @@ pub(crate) fn add_most_rows(
     findings: &mut Findings,
     label: &str,
     count: usize,
-    id: &str,
+    id: &[u8],
 ) -> Result<(), AllocError>
     ensures { OnOk result
         (AddsLine findings.old findings.new
@@ -135,7 +135,7 @@ pub(crate) fn add_most_rows(
 {
     let out = &mut findings.text;
     write!(out, "{label} {count}, ")?;
-    push_shortened(out, id.as_bytes())?;
+    push_shortened(out, id)?;
     out.push('\n')?;
     Ok(())
 }

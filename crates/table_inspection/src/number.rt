@@ -1,6 +1,6 @@
 //! Identifiers in normal form, and which of them are ISSNs or ISBNs.
 
-ghost use Rattle.std.specs.Prelude.{◌≡◌, ◌<◌, IfOk, string_bytes};
+ghost use Rattle.std.specs.Prelude.{◌≡◌, ◌<◌, OnOk};
 ghost use Rattle.std.specs.List.{list_all};
 ghost use Rattle.std.specs.Char.{is_ascii_digit};
 ghost use Rattle.std.specs.Option.{option_copied};
@@ -8,28 +8,33 @@ ghost use Rattle.kbart_rows.specs.Identifiers.{normalised as in_normal_form};
 ghost use Rattle.table_inspection.specs.Identifiers as spec;
 ghost use Rattle.table_inspection.specs.Private.Forms.{is_normal_byte as stays, normal_form};
 
-use kbart_rows::normalised;
-use std::alloc::{AllocError, Global};
+use kbart_rows::write_normal;
+use std::alloc::AllocError;
 
-/// The identifier of a cell as it is compared, without hyphens and spaces and in capital letters; it is empty where the
-/// cell is undefined.
-pub(crate) fn normal_form(alloc: Global, cell: Option<&str>) -> Result<String, AllocError>
-    ensures { IfOk result (λ id. string_bytes id ≡ normal_form (option_copied cell.entry)) }
+/// Writes the identifier of a cell as it is compared, without hyphens and spaces and in capital letters, in place of
+/// the bytes in the vector; it is empty where the cell is undefined.
+pub(crate) fn write_form(cell: Option<&str>, id: &mut Vec<u8>) -> Result<(), AllocError>
+    ensures { OnOk result (id.new.items ≡ normal_form (option_copied cell.entry)) }
 {
     match cell {
-        Some(text) => normal_text(alloc, text),
-        None => Ok(String::new(alloc)),
+        Some(text) => write_text(text, id),
+        None => {
+            id.clear();
+            Ok(())
+        }
     }
 }
 
-/// The normal form of a text, which is most often the text itself.
-fn normal_text(alloc: Global, text: &str) -> Result<String, AllocError>
-    ensures { IfOk result (λ id. string_bytes id ≡ in_normal_form text.now) }
+/// Writes the normal form of a text, which is often the text itself.
+fn write_text(text: &str, id: &mut Vec<u8>) -> Result<(), AllocError>
+    ensures { OnOk result (id.new.items ≡ in_normal_form text.now) }
 {
     if is_normal(text) {
-        return String::from_str(alloc, text);
+        id.clear();
+        id.extend_from_slice(text.as_bytes())?;
+        return Ok(());
     }
-    normalised(alloc, text)
+    write_normal(text, id)
 }
 
 /// Whether no byte changes in the normal form.
@@ -47,11 +52,10 @@ fn is_normal_byte(b: u8) -> bool
 
 /// Whether an identifier in normal form is an ISSN or an ISBN, or the one that stands for any title. Check digits are
 /// not computed.
-pub(crate) fn is_number(id: &str) -> bool
+pub(crate) fn is_number(id: &[u8]) -> bool
     ensures { result ≡ spec.is_number id.now }
 {
-    let bytes = id.as_bytes();
-    is_checked(bytes, 7) || is_checked(bytes, 9) || is_long_isbn(bytes) || id == "ANY"
+    is_checked(id, 7) || is_checked(id, 9) || is_long_isbn(id) || id == b"ANY".as_slice()
 }
 
 /// Whether these are that many digits, followed by a digit or `X`.
