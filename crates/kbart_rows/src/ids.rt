@@ -98,11 +98,6 @@ impl Ids {
         Ok(())
     }
 
-    /// Whether the look-ups in tables with these keys need no other hash.
-    pub fn is_keyed(&self, keys: &Keys) -> bool {
-        self.keys.is_same(keys)
-    }
-
     /// The hash of an identifier, counted from 0, under these keys.
     pub(crate) fn hash(&self, at: usize, keys: &Keys) -> Option<u64>
         ensures some { IfSome result (λ hash. hash ≡ hash_of keys.now (get_or self.now at [])) }
