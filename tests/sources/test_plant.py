@@ -459,6 +459,13 @@ class Coverage(Repository):
             "update: 100.0 in 100, at least 97; 1 more are listed as left",
         )
 
+    def test_what_is_left_out(self) -> None:
+        self.write("tests/update/test_times.py", TEST.replace("[True, False]", "[True, True]"))
+        self.write("tools/measuring/tests", "update\n-update.test_times\n")
+        said = self.given("tools/coverage")[1]
+        self.expect_lines("the other", said, "update/openlink_update/numbers.py: 100.0")
+        self.expect("it is not run", "test_times" in said, False)
+
     def test_processes_that_do_not_end_as_others(self) -> None:
         """Lines count that run in a process which ends at once, or before it becomes a program, though it closes all
         files to itself."""

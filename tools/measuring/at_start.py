@@ -82,7 +82,7 @@ class _Popen(subprocess.Popen):  # type: ignore[type-arg]
         super().__init__(*words, preexec_fn=None if preexec_fn is None else _noted(preexec_fn), **more)
 
 
-if os.environ.get("OPENLINK_NO_SITE"):  # as with -S
+if os.environ.pop("OPENLINK_NO_SITE", ""):  # as with -S
     sys.path[:] = [it for it in sys.path if not it.endswith(("dist-packages", "site-packages"))]
 sys.executable = str(Path(__file__).resolve().parent.parent / "bin/python3")
 if coverage.process_startup():
