@@ -19,6 +19,7 @@ from fixtures.cases import Case
 from openlink_update import children
 from openlink_update import run_notes
 from openlink_update import shown_text
+from openlink_update import weekly_run
 from openlink_update.counts.log_files import LogFile
 from openlink_update.fetch.fetch_folder import FetchFolder
 from openlink_update.input_files import InputFolder
@@ -32,12 +33,14 @@ from openlink_update.run_notes import TargetState
 from openlink_update.run_records import Recorder
 from openlink_update.run_records import records_in
 from openlink_update.site import targets_file
+from openlink_update.site.front_door import Site
 from openlink_update.tables.table import Table
 from openlink_update.versions import served
 from openlink_update.versions import target_list
 from openlink_update.versions.judging import Judge
 from openlink_update.versions.library import Library
 from openlink_update.versions.program import Program
+from openlink_update.versions.target_files import TargetFiles
 from openlink_update.versions.target_list import Target
 
 OLD, NEW = "20261122T000000Z", "20261129T000000Z"
@@ -109,6 +112,21 @@ class Lists(FolderCase):
             words, found = list(map(str, paths)), list[int]()
             text = printed_by(lambda: found.append(targets_file.main(words)))
             self.expect(f"{len(paths)} files", (found[0], text), wanted)
+
+    def test_names_for_others(self) -> None:
+        """A week says that the targets.json of its site cannot be read, and one that can be read is not mentioned."""
+        self.write("version/registry.tsv", b"")
+        self.write("good.json", b"{}")
+        maker = mock.Mock(titles=[], prepared_parts=lambda: [])
+        said = "the lists for others name targets without labels: "
+        for name, wanted in (
+            ("none.json", f"{said}{self.folder}/none.json: No such file or directory\n"),
+            ("good.json", ""),
+        ):
+            run = weekly_run.Run.__new__(weekly_run.Run)
+            run.names_file, run._site = mock.Mock(path_in=lambda _: str(self.folder / name)), Site("/nonexistent")
+            text = printed_by(lambda: run._export(maker, self.folder / "version"))
+            self.expect(name, text, wanted)
 
 
 class Notes(Case):
@@ -199,6 +217,16 @@ class Versions(FolderCase):
         self.expect("it is good", tables.put(target, table), [])
         self.expect("a version without it", tables.is_same("press", self.folder / "none"), False)
         self.expect("the same", tables.is_same("press", self.folder))
+
+    def test_tables_that_cannot_be_prepared(self) -> None:
+        """An older version has a table that this release refuses: it has no rows, and its rules are still known."""
+        files = TargetFiles(b"rule\n", (b"\0\n",), False, ("press.txt",))
+        with self.assertRaises(Refused):
+            files.prepared
+        it = files.material
+        found = it.table.columns, it.table.rows, it.dropped, it.reversed, it.count, it.rules, it.proxy, it.unended
+        self.expect("what slips are looked for in", found, ((), [], [], [], 0, b"rule\n", "", ""))
+        self.expect("the table", (files.table_or_empty.columns, files.table_or_empty.rows), ((), []))
 
     def test_files_that_a_command_rejects(self) -> None:
         """They are a reason, and no warning."""
