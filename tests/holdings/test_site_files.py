@@ -16,6 +16,7 @@ from typing import Any
 from fixtures import needs
 from fixtures.cases import Case
 from openlink_update.input_files import InputFolder
+from openlink_update.site import front_door
 from openlink_update.site import names_file
 from openlink_update.site import targets_file
 
@@ -163,3 +164,22 @@ class SiteFiles(Case):
             )
             with open(os.path.join(paths["new"], "targets.json"), "rb") as file:
                 self.expect("the old one", json.load(file), GOOD)
+
+
+class Sites(Case):
+    def test_includes(self) -> None:
+        """What a site includes is part of it, and so is what that includes; a file that is missing has nothing."""
+        with tempfile.TemporaryDirectory() as folder:
+            texts = {
+                "site.conf": "    server 127.0.0.1:8100 max_fails=0;\n    include FOLDER/more.conf;\n",
+                "more.conf": "include FOLDER/none.conf;\n#include FOLDER/off.conf;\ninclude FOLDER/ports.conf ;\n",
+                "ports.conf": "server 127.0.0.1:8101;\nserver_name links.example.org other.example.org;\n",
+                "off.conf": "server 127.0.0.1:8102;\n",
+            }
+            for name, text in texts.items():
+                Path(folder, name).write_text(text.replace("FOLDER", folder), encoding="utf-8")
+            site = front_door.Site(Path(folder, "site.conf"))
+            self.expect(
+                "its ports and its address", (site.ports, site.base), ([8100, 8101], "http://links.example.org")
+            )
+            self.expect("no site", front_door.Site(Path(folder, "none.conf")).ports, [])
