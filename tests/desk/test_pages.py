@@ -180,6 +180,8 @@ class Pages(Case):
             self.expect("overlaps", overlaps[1:], [["one", "two", "1", "50"], ["two", "one", "1", "33"]])
             self.expect("the charts", page.elements.count("figure"), 2)
             cells = [it.strip() for it in page.texts if it.strip()]
+            order = [it for it in cells if it in rows]
+            self.expect("in the chart and the table, the greatest target first", order[:4], ["two", "one"] * 2)
             at = cells.index("2020–2029")
             self.expect(
                 "decades on the page",

@@ -1,6 +1,11 @@
-"""Tests of the source by which the log tells probes from readers."""
+"""Tests of the source by which the log tells probes from readers, and of the command's end."""
 from __future__ import annotations
 
+import os
+import signal
+import subprocess
+
+from fixtures import PYTHON
 from fixtures.cases import Case
 from openlink_update.site import probes
 
@@ -26,3 +31,11 @@ class Probes(Case):
     def test_marks(self) -> None:
         for query, is_marked in CASES:
             self.expect(f"the source of {query}", probes.marked(query), query + MARK if is_marked else query)
+
+    def test_nobody_reads(self) -> None:
+        """It ends as other commands do when it writes to a pipe that nobody reads."""
+        reader, writer = os.pipe()
+        os.close(reader)
+        done = subprocess.run([*PYTHON, "update/probe", "/nonexistent/probes"], stderr=writer, check=False)
+        os.close(writer)
+        self.expect("the signal", done.returncode, -signal.SIGPIPE)
