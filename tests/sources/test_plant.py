@@ -75,6 +75,27 @@ class Other(Case):
                 file.write(f"{os.getpid()}\\n")
         self.expect("one", 1, 1)
 """
+# The first calls what a command does at its start, and the second writes to a pipe that nobody reads.
+PIPES = """\
+import os, signal
+from fixtures.cases import Case
+
+class Pipes(Case):
+    def test_command(self):
+        signal.signal(signal.SIGPIPE, signal.SIG_DFL)
+        self.expect("one", 1, 1)
+""", """\
+import os
+from fixtures.cases import Case
+
+class Pipes(Case):
+    def test_server(self):
+        reader, writer = os.pipe()
+        os.close(reader)
+        with self.assertRaises(BrokenPipeError):
+            os.write(writer, b"a")
+        self.expect("one", 1, 1)
+"""
 # Two processes run a function each: one ends at once, the other closes all files to itself and becomes a program.
 ENDING = """\
 import os, subprocess
@@ -428,6 +449,19 @@ class Modules(Case):
         self.expect("others", {it.suffix or it.name for it in every if str(it) not in found}, DATA)
         tests = seeing.Tests(line_map.LineMap(), 600)
         self.expect("without a test", [it for it in found if not tests.of(Bug(it, "line", 0, 0, ""), "")], [])
+
+
+@needs.command("git")
+class OneProcess(Repository):
+    def test_signals(self) -> None:
+        """What a command has set is not of the next test."""
+        names = ["update.test_command", "update.test_server"]
+        for name, text in zip(names, PIPES):
+            self.write(f"tests/{name.replace('.', '/')}.py", text)
+        passed = self.folder / "passed"
+        status, said = self.given("tools/measuring/one_process.py", str(passed), *names)
+        self.expect(f"the status, with {said}", status, 0)
+        self.expect("what has passed", passed.read_text().split(), names)
 
 
 @needs.command("git")
