@@ -44,7 +44,7 @@ class Metrics(SiteCase):
         site.write_targets({**targets, "folder": site.path("in_use")})
         os.makedirs(site.path("versions/20261120T040000Z"))
         os.symlink("versions/20261120T040000Z", site.path("in_use"))
-        Path(site.path("updated")).write_text("20261127T040102Z\n")
+        Path(site.path("updated")).write_bytes(b"20261127T040102Z\r\n")  # as an editor may leave it
         os.makedirs(site.path("desk/current/state"))
         Path(site.path("desk/current/state/metrics.txt")).write_text(DESK + "\n".join(ODD) + "\n")
         site.keep()
