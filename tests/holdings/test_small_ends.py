@@ -19,7 +19,9 @@ from fixtures.cases import Case
 from openlink_update import children
 from openlink_update import run_notes
 from openlink_update import shown_text
+from openlink_update import update_options
 from openlink_update import weekly_run
+from openlink_update.commands import update
 from openlink_update.counts.log_files import LogFile
 from openlink_update.fetch.fetch_folder import FetchFolder
 from openlink_update.input_files import InputFolder
@@ -127,6 +129,20 @@ class Lists(FolderCase):
             run.names_file, run._site = mock.Mock(path_in=lambda _: str(self.folder / name)), Site("/nonexistent")
             text = printed_by(lambda: run._export(maker, self.folder / "version"))
             self.expect(name, text, wanted)
+
+
+class Libraries(Case):
+    def test_none_named(self) -> None:
+        """An update without names is of the one library alone, which several do not have."""
+        told = "this machine has several libraries: name some, or --all"
+        for name, has_one_alone, names, wanted in (
+            ("one alone", True, [], ""),
+            ("several", False, ["east"], told),
+            ("both", True, ["east"], ""),
+            ("none", False, [], ""),
+        ):
+            libraries = mock.Mock(has_one_alone=lambda: has_one_alone, names=lambda: names)
+            self.expect(name, reason(update._update_several, update_options.parse([]), libraries), wanted)
 
 
 class Notes(Case):

@@ -34,6 +34,8 @@ class Lines(Case):
             ("an empty one", ["# label: ", "# label: B"], Head((("", "B"),))),
             ("line ends of Windows", ["# group: C\r"], Head((), "C")),
             ("after an empty line", ["# words", "", "# group: C"], Head((), "C")),
+            ("after an empty line of Windows", ["# words\r", "\r", "# group: C\r"], Head((), "C")),
+            ("after spaces", ["# words", "  ", "# group: C"], Head((), "C")),
             ("after a rule", ["rule", "# label: A", "link https://e.org/", "# group: C"], Head()),
             ("a group of a language", ["# group de: C"], Head()),
             ("another word", ["# labels: A", "# a label: B", "label: C"], Head()),
