@@ -11,3 +11,4 @@ pub mod PageShapes
 pub mod PageStay
 pub mod LastStay
 pub mod WrittenNumbers
+pub mod AsciiParts

@@ -38,12 +38,12 @@ lasts text = spec.page_words (drop (prefix_len spec.is_no_hyphen text) text)
 
 -- ---- pages
 
-numbered_in : (text word : Text) → IsIn text word → IsIn text (numbered word)
+pub numbered_in : (text word : Text) → IsIn text word → IsIn text (numbered word)
 numbered_in text word is =
     let n = letters word + digits word in
     cond_both (is_suffix (drop n word)) word (take n word) (IsIn text) (λ _. is) (λ _. in_in text word (take n word) is (front_in n word))
 
-page_in : (text word : Text) → IsIn text word → Holds (IsIn text) (page word)
+pub page_in : (text word : Text) → IsIn text word → Holds (IsIn text) (page word)
 unfolding Holds
 page_in text word is =
     cond_both (is_numbered word) (Some (numbered word)) (cond (is_roman_page word) (Some (roman word)) None) (Holds (IsIn text))

@@ -6,7 +6,7 @@ use Rattle.std.specs.Char.{is_ascii_alphabetic}
 use Rattle.std.specs.List.{All, flat_map, list_all}
 use Rattle.std.proofs.lemmas.Bool.{and_parts, or_cases, or_parts, not-true, cond-false}
 use Rattle.std.proofs.lemmas.Bool.Decides.{nat_tests}
-use Rattle.std.proofs.lemmas.List.Elements.{All-nil, All-append, All-weaker}
+use Rattle.std.proofs.lemmas.List.Elements.{All-nil, All-cons, All-append, All-weaker}
 use Rattle.std.proofs.lemmas.List.Sums.{AllPass-from_list_all, list_all-from_AllPass}
 use Rattle.std.proofs.lemmas.List.Splits.{slice_split_at}
 use Rattle.text_model.specs.Texts.{Text}
@@ -14,7 +14,7 @@ use Rattle.article_places.specs.Labels.{is_label, is_issue_word}
 use Rattle.article_places.specs.Words as spec
 use Rattle.article_places.specs.Enumerations as numbers
 use Rattle.article_places.specs.Enumerations.{Numbers}
-use Rattle.article_places.proofs.Found.{Holds, AreOrdered, IsNumberOf, IsMarkOf}
+use Rattle.article_places.proofs.Found.{Holds, holds, AreOrdered, IsNumberOf, IsMarkOf}
 use Rattle.article_places.proofs.Stay.{IsAlone, no_label, all_closed, all_joined, one_part, closed_words, apart_alone, one_word}
 use Rattle.article_places.proofs.Joined.{IsOne}
 use Rattle.article_places.proofs.NumberLaws.{ones}
@@ -70,6 +70,10 @@ words_of_mark [] is = refl
 words_of_mark (b ∷ t) is =
     let read = read_mark b t is in
     ap (flat_map spec.apart) (one_part (b ∷ t) read.bytes) ∙ append-nil (spec.apart (b ∷ t)) ∙ cond-false _ _ _ is.is
+
+pub mark_bytes : (t : Text) → IsMarkOf IsOne t → list_all spec.is_number_byte t ≡ true
+mark_bytes [] is = refl
+mark_bytes (b ∷ t) is = (read_mark b t is).bytes
 
 closed_mark : (t : Text) → IsMarkOf IsOne t → IsClosed t
 closed_mark [] is = All-nil (λ b. spec.is_not_open b ≡ true)
@@ -225,3 +229,43 @@ again (Some n) (Some m) s f i mark ordered =
 pub written_stay : (text : Text) (n : Numbers) → numbers.numbers_in text ≡ Some n → numbers.numbers_in (numbers.written n) ≡ Some n
 written_stay text n e =
     let is = ones text n e in again n.first n.issue n.supplement is.first is.issue is.supplement is.ordered
+
+-- ---- a supplement alone, or after one number
+
+words_of_short : (mark : Text) → IsMarkOf IsOne mark → spec.words_in (numbers.short_supplement mark) ≡ codes "Suppl" ∷ mark_words mark
+unfolding mark_words
+words_of_short [] is = refl
+words_of_short (b ∷ t) is = ap (λ ws. codes "Suppl" ∷ ws) (words_of_mark (b ∷ t) is)
+
+short_closed : (mark : Text) → IsMarkOf IsOne mark → IsClosed (numbers.short_supplement mark)
+short_closed [] is = codes_closed (codes "Suppl") refl
+short_closed (b ∷ t) is = All-append C (codes "Suppl ") (b ∷ t) (codes_closed (codes "Suppl ") refl) (closed_mark (b ∷ t) is)
+
+short_again : (mark : Text) → IsMarkOf IsOne mark
+    → numbers.numbers_in (numbers.short_supplement mark) ≡ Some (record { first = None; issue = None; supplement = Some mark })
+unfolding Holds supplement_words
+short_again mark is =
+    ap (λ ws. numbers.from_first (numbers.after_label ws)) (closed_words (numbers.short_supplement mark) (short_closed mark is) ∙ words_of_short mark is)
+    ∙ none_again (Some mark) is
+
+after_number : (n mark : Text) → IsNumberOf IsOne n → IsMarkOf IsOne mark
+    → numbers.numbers_in (n ++ 0x20 ∷ numbers.short_supplement mark) ≡ Some (record { first = Some n; issue = None; supplement = Some mark })
+unfolding Holds supplement_words
+after_number n mark f is =
+    let alone : IsAlone n = record { number = f.number; one = f.is } in
+    let rest = 0x20 ∷ numbers.short_supplement mark in
+    let closed = All-append C n rest (number_closed n f) (All-cons C 0x20 (numbers.short_supplement mark) refl (short_closed mark is)) in
+    ap (λ ws. numbers.from_first (numbers.after_label ws))
+    (closed_words (n ++ rest) closed ∙ number_then n (numbers.short_supplement mark) alone ∙ ap (λ ws. n ∷ ws) (words_of_short mark is))
+    ∙ number_first n (supplement_words (Some mark)) alone ∙ ap (numbers.after_first n) (same_after_year (Some mark)) ∙ one_again n (Some mark) is
+
+pub supplement_stays : (text mark : Text) (n : Numbers) → numbers.numbers_in text ≡ Some n → n.supplement ≡ Some mark
+    → numbers.numbers_in (numbers.short_supplement mark) ≡ Some (record { first = None; issue = None; supplement = Some mark })
+supplement_stays text mark n e f = short_again mark (holds (IsMarkOf IsOne) n.supplement mark (ones text n e).supplement f)
+
+pub supplement_stays_after : (text mark number : Text) (n : Numbers) → numbers.numbers_in text ≡ Some n → n.supplement ≡ Some mark
+    → numbers.numbers_in number ≡ Some (numbers.alone number)
+    → numbers.numbers_in (number ++ 0x20 ∷ numbers.short_supplement mark) ≡ Some (record { first = Some number; issue = None; supplement = Some mark })
+supplement_stays_after text mark number n e f one =
+    after_number number mark (holds (IsNumberOf IsOne) (Some number) number (ones number (numbers.alone number) one).first refl)
+    (holds (IsMarkOf IsOne) n.supplement mark (ones text n e).supplement f)

@@ -113,3 +113,8 @@ written_supplement (Some mark) = codes " Suppl " ++ mark
 -- `53 no. 2 Suppl 1`
 abbrev pub written : Numbers → Text
 written n = unwrap_or n.first [] ++ (written_issue n.issue ++ written_supplement n.supplement)
+
+-- a supplement as PubMed writes it, such as `Suppl 1`
+abbrev pub short_supplement : Text → Text
+short_supplement [] = codes "Suppl"
+short_supplement (b ∷ mark) = codes "Suppl " ++ b ∷ mark

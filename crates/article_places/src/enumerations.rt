@@ -1,8 +1,9 @@
 //! The numbers of a volume and of an issue in a text.
 
-ghost use Rattle.std.specs.Prelude.{◌≡◌, ◌≤◌, IfOk, length};
+ghost use Rattle.std.specs.Prelude.{◌≡◌, ◌≤◌, IfOk, IfSome, length};
 ghost use Rattle.std.specs.List.{list_all, prefix_len};
 ghost use Rattle.std.specs.Option.{option_copied, option_map};
+ghost use Rattle.std.specs.Str.{IsAscii};
 ghost use Rattle.text_model.specs.Texts.{texts_of};
 ghost use Rattle.article_places.specs.Enumerations as spec;
 
@@ -25,6 +26,17 @@ pub struct Enumeration<'a> {
 ///
 /// The text may have any bytes. `AllocError` if an allocation failed.
 pub fn enumeration_in(alloc: Global, text: &[u8]) -> Result<Option<Enumeration<'_>>, AllocError>
+    ensures value { IfOk result (λ found. option_map spec.numbers found ≡ spec.numbers_in text.now) }
+    ensures first_ascii { IfOk result (λ found. IfSome found (λ e. IfSome e.first (λ number. IsAscii number.now))) }
+    ensures issue_ascii { IfOk result (λ found. IfSome found (λ e. IfSome e.issue (λ number. IsAscii number.now))) }
+    ensures supplement_ascii { IfOk result (λ found. IfSome found (λ e.
+        IfSome e.supplement (λ mark. IsAscii mark.now))) }
+{
+    let found = found_numbers(alloc, text)?;
+    Ok(found)
+}
+
+fn found_numbers(alloc: Global, text: &[u8]) -> Result<Option<Enumeration<'_>>, AllocError>
     ensures { IfOk result (λ found. option_map spec.numbers found ≡ spec.numbers_in text.now) }
 {
     let words = words(alloc, text)?;

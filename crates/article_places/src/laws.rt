@@ -1,10 +1,10 @@
 //! What follows from the definitions. These functions have empty bodies; each contract is a theorem.
 
-ghost use Rattle.std.specs.Prelude.{◌≡◌, ◌≢◌, ◌+◌, ◌≤◌, [], length, Some, true};
+ghost use Rattle.std.specs.Prelude.{◌≡◌, ◌≢◌, ◌+◌, ◌++◌, ◌≤◌, [], ◌∷◌, length, None, Some, true};
 ghost use Rattle.std.specs.Char.{is_ascii_digit};
 ghost use Rattle.std.specs.List.{list_all};
 ghost use Rattle.text_model.specs.Texts.{Text};
-ghost use Rattle.article_places.specs.Enumerations.{Numbers, alone, numbers_in, written};
+ghost use Rattle.article_places.specs.Enumerations.{Numbers, alone, numbers_in, short_supplement, written};
 ghost use Rattle.article_places.specs.Pages.{Range, only, pages_in};
 ghost use Rattle.article_places.specs.Parts.{IsFromFirst, IsPartOf};
 
@@ -31,6 +31,16 @@ pub fn numbers_stay()
 /// The numbers in a text are those of the text that they make, such as `53 no. 2 Suppl 1`.
 pub fn written_numbers_stay()
     ensures { (text : Text) (n : Numbers) → numbers_in text ≡ Some n → numbers_in (written n) ≡ Some n }
+{}
+
+/// A supplement that was found is found again as PubMed writes it, such as `Suppl 1`, alone or after a number.
+pub fn supplements_stay()
+    ensures alone { (text mark : Text) (n : Numbers) → numbers_in text ≡ Some n → n.supplement ≡ Some mark
+        → numbers_in (short_supplement mark) ≡ Some record { first = None; issue = None; supplement = Some mark } }
+    ensures after_number { (text mark number : Text) (n : Numbers) → numbers_in text ≡ Some n → n.supplement ≡ Some mark
+        → numbers_in number ≡ Some (alone number)
+        → numbers_in (number ++ 0x20 ∷ short_supplement mark)
+        ≡ Some record { first = Some number; issue = None; supplement = Some mark } }
 {}
 
 /// A first page that is found is a part of the text. So is a last page, but for the letters and digits with which the

@@ -1,8 +1,9 @@
 //! The first and the last page in a text.
 
-ghost use Rattle.std.specs.Prelude.{◌≡◌, ◌≤◌, ◌++◌, length, IfOk, OnOk};
+ghost use Rattle.std.specs.Prelude.{◌≡◌, ◌≤◌, ◌++◌, length, IfOk, IfSome, OnOk};
 ghost use Rattle.std.specs.List.{prefix_len, slice_split};
 ghost use Rattle.std.specs.Option.{option_copied, option_map};
+ghost use Rattle.std.specs.Str.{IsAscii};
 ghost use Rattle.text_model.specs.Texts.{texts_of};
 ghost use Rattle.article_places.specs.PageForms.{is_stop};
 ghost use Rattle.article_places.specs.Pages as spec;
@@ -31,10 +32,20 @@ pub struct LastPage<'a> {
     pub written: &'a [u8],
 }
 
-/// The pages in a text; `None` if it has none. The clause is about the last page as a whole.
+/// The pages in a text; `None` if it has none. The clauses are about the last page as a whole.
 ///
 /// The text may have any bytes. `AllocError` if an allocation failed.
 pub fn pages_in(alloc: Global, text: &[u8]) -> Result<Option<Pages<'_>>, AllocError>
+    ensures value { IfOk result (λ found. option_map spec.range found ≡ spec.pages_in text.now) }
+    ensures first_ascii { IfOk result (λ found. IfSome found (λ pages. IsAscii pages.first.now)) }
+    ensures last_ascii { IfOk result (λ found. IfSome found (λ pages.
+        IfSome pages.last (λ last. IsAscii (spec.in_full last)))) }
+{
+    let found = found_pages(alloc, text)?;
+    Ok(found)
+}
+
+fn found_pages(alloc: Global, text: &[u8]) -> Result<Option<Pages<'_>>, AllocError>
     ensures { IfOk result (λ found. option_map spec.range found ≡ spec.pages_in text.now) }
 {
     let (before, after) = text.split_at(before_hyphen(text));

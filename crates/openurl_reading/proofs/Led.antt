@@ -13,7 +13,7 @@ use Rattle.openurl_reading.proofs.Values.{values_after}
 abbrev pub IsFoundAgain : (List Text → Option Text) → List Text → Type 0
 IsFoundAgain find values = (n : Text) → find values ≡ Some n → (find (n ∷ values) ≡ Some n) ⊎ (find (n ∷ values) ≡ None)
 
-led_again : (found : Option Text) (n : Text) → (found ≡ Some n) ⊎ (found ≡ None) → led found (Some n) ≡ unchanged
+pub led_again : (found : Option Text) (n : Text) → (found ≡ Some n) ⊎ (found ≡ None) → led found (Some n) ≡ unchanged
 led_again found n (inl e) = ap (λ o. led o (Some n)) e ∙ led-same (Some n)
 led_again found n (inr e) = ap (λ o. led o (Some n)) e
 

@@ -21,6 +21,9 @@ pub mod Named
 pub mod NothingInvented
 pub mod Origins
 pub mod Others
+pub mod PagesFound
+pub mod PagesLed
+pub mod PagesStay
 pub mod ReadOnce
 pub mod Sent
 pub mod Settled

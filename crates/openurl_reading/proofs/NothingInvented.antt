@@ -3,6 +3,8 @@ use Rattle.std.proofs.Common.{◌≡◌, List, [], ◌∷◌, map, take, Bool, t
 use Rattle.std.specs.Prelude.{codes, Contains}
 use Rattle.std.specs.List.{All, list_all}
 use Rattle.std.specs.Str.{bytes_eq}
+use Rattle.std.proofs.lemmas.Bool.{not-true}
+use Rattle.std.proofs.lemmas.List.Sums.{AllPass-from_list_all}
 use Rattle.std.proofs.lemmas.List.Elements.{All-append, All-take, All-map}
 use Rattle.text_model.specs.Texts.{Text}
 use Rattle.kev_read.specs.Pairs.{KeyValue, all_of, first_of}
@@ -18,6 +20,7 @@ use Rattle.openurl_reading.specs.Dates.{date_keys, first_date, led_or_none, date
 use Rattle.work_identifiers.specs.declared.namespace.Namespace.{Namespace}
 use Rattle.work_identifiers.specs.declared.namespace.Namespace.TheVariants.{Doi, Pmid, Oclc}
 use Rattle.openurl_reading.specs.Identifiers.{first_under, first_identifier, naming, namings}
+use Rattle.openurl_reading.specs.Pages.{first_page, last_page, first_page_step, last_page_step, page_steps}
 use Rattle.openurl_reading.specs.Reading.{normal_form, issns_of, derived, with_derived}
 use Rattle.openurl_reading.specs.Origins.{HasOrigin, from_request, version_of_openurl, source_in, all_values}
 use Rattle.openurl_reading.proofs.Additions.{derived_values}
@@ -28,7 +31,7 @@ use Rattle.openurl_reading.proofs.IdentifierOrigins.{AreRead, identifiers_under,
 use Rattle.openurl_reading.proofs.KeysSettle.{same_after}
 use Rattle.openurl_reading.proofs.Origins.{number_keys, no_number}
 use Rattle.openurl_reading.proofs.Origins.{GivesIssns, GivesIsbns, sent_gives_issns, sent_gives_isbns, issn_has, eissn_has, isbn_has}
-use Rattle.openurl_reading.proofs.Origins.{issns_have, second_has, dates_have, led_gives_issns, led_gives_isbns}
+use Rattle.openurl_reading.proofs.Origins.{page_keys, first_page_has, last_page_has, issns_have, second_has, dates_have, led_gives_issns, led_gives_isbns}
 use Rattle.openurl_reading.proofs.Sent.{IsNoVersion, IsSent, counting_values, sent_under, copied_sent}
 use Rattle.openurl_reading.proofs.Stages.{last_steps, with_versions, normal_form-is}
 use Rattle.openurl_reading.proofs.Values.{all_of-taken, all_of-taken-own}
@@ -181,6 +184,38 @@ date_reads sent pairs found reads =
     other_reads sent date_step pairs (no_number (codes "rft.date") refl)
     (date_values sent (first_date date_keys pairs) (first_of pairs (codes "rft.date")) found) reads
 
+-- ---- pages
+
+-- the values of pages, before the steps of pages
+pages_under : (sent : List Text) (copied : List KeyValue) → All (IsSent sent) copied
+    → let pairs = after (referrer_step ∷ issn_step ∷ eissn_step ∷ isbn_step ∷ date_step ∷ []) copied in
+    All (λ key. All (Contains sent) (all_of pairs key)) page_keys
+pages_under sent copied is =
+    let steps = referrer_step ∷ issn_step ∷ eissn_step ∷ isbn_step ∷ date_step ∷ [] in
+    λ k d h. let key = get_or page_keys k d in
+    subst (All (Contains sent)) (sym (same_after steps copied key (AllPass-from_list_all (λ key. list_all (λ step. not (bytes_eq step.key key)) steps)
+    page_keys refl k d h)))
+    (sent_under sent copied key (
+      not-true _ (AllPass-from_list_all (λ key. not (bytes_eq key (codes "ctx_ver"))) page_keys refl k d h),
+      not-true _ (AllPass-from_list_all (λ key. not (bytes_eq key (codes "url_ver"))) page_keys refl k d h),
+    ) is)
+
+pages_read : (sent : List Text) (pairs : List KeyValue) → All (λ key. All (Contains sent) (all_of pairs key)) page_keys → Reads sent pairs
+    → Reads sent (after page_steps pairs)
+pages_read sent pairs all reads =
+    let next = taken pairs last_page_step in
+    let firsts = all 0 [] (lit< tt) in
+    let lasts = all 1 [] (lit< tt) in
+    let pages = all 2 [] (lit< tt) in
+    let firsts' = subst (All (Contains sent)) (sym (all_of-taken last_page_step pairs (codes "rft.spage") refl)) firsts in
+    let pages' = subst (All (Contains sent)) (sym (all_of-taken last_page_step pairs (codes "rft.pages") refl)) pages in
+    other_reads sent first_page_step next (no_number (codes "rft.spage") refl)
+    (each_led (HasOrigin sent) (first_page next) (first_of next (codes "rft.spage"))
+    (first_page_has sent (all_of next (codes "rft.spage")) (all_of next (codes "rft.pages")) firsts' pages'))
+    (other_reads sent last_page_step pairs (no_number (codes "rft.epage") refl)
+    (each_led (HasOrigin sent) (last_page pairs) (first_of pairs (codes "rft.epage"))
+    (last_page_has sent (all_of pairs (codes "rft.spage")) (all_of pairs (codes "rft.epage")) firsts lasts)) reads)
+
 -- ---- identifiers
 
 naming_reads : (sent : List Text) (namespace : Namespace) (pairs : List KeyValue) → AreRead sent pairs → Reads sent pairs
@@ -209,8 +244,9 @@ last_reads : AreFoundAgain → AreIdentified → (sent : List Text) (copied : Li
     → ReadAll sent (after last_steps copied)
 last_reads laws identified sent copied is all =
     namings_read identified sent _ record {
-      numbers = date_reads sent _ (dates_under sent copied is)
-          (isbn_reads laws sent _ (eissn_reads laws sent _ (issn_reads laws sent _ (referrer_reads sent copied is all))));
+      numbers = pages_read sent _ (pages_under sent copied is)
+          (date_reads sent _ (dates_under sent copied is)
+          (isbn_reads laws sent _ (eissn_reads laws sent _ (issn_reads laws sent _ (referrer_reads sent copied is all)))));
       identifiers = identifiers_under sent copied is;
     }
 

@@ -12,10 +12,12 @@ use Rattle.standard_numbers.specs.Issn.{issns_in}
 use Rattle.standard_numbers.specs.Isbn.{isbns_in}
 use Rattle.openurl_reading.specs.Values.{most_values, searched, led}
 use Rattle.openurl_reading.specs.Numbers.{eissn_among, other_than}
-use Rattle.openurl_reading.specs.Origins.{HasOrigin, issn_in, isbn_in, date_of}
+use Rattle.openurl_reading.specs.Origins.{HasOrigin, issn_in, isbn_in, date_of, page_in, last_page_in}
+use Rattle.openurl_reading.specs.Pages.{first_in, last_in, last_among}
 use Rattle.openurl_reading.proofs.DateLed.{date_of_first}
 use Rattle.openurl_reading.proofs.Each.{none_has, one_has, each_after, each_found}
 use Rattle.openurl_reading.proofs.FoundAgain.{IsIssnAgain, IsIsbnAgain, first_has, other_has, issn_among, further_among, isbn_among}
+use Rattle.openurl_reading.proofs.PagesLed.{page_of, first_among}
 use Rattle.openurl_reading.proofs.Values.{values_after}
 
 -- ---- the keys of numbers
@@ -103,6 +105,28 @@ pub dates_have : (sent dates years old old_years : List Text) → All (Contains 
 dates_have sent dates years old old_years a b c d =
     or_has sent _ _ (date_has sent dates a)
     (or_has sent _ _ (date_has sent years b) (or_has sent _ _ (date_has sent old c) (or_has sent _ _ (date_has sent old_years d) (none_found sent))))
+
+-- ---- pages
+
+abbrev pub page_keys : List Text
+page_keys = codes "rft.spage" ∷ codes "rft.epage" ∷ codes "rft.pages" ∷ []
+
+first_of_has : (sent values : List Text) → All (Contains sent) values → Has sent (page_of first_in values)
+first_of_has sent [] all n e = none_found sent n e
+first_of_has sent (v ∷ vs) all n e = page_in v n (all 0 v (omega arith)) e
+
+last_of_has : (sent values : List Text) → All (Contains sent) values → Has sent (page_of last_in values)
+last_of_has sent [] all n e = none_found sent n e
+last_of_has sent (v ∷ vs) all n e = last_page_in v n (all 0 v (omega arith)) e
+
+pub first_page_has : (sent firsts pages : List Text) → All (Contains sent) firsts → All (Contains sent) pages → Has sent (first_among pages firsts)
+first_page_has sent firsts pages a b = or_has sent _ _ (first_of_has sent firsts a) (first_of_has sent pages b)
+
+pub last_page_has : (sent firsts values : List Text) → All (Contains sent) firsts → All (Contains sent) values
+    → Has sent (last_among values (page_of last_in firsts))
+last_page_has sent firsts [] a b = last_of_has sent firsts a
+last_page_has sent firsts (v ∷ vs) a b =
+    let known = b 0 v (omega arith) in or_has sent (last_in v) (first_in v) (λ n e. last_page_in v n known e) (λ n e. page_in v n known e)
 
 -- ---- values after a number leads them
 

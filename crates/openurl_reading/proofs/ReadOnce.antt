@@ -12,6 +12,7 @@ use Rattle.openurl_reading.specs.Referrers.{referrer_of, referrer_step, referred
 use Rattle.openurl_reading.specs.Numbers.{first_issn, first_eissn, first_isbn, eissn_among, issn_step, eissn_step, isbn_step}
 use Rattle.openurl_reading.specs.Dates.{date_keys, first_date, led_or_none, date_step}
 use Rattle.openurl_reading.specs.Identifiers.{namings}
+use Rattle.openurl_reading.specs.Pages.{last_in, last_among, first_page, last_page, first_page_step, last_page_step, page_steps}
 use Rattle.openurl_reading.specs.Reading.{normal_form}
 use Rattle.openurl_reading.proofs.DateLed.{rest_of, IsSettledAmong, date_settles, found_again}
 use Rattle.openurl_reading.proofs.Filled.{KeepsKey, filled_unchanged, fill-fills, all_keep_filled}
@@ -20,71 +21,105 @@ use Rattle.openurl_reading.proofs.Identified.{AreIdentified}
 use Rattle.openurl_reading.proofs.KeysSettle.{apart, same_after, version_settles, first_referrer, referral, last_keep, copies_settle}
 use Rattle.openurl_reading.proofs.Led.{led_settles}
 use Rattle.openurl_reading.proofs.Named.{works_named}
+use Rattle.openurl_reading.proofs.PagesLed.{ArePagesAgain, page_of, first_among, first_again, same_leading, last_settles}
 use Rattle.openurl_reading.proofs.Settled.{IsSettled, IsDateSettled, settled_stays}
-use Rattle.openurl_reading.proofs.Stages.{last_steps, with_versions, normal_form-is}
-use Rattle.openurl_reading.proofs.Values.{all_of-taken, all_of-taken-own}
+use Rattle.openurl_reading.proofs.Stages.{after_dates, last_steps, with_versions, normal_form-is}
+use Rattle.openurl_reading.proofs.Values.{values_after, all_of-taken, all_of-taken-own}
 
 referrer_settles : (before : List KeyValue) → referred (after last_steps before) ≡ unchanged
 referrer_settles before =
     let f : List Text → List Text = λ sids. map referrer_of (take 1 sids) in
-    let rest = issn_step ∷ eissn_step ∷ isbn_step ∷ date_step ∷ namings in
+    let rest = issn_step ∷ eissn_step ∷ isbn_step ∷ date_step ∷ after_dates in
     filled_unchanged f referral (after last_steps before) refl
     (all_keep_filled referral rest (taken before referrer_step) (apart rest (codes "sid") refl)
     (All-tail (KeepsKey (codes "rfr_id")) referrer_step rest (last_keep (codes "rfr_id") refl)) (fill-fills f referral before first_referrer refl))
 
-issn_settles : AreFoundAgain → (before : List KeyValue) → let now = after (issn_step ∷ eissn_step ∷ isbn_step ∷ date_step ∷ namings) before in
+issn_settles : AreFoundAgain → (before : List KeyValue) → let now = after (issn_step ∷ eissn_step ∷ isbn_step ∷ date_step ∷ after_dates) before in
     led (first_issn now) (first_of now (codes "rft.issn")) ≡ unchanged
 issn_settles laws before =
     let key = codes "rft.issn" in
     let values = all_of before key in
     subst (λ vs. led (issn_among vs) (slice_get vs 0) ≡ unchanged)
-    (sym (same_after (eissn_step ∷ isbn_step ∷ date_step ∷ namings) (taken before issn_step) key refl ∙ all_of-taken-own issn_step before))
+    (sym (same_after (eissn_step ∷ isbn_step ∷ date_step ∷ after_dates) (taken before issn_step) key refl ∙ all_of-taken-own issn_step before))
     (led_settles issn_among values (issn_again laws values))
 
-eissn_settles : AreFoundAgain → (before : List KeyValue) → let now = after (eissn_step ∷ isbn_step ∷ date_step ∷ namings) before in
+eissn_settles : AreFoundAgain → (before : List KeyValue) → let now = after (eissn_step ∷ isbn_step ∷ date_step ∷ after_dates) before in
     led (first_eissn now) (first_of now (codes "rft.eissn")) ≡ unchanged
 eissn_settles laws before =
     let key = codes "rft.eissn" in
     let values = all_of before key in
     let issns = all_of before (codes "rft.issn") in
-    let now = after (eissn_step ∷ isbn_step ∷ date_step ∷ namings) before in
+    let now = after (eissn_step ∷ isbn_step ∷ date_step ∷ after_dates) before in
     subst (λ others. led (eissn_among (all_of now key) (further_among others)) (slice_get (all_of now key) 0) ≡ unchanged)
-    (sym (same_after (eissn_step ∷ isbn_step ∷ date_step ∷ namings) before (codes "rft.issn") refl))
+    (sym (same_after (eissn_step ∷ isbn_step ∷ date_step ∷ after_dates) before (codes "rft.issn") refl))
     (subst (λ vs. led (eissn_among vs (further_among issns)) (slice_get vs 0) ≡ unchanged)
-    (sym (same_after (isbn_step ∷ date_step ∷ namings) (taken before eissn_step) key refl ∙ all_of-taken-own eissn_step before))
+    (sym (same_after (isbn_step ∷ date_step ∷ after_dates) (taken before eissn_step) key refl ∙ all_of-taken-own eissn_step before))
     (led_settles (λ vs. eissn_among vs (further_among issns)) values (eissn_again laws issns values)))
 
-isbn_settles : AreFoundAgain → (before : List KeyValue) → let now = after (isbn_step ∷ date_step ∷ namings) before in
+isbn_settles : AreFoundAgain → (before : List KeyValue) → let now = after (isbn_step ∷ date_step ∷ after_dates) before in
     led (first_isbn now) (first_of now (codes "rft.isbn")) ≡ unchanged
 isbn_settles laws before =
     let key = codes "rft.isbn" in
     let values = all_of before key in
     let others = all_of before (codes "rft.eisbn") in
-    let now = after (isbn_step ∷ date_step ∷ namings) before in
+    let now = after (isbn_step ∷ date_step ∷ after_dates) before in
     subst (λ others'. led (isbn_among others' (all_of now key)) (slice_get (all_of now key) 0) ≡ unchanged)
-    (sym (same_after (isbn_step ∷ date_step ∷ namings) before (codes "rft.eisbn") refl))
+    (sym (same_after (isbn_step ∷ date_step ∷ after_dates) before (codes "rft.eisbn") refl))
     (subst (λ vs. led (isbn_among others vs) (slice_get vs 0) ≡ unchanged)
-    (sym (same_after (date_step ∷ namings) (taken before isbn_step) key refl ∙ all_of-taken-own isbn_step before))
+    (sym (same_after (date_step ∷ after_dates) (taken before isbn_step) key refl ∙ all_of-taken-own isbn_step before))
     (led_settles (isbn_among others) values (isbn_again laws others values)))
 
 same_rest : (y y' d d' o o' : List Text) → y ≡ y' → d ≡ d' → o ≡ o' → rest_of y d o ≡ rest_of y' d' o'
 same_rest y y' d d' o o' a b c = rw (a, b, c) refl
 
-date_is_settled : AreFoundAgain → (before : List KeyValue) → let now = after (date_step ∷ namings) before in
+date_is_settled : AreFoundAgain → (before : List KeyValue) → let now = after (date_step ∷ after_dates) before in
     IsDateSettled (led_or_none (first_date date_keys now) (first_of now (codes "rft.date"))) (all_of now (codes "rft.date"))
 date_is_settled laws before =
-    let steps = date_step ∷ namings in
+    let steps = date_step ∷ after_dates in
     let now = after steps before in
     let values = all_of before (codes "rft.date") in
     let rest = rest_of (all_of before (codes "rft.year")) (all_of before (codes "date")) (all_of before (codes "year")) in
     let same = same_rest _ _ _ _ _ _ (same_after steps before (codes "rft.year") refl)
     (same_after steps before (codes "date") refl) (same_after steps before (codes "year") refl) in
     subst (λ rest'. IsSettledAmong rest' (all_of now (codes "rft.date"))) (sym same)
-    (subst (IsSettledAmong rest) (sym (same_after namings (taken before date_step) (codes "rft.date") refl ∙ all_of-taken-own date_step before))
+    (subst (IsSettledAmong rest) (sym (same_after after_dates (taken before date_step) (codes "rft.date") refl ∙ all_of-taken-own date_step before))
     (date_settles rest values (found_again (λ value d h. laws.dates (searched value) d h) before)))
 
-settled_stages : AreFoundAgain → AreIdentified → (pairs : List KeyValue) → IsSettled (after last_steps (after copies (with_versions pairs)))
-settled_stages laws identified pairs =
+-- the last page, which does not depend on the first one any more
+last_page_settles : ArePagesAgain → (before : List KeyValue) → let now = after after_dates before in
+    led (last_page now) (first_of now (codes "rft.epage")) ≡ unchanged
+last_page_settles again before =
+    let values = all_of before (codes "rft.epage") in
+    let pages = all_of before (codes "rft.pages") in
+    let firsts = all_of before (codes "rft.spage") in
+    let next = taken before last_page_step in
+    let now = after after_dates before in
+    let own : all_of now (codes "rft.epage") ≡ values_after (led (last_among values (page_of last_in firsts)) (slice_get values 0)) values =
+    same_after (first_page_step ∷ namings) next (codes "rft.epage") refl ∙ all_of-taken-own last_page_step before in
+    let others : all_of now (codes "rft.spage") ≡ values_after (led (first_among pages firsts) (slice_get firsts 0)) firsts =
+    same_after namings (taken next first_page_step) (codes "rft.spage") refl ∙ all_of-taken-own first_page_step next
+    ∙ same_leading pages firsts (all_of next (codes "rft.pages")) (all_of next (codes "rft.spage"))
+    (all_of-taken last_page_step before (codes "rft.pages") refl) (all_of-taken last_page_step before (codes "rft.spage") refl) in
+    subst (λ vs. led (last_among vs (page_of last_in (all_of now (codes "rft.spage")))) (slice_get vs 0) ≡ unchanged) (sym own)
+    (subst (λ vs. let led_values = values_after (led (last_among values (page_of last_in firsts)) (slice_get values 0)) values in
+    led (last_among led_values (page_of last_in vs)) (slice_get led_values 0) ≡ unchanged) (sym others)
+    (last_settles again pages firsts values))
+
+first_page_settles : ArePagesAgain → (before : List KeyValue) → let now = after (first_page_step ∷ namings) before in
+    led (first_page now) (first_of now (codes "rft.spage")) ≡ unchanged
+first_page_settles again before =
+    let key = codes "rft.spage" in
+    let values = all_of before key in
+    let pages = all_of before (codes "rft.pages") in
+    let now = after (first_page_step ∷ namings) before in
+    subst (λ pages'. led (first_among pages' (all_of now key)) (slice_get (all_of now key) 0) ≡ unchanged)
+    (sym (same_after (first_page_step ∷ namings) before (codes "rft.pages") refl))
+    (subst (λ vs. led (first_among pages vs) (slice_get vs 0) ≡ unchanged)
+    (sym (same_after namings (taken before first_page_step) key refl ∙ all_of-taken-own first_page_step before))
+    (led_settles (first_among pages) values (first_again again pages values)))
+
+settled_stages : AreFoundAgain → ArePagesAgain → AreIdentified → (pairs : List KeyValue) → IsSettled (after last_steps (after copies (with_versions pairs)))
+settled_stages laws pages identified pairs =
     let first = taken pairs (correction (codes "ctx_ver")) in
     let second = with_versions pairs in
     let copied_all = after copies second in
@@ -92,6 +127,7 @@ settled_stages laws identified pairs =
     let issns = taken named issn_step in
     let eissns = taken issns eissn_step in
     let isbns = taken eissns isbn_step in
+    let dates = taken isbns date_step in
     record {
       context = version_settles (codes "ctx_ver") pairs (after last_steps copied_all)
           (same_after last_steps copied_all (codes "ctx_ver") refl ∙ same_after copies second (codes "ctx_ver") refl
@@ -104,9 +140,11 @@ settled_stages laws identified pairs =
       eissn = eissn_settles laws issns;
       isbn = isbn_settles laws eissns;
       date = date_is_settled laws isbns;
-      works = works_named identified (taken isbns date_step);
+      last_page = last_page_settles pages dates;
+      first_page = first_page_settles pages (taken dates last_page_step);
+      works = works_named identified (after page_steps dates);
     }
 
-pub read_once : AreFoundAgain → AreIdentified → (pairs : List KeyValue) → normal_form (normal_form pairs) ≡ normal_form pairs
-read_once laws identified pairs =
-    settled_stays (normal_form pairs) (subst IsSettled (sym (normal_form-is pairs)) (settled_stages laws identified pairs))
+pub read_once : AreFoundAgain → ArePagesAgain → AreIdentified → (pairs : List KeyValue) → normal_form (normal_form pairs) ≡ normal_form pairs
+read_once laws pages identified pairs =
+    settled_stays (normal_form pairs) (subst IsSettled (sym (normal_form-is pairs)) (settled_stages laws pages identified pairs))

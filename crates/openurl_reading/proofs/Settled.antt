@@ -16,10 +16,11 @@ use Rattle.openurl_reading.specs.Dates.{date_keys, first_date, led_or_none, date
 use Rattle.work_identifiers.specs.declared.namespace.Namespace.{Namespace}
 use Rattle.work_identifiers.specs.declared.namespace.Namespace.TheVariants.{Doi, Pmid, Oclc}
 use Rattle.openurl_reading.specs.Identifiers.{first_identifier, named, naming, namings}
+use Rattle.openurl_reading.specs.Pages.{first_page, last_page, first_page_step, last_page_step, page_steps}
 use Rattle.openurl_reading.specs.Reading.{normal_form}
 use Rattle.openurl_reading.proofs.Firsts.{not_first}
 use Rattle.openurl_reading.proofs.Others.{bytes_eq-same}
-use Rattle.openurl_reading.proofs.Stages.{last_steps, with_versions, normal_form-is}
+use Rattle.openurl_reading.proofs.Stages.{after_dates, last_steps, with_versions, normal_form-is}
 
 -- the change of the date leaves all values
 abbrev pub IsDateSettled : Change → List Text → Type 0
@@ -38,6 +39,8 @@ pub record IsSettled (pairs : List KeyValue) : Type 0 where
   pub eissn : led (first_eissn pairs) (first_of pairs (codes "rft.eissn")) ≡ unchanged
   pub isbn : led (first_isbn pairs) (first_of pairs (codes "rft.isbn")) ≡ unchanged
   pub date : IsDateSettled (led_or_none (first_date date_keys pairs) (first_of pairs (codes "rft.date"))) (all_of pairs (codes "rft.date"))
+  pub last_page : led (last_page pairs) (first_of pairs (codes "rft.epage")) ≡ unchanged
+  pub first_page : led (first_page pairs) (first_of pairs (codes "rft.spage")) ≡ unchanged
   pub works : (namespace : Namespace) → IsNamed pairs namespace
 
 pub led-same : (first : Option Text) → led first first ≡ unchanged
@@ -84,13 +87,18 @@ works-stay pairs is =
     ap (after (naming Pmid ∷ naming Doi ∷ [])) (stays-unchanged (naming Oclc) pairs (is.works Oclc))
     ∙ ap (after (naming Doi ∷ [])) (stays-unchanged (naming Pmid) pairs (is.works Pmid)) ∙ stays-unchanged (naming Doi) pairs (is.works Doi)
 
+pages-stay : (pairs : List KeyValue) → IsSettled pairs → after page_steps pairs ≡ pairs
+pages-stay pairs is =
+    ap (after (first_page_step ∷ [])) (stays-unchanged last_page_step pairs is.last_page) ∙ stays-unchanged first_page_step pairs is.first_page
+
 last-stay : (pairs : List KeyValue) → IsSettled pairs → after last_steps pairs ≡ pairs
 last-stay pairs is =
-    ap (after (issn_step ∷ eissn_step ∷ isbn_step ∷ date_step ∷ namings)) (stays-unchanged referrer_step pairs is.referrer)
-    ∙ ap (after (eissn_step ∷ isbn_step ∷ date_step ∷ namings)) (stays-unchanged issn_step pairs is.issn)
-    ∙ ap (after (isbn_step ∷ date_step ∷ namings)) (stays-unchanged eissn_step pairs is.eissn)
-    ∙ ap (after (date_step ∷ namings)) (stays-unchanged isbn_step pairs is.isbn)
-    ∙ ap (after namings) (date-stays pairs is)
+    ap (after (issn_step ∷ eissn_step ∷ isbn_step ∷ date_step ∷ after_dates)) (stays-unchanged referrer_step pairs is.referrer)
+    ∙ ap (after (eissn_step ∷ isbn_step ∷ date_step ∷ after_dates)) (stays-unchanged issn_step pairs is.issn)
+    ∙ ap (after (isbn_step ∷ date_step ∷ after_dates)) (stays-unchanged eissn_step pairs is.eissn)
+    ∙ ap (after (date_step ∷ after_dates)) (stays-unchanged isbn_step pairs is.isbn)
+    ∙ ap (after after_dates) (date-stays pairs is)
+    ∙ ap (after namings) (pages-stay pairs is)
     ∙ works-stay pairs is
 
 pub settled_stays : (pairs : List KeyValue) → IsSettled pairs → normal_form pairs ≡ pairs

@@ -19,11 +19,13 @@ use Rattle.work_identifiers.specs.declared.namespace.Namespace.{Namespace}
 use Rattle.work_identifiers.specs.declared.namespace.Namespace.TheVariants.{Doi, Pmid, Oclc}
 use Rattle.work_identifiers.specs.Forms.{IsIdentifier}
 use Rattle.openurl_reading.specs.Identifiers.{first_under, first_identifier, uri_of, naming, namings}
+use Rattle.openurl_reading.specs.Pages.{first_page, last_page, first_page_step, last_page_step, page_steps}
 use Rattle.openurl_reading.specs.Reading.{normal_form, added, issns_of, second_issn, with_derived}
 use Rattle.openurl_reading.proofs.FoundAre.{AreFound}
 use Rattle.openurl_reading.proofs.Identified.{AreIdentified, under_is, first_is, of_is}
 use Rattle.openurl_reading.proofs.KeysSettle.{all_apart, same_after}
-use Rattle.openurl_reading.proofs.Stages.{last_steps, with_versions, normal_form-is}
+use Rattle.openurl_reading.proofs.PagesFound.{ArePagesShort, first_page_is, last_page_is}
+use Rattle.openurl_reading.proofs.Stages.{after_dates, last_steps, with_versions, normal_form-is}
 use Rattle.openurl_reading.proofs.Totals.{total, total_taken, filled_weighs, led_weighs, named_weighs, shares-le, olds, copies_weigh}
 
 -- the greatest weight of a number, a date, or the namespace of a source, and that of the identifiers of a namespace
@@ -92,11 +94,35 @@ namings_weigh g m u light pairs =
       naming_weighs g m u light Doi (taken first (naming Pmid)),
     )
 
+-- ---- pages
+
+-- the greatest weight of a first page, and of a last one
+pub record ArePagesLight (g : Text → ℕ) (p q : ℕ) : Type 0 where
+  pub first : (pairs : List KeyValue) (n : Text) → first_page pairs ≡ Some n → g n ≤ p
+  pub last : (pairs : List KeyValue) (n : Text) → last_page pairs ≡ Some n → g n ≤ q
+
+pub pages_light : ArePagesShort → ArePagesLight (λ n. length n) 200 400
+pages_light short = record {
+  first = first_page_is (λ n. length n ≤ 200) short.first;
+  last = last_page_is (λ n. length n ≤ 400) (record { first = λ value page e. omega (arith, short.first value page e); last = short.last });
+}
+
+pages_weigh : (g : Text → ℕ) (p q : ℕ) → ArePagesLight g p q → (pairs : List KeyValue) → total g (after page_steps pairs) ≤ p + q + total g pairs
+pages_weigh g p q light pairs =
+    let next = taken pairs last_page_step in
+    omega (
+      arith,
+      total_taken g last_page_step pairs,
+      led_weighs g q (last_page pairs) (first_of pairs (codes "rft.epage")) (light.last pairs),
+      total_taken g first_page_step next,
+      led_weighs g p (first_page next) (first_of next (codes "rft.spage")) (light.first next),
+    )
+
 -- ---- all
 
-last_weigh : (g : Text → ℕ) (m : ℕ) (u : Namespace → ℕ) → AreLight g m u → (pairs : List KeyValue)
-    → total g (after (issn_step ∷ eissn_step ∷ isbn_step ∷ date_step ∷ namings) pairs) ≤ 4 * m + all_three u + total g pairs
-last_weigh g m u light pairs =
+last_weigh : (g : Text → ℕ) (m p q : ℕ) (u : Namespace → ℕ) → AreLight g m u → ArePagesLight g p q → (pairs : List KeyValue)
+    → total g (after (issn_step ∷ eissn_step ∷ isbn_step ∷ date_step ∷ after_dates) pairs) ≤ 4 * m + p + q + all_three u + total g pairs
+last_weigh g m p q u light pages pairs =
     let issns = taken pairs issn_step in
     let eissns = taken issns eissn_step in
     let isbns = taken eissns isbn_step in
@@ -110,7 +136,8 @@ last_weigh g m u light pairs =
       led_weighs g m (first_isbn eissns) (first_of eissns (codes "rft.isbn")) (light.found.isbn eissns),
       total_taken g date_step isbns,
       date_weighs (first_date date_keys isbns) (first_of isbns (codes "rft.date")) (light.found.date isbns),
-      namings_weigh g m u light (taken isbns date_step),
+      pages_weigh g p q pages (taken isbns date_step),
+      namings_weigh g m u light (after page_steps (taken isbns date_step)),
     )
   where
     date_weighs : (found first : Option Text) → ((n : Text) → found ≡ Some n → g n ≤ m) → sum_by g (led_or_none found first).values ≤ m
@@ -153,17 +180,17 @@ derived_weigh g m u light pairs =
         (λ n e. light.identifier namespace n (under_is (IsIdentifier namespace) namespace (of_is light.identified namespace) pairs (codes "rft_id") n e))
 
 -- twice the request, and some numbers, dates and identifiers
-pub reading_weighs : (g : Text → ℕ) (m : ℕ) (u : Namespace → ℕ) → AreLight g m u → (pairs : List KeyValue)
-    → total g (with_derived (normal_form pairs)) ≤ 2 * total g pairs + 12 * m + 2 * all_three u
-reading_weighs g m u light pairs =
+pub reading_weighs : (g : Text → ℕ) (m p q : ℕ) (u : Namespace → ℕ) → AreLight g m u → ArePagesLight g p q → (pairs : List KeyValue)
+    → total g (with_derived (normal_form pairs)) ≤ 2 * total g pairs + 12 * m + p + q + 2 * all_three u
+reading_weighs g m p q u light pages pairs =
     let first = taken pairs (correction (codes "ctx_ver")) in
     let second = with_versions pairs in
     let named = taken (after copies second) referrer_step in
-    subst (λ normal. total g (with_derived normal) ≤ 2 * total g pairs + 12 * m + 2 * all_three u) (sym (normal_form-is pairs))
+    subst (λ normal. total g (with_derived normal) ≤ 2 * total g pairs + 12 * m + p + q + 2 * all_three u) (sym (normal_form-is pairs))
     (omega (
       arith,
       derived_weigh g m u light (after last_steps (after copies second)),
-      last_weigh g m u light named,
+      last_weigh g m p q u light pages named,
       keys_weigh g m u light second,
       version_weighs g m u light (codes "url_ver") first,
       version_weighs g m u light (codes "ctx_ver") pairs,

@@ -1,5 +1,5 @@
 -- The steps in three parts: versions, old keys, and the others.
-use Rattle.std.proofs.Common.{◌≡◌, List, ◌∷◌}
+use Rattle.std.proofs.Common.{◌≡◌, List, ◌∷◌, ◌++◌}
 use Rattle.std.specs.Prelude.{codes}
 use Rattle.std.proofs.lemmas.List.Sums.{fold-append}
 use Rattle.kev_read.specs.Pairs.{KeyValue}
@@ -10,10 +10,15 @@ use Rattle.openurl_reading.specs.Referrers.{referrer_step}
 use Rattle.openurl_reading.specs.Numbers.{issn_step, eissn_step, isbn_step}
 use Rattle.openurl_reading.specs.Dates.{date_step}
 use Rattle.openurl_reading.specs.Identifiers.{namings}
+use Rattle.openurl_reading.specs.Pages.{page_steps}
 use Rattle.openurl_reading.specs.Reading.{steps, normal_form}
 
+-- those after the date
+abbrev pub after_dates : List Step
+after_dates = page_steps ++ namings
+
 abbrev pub last_steps : List Step
-last_steps = referrer_step ∷ issn_step ∷ eissn_step ∷ isbn_step ∷ date_step ∷ namings
+last_steps = referrer_step ∷ issn_step ∷ eissn_step ∷ isbn_step ∷ date_step ∷ after_dates
 
 abbrev pub with_versions : List KeyValue → List KeyValue
 with_versions pairs = taken (taken pairs (correction (codes "ctx_ver"))) (correction (codes "url_ver"))

@@ -1,15 +1,17 @@
 -- Requests that are OpenURL 1.0 (ANSI/NISO Z39.88-2004, and the guidelines for KEV ContextObjects).
-use Rattle.std.specs.Prelude.{◌≡◌, false, List, [], ◌∷◌, codes, All, None}
+use Rattle.std.specs.Prelude.{◌≡◌, false, List, [], ◌∷◌, ◌⊎◌, codes, All, Some, None}
 use Rattle.text_model.specs.Texts.{Text}
-use Rattle.kev_read.specs.Pairs.{KeyValue, all_of}
+use Rattle.kev_read.specs.Pairs.{KeyValue, all_of, first_of}
 use Rattle.standard_numbers.specs.Issn.{IsIssn, is_doubtful}
 use Rattle.standard_numbers.specs.Isbn.{IsIsbn}
 use Rattle.publication_dates.specs.Forms.{IsDate}
 use Rattle.work_identifiers.specs.declared.namespace.Namespace.{Namespace}
 use Rattle.work_identifiers.specs.Forms.{IsIdentifier}
 use Rattle.work_identifiers.specs.Places.{identifier_in}
+use Rattle.article_places.specs.Pages.{only}
 use Rattle.openurl_reading.specs.OldKeys.{old_keys}
 use Rattle.openurl_reading.specs.Identifiers.{identifier_of, source_keys, uri_of}
+use Rattle.openurl_reading.specs.Pages.{read_pages}
 
 -- no pair has the key
 abbrev pub Lacks : List KeyValue → Text → Type 0
@@ -39,6 +41,18 @@ HasNoIdentifier key value = (namespace : Namespace) → identifier_of namespace 
 abbrev pub other_keys : List Text
 other_keys = codes "sid" ∷ codes "date" ∷ codes "year" ∷ codes "rft.year" ∷ codes "rft.eisbn" ∷ []
 
+-- a page alone, or none that is found, such as `C-12` of a section
+abbrev pub IsPage : Text → Type 0
+IsPage value = (read_pages value ≡ Some (only value)) ⊎ (read_pages value ≡ None)
+
+abbrev pub HasNoPage : Text → Type 0
+HasNoPage value = read_pages value ≡ None
+
+-- the first page is under its own key, or `rft.pages` has none
+pub data ArePagesApart (pairs : List KeyValue) : Type 0 where
+  first_page_apart : (page : Text) → first_of pairs (codes "rft.spage") ≡ Some page → read_pages page ≡ Some (only page) → ArePagesApart pairs
+  no_page : Under pairs (codes "rft.pages") HasNoPage → ArePagesApart pairs
+
 pub record IsCanonical (pairs : List KeyValue) : Type 0 where
   pub context : Under pairs (codes "ctx_ver") IsVersion
   pub transport : Under pairs (codes "url_ver") IsVersion
@@ -48,5 +62,8 @@ pub record IsCanonical (pairs : List KeyValue) : Type 0 where
   pub eissns : Under pairs (codes "rft.eissn") IsSureIssn
   pub isbns : Under pairs (codes "rft.isbn") IsIsbn
   pub dates : Under pairs (codes "rft.date") IsDate
+  pub spages : Under pairs (codes "rft.spage") IsPage
+  pub epages : Under pairs (codes "rft.epage") IsPage
+  pub pages : ArePagesApart pairs
   pub referents : Under pairs (codes "rft_id") IsReferentUri
   pub no_other_identifiers : All (λ key. Under pairs key (HasNoIdentifier key)) source_keys

@@ -7,6 +7,7 @@ use Rattle.standard_numbers.specs.Isbn.{isbns_in}
 use Rattle.publication_dates.specs.Dates.{date_in}
 use Rattle.work_identifiers.specs.declared.namespace.Namespace.{Namespace}
 use Rattle.openurl_reading.specs.Identifiers.{identifier_of, uri_of}
+use Rattle.openurl_reading.specs.Pages.{first_in, last_in}
 use Rattle.openurl_reading.specs.Values.{searched}
 use Rattle.openurl_reading.specs.Versions.{version}
 use Rattle.openurl_reading.specs.Referrers.{referrer_of}
@@ -22,6 +23,8 @@ pub data HasOrigin (sent : List Text) : Text → Type 0 where
   issn_in : (value issn : Text) → Contains sent value → Contains (issns_in (searched value)) issn → HasOrigin sent issn
   isbn_in : (value isbn : Text) → Contains sent value → Contains (isbns_in (searched value)) isbn → HasOrigin sent isbn
   date_of : (value date : Text) → Contains sent value → date_in (searched value) ≡ Some date → HasOrigin sent date
+  page_in : (value page : Text) → Contains sent value → first_in value ≡ Some page → HasOrigin sent page
+  last_page_in : (value page : Text) → Contains sent value → last_in value ≡ Some page → HasOrigin sent page
   identifier_in_value : (namespace : Namespace) (key value identifier : Text) → Contains sent value
       → identifier_of namespace key value ≡ Some identifier → HasOrigin sent identifier
   uri_of_identifier : (namespace : Namespace) (key value identifier : Text) → Contains sent value

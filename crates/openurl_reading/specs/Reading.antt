@@ -11,9 +11,10 @@ use Rattle.openurl_reading.specs.Referrers.{referrer_step}
 use Rattle.openurl_reading.specs.Numbers.{issns_under, first_number, other_than, issn_step, eissn_step, isbn_step, first_isbn}
 use Rattle.openurl_reading.specs.Dates.{date_step}
 use Rattle.openurl_reading.specs.Identifiers.{first_under, namings}
+use Rattle.openurl_reading.specs.Pages.{page_steps}
 
 unfoldable pub steps : List Step
-steps = versions ++ copies ++ referrer_step ∷ issn_step ∷ eissn_step ∷ isbn_step ∷ date_step ∷ namings
+steps = versions ++ copies ++ referrer_step ∷ issn_step ∷ eissn_step ∷ isbn_step ∷ date_step ∷ page_steps ++ namings
 
 -- the pairs of OpenURL 1.0
 abbrev pub normal_form : List KeyValue → List KeyValue

@@ -10,7 +10,7 @@ ghost use Rattle.openurl_reading.specs.Identifiers as spec;
 
 use crate::change::{Change, changed};
 use crate::counting::is_one_of;
-use crate::pairs::Pairs;
+use crate::pairs::{Pairs, ascii_text};
 use std::alloc::{AllocError, Global};
 use uri_text::Text;
 use work_identifiers::{Namespace, identifier_alone, identifier_in};
@@ -132,15 +132,6 @@ fn names(namespace: Namespace, key: &str) -> bool
         Namespace::Pmid => is_one_of(pubmed_keys(), key),
         Namespace::Doi | Namespace::Oclc => false,
     }
-}
-
-/// The text of ASCII bytes.
-fn ascii_text(alloc: Global, bytes: &[u8]) -> Result<Text, AllocError>
-    requires { IsAscii bytes.now }
-    ensures { IfOk result (λ text. text ≡ bytes.now) }
-{
-    let text = String::from_utf8_lossy(alloc, bytes)?;
-    Ok(Text::new(text))
 }
 
 /// The keys under which a number alone is one of PubMed.

@@ -9,6 +9,7 @@ ghost use Rattle.openurl_reading.specs.Origins.{HasOrigin, all_values};
 ghost use Rattle.openurl_reading.specs.Reading.{derived, normal_form, reading_of, with_derived};
 ghost use Rattle.openurl_reading.specs.Steps.{Step, others, taken};
 
+use article_places::laws::{pages_are_parts, pages_stay, parts_are_short};
 use publication_dates::laws::{dates_are_read, dates_stay};
 use standard_numbers::laws::{
     isbns_are_isbns, isbns_stay, issns_are_found_alone, issns_are_issns, issns_stay,
@@ -56,6 +57,9 @@ pub fn readings_are_read_as_they_are()
     isbns_stay();
     dates_are_read();
     dates_stay();
+    pages_are_parts();
+    pages_stay();
+    parts_are_short();
     identifiers_are_identifiers();
     identifiers_stay();
     uris_have_one_namespace();
@@ -72,6 +76,9 @@ pub fn nothing_is_invented()
     isbns_stay();
     dates_are_read();
     dates_stay();
+    pages_are_parts();
+    pages_stay();
+    parts_are_short();
     identifiers_are_identifiers();
     identifiers_stay();
     uris_have_one_namespace();
@@ -80,14 +87,16 @@ pub fn nothing_is_invented()
 /// A reading has at most twice the pairs that count, of which there are at most 300, and twice the bytes of the values
 /// of the request, and what the resolver adds.
 pub fn readings_are_bounded()
-    ensures few { (pairs : List KeyValue) → length (reading_of pairs).pairs ≤ 2 * length (counting pairs) + 18 }
+    ensures few { (pairs : List KeyValue) → length (reading_of pairs).pairs ≤ 2 * length (counting pairs) + 20 }
     ensures counting { (pairs : List KeyValue) → length (counting pairs) ≤ most_pairs }
     ensures bytes { (pairs : List KeyValue)
-        → value_bytes (reading_of pairs).pairs ≤ 2 * value_bytes pairs + 1262 }
+        → value_bytes (reading_of pairs).pairs ≤ 2 * value_bytes pairs + 1862 }
 {
     issns_are_issns();
     isbns_are_isbns();
     dates_are_read();
+    pages_are_parts();
+    parts_are_short();
     identifiers_are_identifiers();
     identifiers_stay();
     uris_have_one_namespace();

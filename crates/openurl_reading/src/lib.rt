@@ -23,6 +23,7 @@ pub mod laws;
 mod normal_form;
 mod numbers;
 mod old_keys;
+mod pages;
 mod pairs;
 mod reading;
 mod referrer;

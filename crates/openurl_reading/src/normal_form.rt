@@ -7,6 +7,7 @@ use crate::dates::lead_date;
 use crate::identifiers::name_works;
 use crate::numbers::{lead_eissn, lead_isbn, lead_issn};
 use crate::old_keys::copy_old_keys;
+use crate::pages::lead_pages;
 use crate::pairs::Pairs;
 use crate::referrer::name_referrer;
 use crate::versions::correct;
@@ -24,6 +25,7 @@ pub(crate) fn normal_form(alloc: Global, pairs: Pairs) -> Result<Pairs, AllocErr
     let pairs = lead_eissn(alloc, pairs)?;
     let pairs = lead_isbn(alloc, pairs)?;
     let pairs = lead_date(alloc, pairs)?;
+    let pairs = lead_pages(alloc, pairs)?;
     let pairs = name_works(alloc, pairs)?;
     Ok(pairs)
 }

@@ -21,6 +21,8 @@ mod pages;
 #[cfg(test)]
 mod queries;
 #[cfg(test)]
+mod request_pages;
+#[cfg(test)]
 mod requests;
 #[cfg(test)]
 mod shared;

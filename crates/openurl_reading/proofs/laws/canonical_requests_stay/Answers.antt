@@ -23,6 +23,9 @@ returns-clause-steps c pairs is =
       eissns = λ k d h. let one = is.eissns k d h in issn_kept c.issns_stay.ensures _ one.0 one.1;
       isbns = λ k d h. isbn_kept c.isbns_stay.ensures _ (is.isbns k d h);
       dates = λ k d h. date_kept c.dates_stay.ensures _ (is.dates k d h);
+      spages = is.spages;
+      epages = is.epages;
+      pages = is.pages;
       works = canonical_named
           (identified c.identifiers_are_identifiers.ensures.named c.identifiers_are_identifiers.ensures.alone c.identifiers_stay.ensures.named
           c.uris_have_one_namespace.ensures)

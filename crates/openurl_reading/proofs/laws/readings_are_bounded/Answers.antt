@@ -6,7 +6,8 @@ use Rattle.openurl_reading.proofs.FoundAre.{AreFoundIn, found_are}
 use Rattle.openurl_reading.proofs.Identified.{identified}
 use Rattle.openurl_reading.proofs.IdentifierForms.{longest_uri, uri_short, identifier_short}
 use Rattle.openurl_reading.proofs.LowerLaws.{found_short}
-use Rattle.openurl_reading.proofs.Sizes.{AreLight, reading_weighs, counting_weighs, total-one, source_short}
+use Rattle.openurl_reading.proofs.PagesFound.{pages_short}
+use Rattle.openurl_reading.proofs.Sizes.{AreLight, ArePagesLight, pages_light, reading_weighs, counting_weighs, total-one, source_short}
 use Rattle.openurl_reading.proofs.laws.readings_are_bounded.Goals as goal
 
 pub returns-clause-few : goal.returns-clause-few
@@ -26,7 +27,8 @@ returns-clause-few c pairs =
       identifier = λ namespace n is. omega arith;
       uri = λ namespace n is. omega arith;
     } in
-    omega (arith, reading_weighs (λ n. 1) 1 (λ namespace. 1) light counted, total-one counted, total-one (with_derived (normal_form counted)))
+    let pages : ArePagesLight (λ n. 1) 1 1 = record { first = λ pairs n e. omega arith; last = λ pairs n e. omega arith } in
+    omega (arith, reading_weighs (λ n. 1) 1 1 1 (λ namespace. 1) light pages counted, total-one counted, total-one (with_derived (normal_form counted)))
 
 pub returns-clause-counting : goal.returns-clause-counting
 returns-clause-counting c pairs = omega (arith, length-take most_pairs (accepted pairs))
@@ -43,4 +45,7 @@ returns-clause-bytes c pairs =
       identifier = identifier_short;
       uri = uri_short;
     } in
-    omega (arith, reading_weighs (λ n. length n) 13 longest_uri light counted, counting_weighs (λ n. length n) pairs)
+    let short = pages_short c.pages_are_parts.ensures.first c.pages_are_parts.ensures.last c.parts_are_short.ensures.part
+    c.parts_are_short.ensures.last in
+    let pages : ArePagesLight (λ n. length n) 200 400 = pages_light short in
+    omega (arith, reading_weighs (λ n. length n) 13 200 400 longest_uri light pages counted, counting_weighs (λ n. length n) pairs)

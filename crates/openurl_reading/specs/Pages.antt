@@ -1,0 +1,48 @@
+-- The pages of a request: the first one leads `rft.spage`, the last one `rft.epage`.
+use Rattle.std.specs.Prelude.{List, [], ◌∷◌, codes, nat_le, length, Option, Some, None, if◌then◌else◌}
+use Rattle.std.specs.Option.{option_and_then, option_map, option_or}
+use Rattle.text_model.specs.Texts.{Text}
+use Rattle.kev_read.specs.Pairs.{KeyValue, all_of, first_of}
+use Rattle.article_places.specs.Pages.{Range, pages_in}
+use Rattle.openurl_reading.specs.Steps.{Step}
+use Rattle.openurl_reading.specs.Values.{most_bytes, led}
+
+-- the pages in a value; a longer one is not read, since a part of it might end within a page
+abbrev pub read_pages : Text → Option Range
+read_pages value = if nat_le (length value) most_bytes then pages_in value else None
+
+-- the first page, the last page of a range, and where the pages end
+abbrev pub first_in : Text → Option Text
+first_in value = option_map (λ pages. pages.first) (read_pages value)
+
+abbrev pub last_in : Text → Option Text
+last_in value = option_and_then (λ pages. pages.last) (read_pages value)
+
+abbrev pub end_in : Text → Option Text
+end_in value = option_or (last_in value) (first_in value)
+
+-- what is read in the first value of a key
+abbrev pub page_under : (Text → Option Text) → List KeyValue → Text → Option Text
+page_under read pairs key = option_and_then read (first_of pairs key)
+
+-- the first page is that of `rft.spage`, or else that of `rft.pages`
+abbrev pub first_page : List KeyValue → Option Text
+first_page pairs = option_or (page_under first_in pairs (codes "rft.spage")) (page_under first_in pairs (codes "rft.pages"))
+
+-- without a value of its own, the last page is that of a range under `rft.spage`
+abbrev pub last_among : List Text → Option Text → Option Text
+last_among [] last = last
+last_among (value ∷ values) last = end_in value
+
+abbrev pub last_page : List KeyValue → Option Text
+last_page pairs = last_among (all_of pairs (codes "rft.epage")) (page_under last_in pairs (codes "rft.spage"))
+
+abbrev pub last_page_step : Step
+last_page_step = record { key = codes "rft.epage"; change = λ pairs. led (last_page pairs) (first_of pairs (codes "rft.epage")) }
+
+abbrev pub first_page_step : Step
+first_page_step = record { key = codes "rft.spage"; change = λ pairs. led (first_page pairs) (first_of pairs (codes "rft.spage")) }
+
+-- the last page is read before the first one takes the place of its range
+abbrev pub page_steps : List Step
+page_steps = last_page_step ∷ first_page_step ∷ []

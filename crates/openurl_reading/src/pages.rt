@@ -1,0 +1,141 @@
+//! The pages of a request.
+
+ghost use Rattle.std.specs.Prelude.{◌≡◌, ◌++◌, IfOk, IfSome};
+ghost use Rattle.std.specs.Option.{option_map};
+ghost use Rattle.std.specs.Str.{IsAscii};
+ghost use Rattle.article_places.specs.Pages.{in_full, range};
+ghost use Rattle.openurl_reading.specs.Steps.{after, taken};
+ghost use Rattle.openurl_reading.specs.Pages as spec;
+
+use crate::change::{Change, changed};
+use crate::pairs::{Pairs, ascii_text};
+use crate::searched::is_short;
+use article_places::{LastPage, Pages, pages_in};
+use std::alloc::{AllocError, Global};
+use uri_text::Text;
+
+/// The first page and the last one lead their keys, without words and ranges.
+pub(crate) fn lead_pages(alloc: Global, pairs: Pairs) -> Result<Pairs, AllocError>
+    ensures { IfOk result (λ led. led ≡ after spec.page_steps pairs) }
+{
+    let pairs = lead_last_page(alloc, pairs)?;
+    let pairs = lead_first_page(alloc, pairs)?;
+    Ok(pairs)
+}
+
+fn lead_last_page(alloc: Global, pairs: Pairs) -> Result<Pairs, AllocError>
+    ensures { IfOk result (λ after. after ≡ taken pairs spec.last_page_step) }
+{
+    let page = last_page(alloc, &pairs)?;
+    let change = Change::led(alloc, page, pairs.first("rft.epage"))?;
+    changed(alloc, "rft.epage", change, pairs)
+}
+
+fn lead_first_page(alloc: Global, pairs: Pairs) -> Result<Pairs, AllocError>
+    ensures { IfOk result (λ after. after ≡ taken pairs spec.first_page_step) }
+{
+    let page = first_page(alloc, &pairs)?;
+    let change = Change::led(alloc, page, pairs.first("rft.spage"))?;
+    changed(alloc, "rft.spage", change, pairs)
+}
+
+/// The first page of a request.
+fn first_page(alloc: Global, pairs: &Pairs) -> Result<Option<Text>, AllocError>
+    ensures { IfOk result (λ page. page ≡ spec.first_page pairs.now) }
+{
+    if let Some(page) = first_under(alloc, pairs, "rft.spage")? {
+        return Ok(Some(page));
+    }
+    let page = first_under(alloc, pairs, "rft.pages")?;
+    Ok(page)
+}
+
+/// The last page of a request, which may be that of a range under the key of the first one.
+fn last_page(alloc: Global, pairs: &Pairs) -> Result<Option<Text>, AllocError>
+    ensures { IfOk result (λ page. page ≡ spec.last_page pairs.now) }
+{
+    match pairs.first("rft.epage") {
+        Some(value) => end_in(alloc, value),
+        None => last_under(alloc, pairs, "rft.spage"),
+    }
+}
+
+/// The first page in the first value of a key.
+fn first_under(alloc: Global, pairs: &Pairs, key: &str) -> Result<Option<Text>, AllocError>
+    ensures { IfOk result (λ page. page ≡ spec.page_under spec.first_in pairs.now key.now) }
+{
+    match pairs.first(key) {
+        Some(value) => first_in(alloc, value),
+        None => Ok(None),
+    }
+}
+
+/// The last page of a range in the first value of a key.
+fn last_under(alloc: Global, pairs: &Pairs, key: &str) -> Result<Option<Text>, AllocError>
+    ensures { IfOk result (λ page. page ≡ spec.page_under spec.last_in pairs.now key.now) }
+{
+    match pairs.first(key) {
+        Some(value) => last_in(alloc, value),
+        None => Ok(None),
+    }
+}
+
+/// The last page of a range in a value, or its only page.
+fn end_in(alloc: Global, value: &str) -> Result<Option<Text>, AllocError>
+    ensures { IfOk result (λ page. page ≡ spec.end_in value.now) }
+{
+    if let Some(page) = last_in(alloc, value)? {
+        return Ok(Some(page));
+    }
+    let page = first_in(alloc, value)?;
+    Ok(page)
+}
+
+/// The first page in a value.
+fn first_in(alloc: Global, value: &str) -> Result<Option<Text>, AllocError>
+    ensures { IfOk result (λ page. page ≡ spec.first_in value.now) }
+{
+    match read_pages(alloc, value.as_bytes())? {
+        Some(pages) => Ok(Some(ascii_text(alloc, pages.first)?)),
+        None => Ok(None),
+    }
+}
+
+/// The last page of a range in a value.
+fn last_in(alloc: Global, value: &str) -> Result<Option<Text>, AllocError>
+    ensures { IfOk result (λ page. page ≡ spec.last_in value.now) }
+{
+    match read_pages(alloc, value.as_bytes())? {
+        Some(pages) => match pages.last {
+            Some(last) => Ok(Some(whole_page(alloc, last)?)),
+            None => Ok(None),
+        },
+        None => Ok(None),
+    }
+}
+
+/// A last page with what it shares with the first one.
+fn whole_page(alloc: Global, page: LastPage<'_>) -> Result<Text, AllocError>
+    requires { IsAscii (in_full page) }
+    ensures { IfOk result (λ text. text ≡ in_full page.entry) }
+{
+    let mut bytes = Vec::new(alloc);
+    bytes.extend_from_slice(page.shared)?;
+    bytes.extend_from_slice(page.written)?;
+    let text = ascii_text(alloc, &bytes)?;
+    Ok(text)
+}
+
+/// The pages in a value, unless it is long.
+fn read_pages(alloc: Global, value: &[u8]) -> Result<Option<Pages<'_>>, AllocError>
+    ensures value { IfOk result (λ found. option_map range found ≡ spec.read_pages value.now) }
+    ensures first_ascii { IfOk result (λ found. IfSome found (λ pages. IsAscii pages.first.now)) }
+    ensures last_ascii { IfOk result (λ found. IfSome found (λ pages.
+        IfSome pages.last (λ last. IsAscii (in_full last)))) }
+{
+    if is_short(value) {
+        pages_in(alloc, value)
+    } else {
+        Ok(None)
+    }
+}
