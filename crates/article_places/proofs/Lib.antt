@@ -11,4 +11,5 @@ pub mod PageShapes
 pub mod PageStay
 pub mod LastStay
 pub mod WrittenNumbers
+pub mod SupplementStays
 pub mod AsciiParts

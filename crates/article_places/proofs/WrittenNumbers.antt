@@ -6,7 +6,7 @@ use Rattle.std.specs.Char.{is_ascii_alphabetic}
 use Rattle.std.specs.List.{All, flat_map, list_all}
 use Rattle.std.proofs.lemmas.Bool.{and_parts, or_cases, or_parts, not-true, cond-false}
 use Rattle.std.proofs.lemmas.Bool.Decides.{nat_tests}
-use Rattle.std.proofs.lemmas.List.Elements.{All-nil, All-cons, All-append, All-weaker}
+use Rattle.std.proofs.lemmas.List.Elements.{All-nil, All-append, All-weaker}
 use Rattle.std.proofs.lemmas.List.Sums.{AllPass-from_list_all, list_all-from_AllPass}
 use Rattle.std.proofs.lemmas.List.Splits.{slice_split_at}
 use Rattle.text_model.specs.Texts.{Text}
@@ -14,12 +14,12 @@ use Rattle.article_places.specs.Labels.{is_label, is_issue_word}
 use Rattle.article_places.specs.Words as spec
 use Rattle.article_places.specs.Enumerations as numbers
 use Rattle.article_places.specs.Enumerations.{Numbers}
-use Rattle.article_places.proofs.Found.{Holds, holds, AreOrdered, IsNumberOf, IsMarkOf}
+use Rattle.article_places.proofs.Found.{Holds, AreOrdered, IsNumberOf, IsMarkOf}
 use Rattle.article_places.proofs.Stay.{IsAlone, no_label, all_closed, all_joined, one_part, closed_words, apart_alone, one_word}
 use Rattle.article_places.proofs.Joined.{IsOne}
 use Rattle.article_places.proofs.NumberLaws.{ones}
 
-abbrev IsClosed : Text → Type 0
+abbrev pub IsClosed : Text → Type 0
 IsClosed t = All (λ b. spec.is_not_open b ≡ true) t
 
 -- ---- the mark of a supplement
@@ -49,7 +49,7 @@ mark_counts t h =
     by_first (inr g) = all_count is_ascii_alphabetic letter_counts t (and_parts _ _ g).1
 
 -- the mark of a supplement as a list of words, which has none for an empty mark
-mark_words : Text → List Text
+unfoldable pub mark_words : Text → List Text
 mark_words [] = []
 mark_words (b ∷ t) = (b ∷ t) ∷ []
 
@@ -64,7 +64,7 @@ read_mark b t is =
     let parts = and_parts (numbers.is_mark (b ∷ t)) (not (is_issue_word (b ∷ t))) is.mark in
     record { bytes = mark_counts (b ∷ t) parts.0; mark = parts.0; other = not-true _ parts.1 }
 
-words_of_mark : (t : Text) → IsMarkOf IsOne t → spec.words_in t ≡ mark_words t
+pub words_of_mark : (t : Text) → IsMarkOf IsOne t → spec.words_in t ≡ mark_words t
 unfolding mark_words
 words_of_mark [] is = refl
 words_of_mark (b ∷ t) is =
@@ -75,7 +75,7 @@ pub mark_bytes : (t : Text) → IsMarkOf IsOne t → list_all spec.is_number_byt
 mark_bytes [] is = refl
 mark_bytes (b ∷ t) is = (read_mark b t is).bytes
 
-closed_mark : (t : Text) → IsMarkOf IsOne t → IsClosed t
+pub closed_mark : (t : Text) → IsMarkOf IsOne t → IsClosed t
 closed_mark [] is = All-nil (λ b. spec.is_not_open b ≡ true)
 closed_mark (b ∷ t) is = all_closed (b ∷ t) (read_mark b t is).bytes
 
@@ -91,7 +91,7 @@ supplement_mark (b ∷ t) is =
 
 -- ---- words
 
-supplement_words : Option Text → List Text
+unfoldable pub supplement_words : Option Text → List Text
 supplement_words None = []
 supplement_words (Some mark) = codes "Suppl" ∷ mark_words mark
 
@@ -101,7 +101,7 @@ words_of_supplement None is = refl
 words_of_supplement (Some mark) is = ap (λ ws. codes "Suppl" ∷ ws) (words_of_mark mark is)
 
 -- a number before a space
-number_then : (n rest : Text) → IsAlone n → spec.words_in (n ++ 0x20 ∷ rest) ≡ n ∷ spec.words_in rest
+pub number_then : (n rest : Text) → IsAlone n → spec.words_in (n ++ 0x20 ∷ rest) ≡ n ∷ spec.words_in rest
 number_then n rest is =
     ap (flat_map spec.apart) (slice_split_at spec.is_gap n 0x20 rest (all_joined n (and_parts _ _ is.number).0) refl)
     ∙ ap (λ ws. ws ++ spec.words_in rest) (apart_alone n is)
@@ -130,13 +130,13 @@ first_before n (Some m) s is = number_then n (codes "no. " ++ m ++ numbers.writt
 
 -- ---- no brackets
 
-codes_closed : (t : Text) → list_all spec.is_not_open t ≡ true → IsClosed t
+pub codes_closed : (t : Text) → list_all spec.is_not_open t ≡ true → IsClosed t
 codes_closed t h = AllPass-from_list_all spec.is_not_open t h
 
-number_closed : (n : Text) → IsNumberOf IsOne n → IsClosed n
+pub number_closed : (n : Text) → IsNumberOf IsOne n → IsClosed n
 number_closed n is = all_closed n (and_parts _ _ is.number).0
 
-abbrev C : ℕ → Type 0
+abbrev pub C : ℕ → Type 0
 C b = spec.is_not_open b ≡ true
 
 closed_supplement : (s : Option Text) → Holds (IsMarkOf IsOne) s → IsClosed (numbers.written_supplement s)
@@ -161,7 +161,7 @@ unfolding Holds supplement_words
 ended_again f i None is = refl
 ended_again f i (Some mark) is = ap (numbers.with_supplement f i) (supplement_mark mark is)
 
-same_after_year : (s : Option Text) → numbers.after_year (supplement_words s) ≡ supplement_words s
+pub same_after_year : (s : Option Text) → numbers.after_year (supplement_words s) ≡ supplement_words s
 unfolding supplement_words mark_words
 same_after_year None = refl
 same_after_year (Some []) = refl
@@ -172,21 +172,21 @@ unfolding supplement_words
 same_after_word None = refl
 same_after_word (Some mark) = refl
 
-none_again : (s : Option Text) → Holds (IsMarkOf IsOne) s
+pub none_again : (s : Option Text) → Holds (IsMarkOf IsOne) s
     → numbers.from_first (numbers.after_label (supplement_words s)) ≡ Some (record { first = None; issue = None; supplement = s })
 unfolding supplement_words
 none_again None is = refl
 none_again (Some mark) is = ended_again None None (Some mark) is
 
 -- after the first number
-number_first : (n : Text) (ws : List Text) → IsAlone n
+pub number_first : (n : Text) (ws : List Text) → IsAlone n
     → numbers.from_first (numbers.after_label (n ∷ ws)) ≡ numbers.after_first n (numbers.after_year ws)
 number_first n ws is =
     let no : is_label n ≡ false = no_label n (and_parts _ _ is.number).1 in
     ap numbers.from_first (cond-false _ _ _ no)
     ∙ ap (λ b. cond b (numbers.after_first n (numbers.after_year ws)) (numbers.ended None None (n ∷ ws))) is.number
 
-one_again : (n : Text) (s : Option Text) → Holds (IsMarkOf IsOne) s
+pub one_again : (n : Text) (s : Option Text) → Holds (IsMarkOf IsOne) s
     → numbers.after_first n (supplement_words s) ≡ Some (record { first = Some n; issue = None; supplement = s })
 unfolding supplement_words
 one_again n None is = refl
@@ -229,43 +229,3 @@ again (Some n) (Some m) s f i mark ordered =
 pub written_stay : (text : Text) (n : Numbers) → numbers.numbers_in text ≡ Some n → numbers.numbers_in (numbers.written n) ≡ Some n
 written_stay text n e =
     let is = ones text n e in again n.first n.issue n.supplement is.first is.issue is.supplement is.ordered
-
--- ---- a supplement alone, or after one number
-
-words_of_short : (mark : Text) → IsMarkOf IsOne mark → spec.words_in (numbers.short_supplement mark) ≡ codes "Suppl" ∷ mark_words mark
-unfolding mark_words
-words_of_short [] is = refl
-words_of_short (b ∷ t) is = ap (λ ws. codes "Suppl" ∷ ws) (words_of_mark (b ∷ t) is)
-
-short_closed : (mark : Text) → IsMarkOf IsOne mark → IsClosed (numbers.short_supplement mark)
-short_closed [] is = codes_closed (codes "Suppl") refl
-short_closed (b ∷ t) is = All-append C (codes "Suppl ") (b ∷ t) (codes_closed (codes "Suppl ") refl) (closed_mark (b ∷ t) is)
-
-short_again : (mark : Text) → IsMarkOf IsOne mark
-    → numbers.numbers_in (numbers.short_supplement mark) ≡ Some (record { first = None; issue = None; supplement = Some mark })
-unfolding Holds supplement_words
-short_again mark is =
-    ap (λ ws. numbers.from_first (numbers.after_label ws)) (closed_words (numbers.short_supplement mark) (short_closed mark is) ∙ words_of_short mark is)
-    ∙ none_again (Some mark) is
-
-after_number : (n mark : Text) → IsNumberOf IsOne n → IsMarkOf IsOne mark
-    → numbers.numbers_in (n ++ 0x20 ∷ numbers.short_supplement mark) ≡ Some (record { first = Some n; issue = None; supplement = Some mark })
-unfolding Holds supplement_words
-after_number n mark f is =
-    let alone : IsAlone n = record { number = f.number; one = f.is } in
-    let rest = 0x20 ∷ numbers.short_supplement mark in
-    let closed = All-append C n rest (number_closed n f) (All-cons C 0x20 (numbers.short_supplement mark) refl (short_closed mark is)) in
-    ap (λ ws. numbers.from_first (numbers.after_label ws))
-    (closed_words (n ++ rest) closed ∙ number_then n (numbers.short_supplement mark) alone ∙ ap (λ ws. n ∷ ws) (words_of_short mark is))
-    ∙ number_first n (supplement_words (Some mark)) alone ∙ ap (numbers.after_first n) (same_after_year (Some mark)) ∙ one_again n (Some mark) is
-
-pub supplement_stays : (text mark : Text) (n : Numbers) → numbers.numbers_in text ≡ Some n → n.supplement ≡ Some mark
-    → numbers.numbers_in (numbers.short_supplement mark) ≡ Some (record { first = None; issue = None; supplement = Some mark })
-supplement_stays text mark n e f = short_again mark (holds (IsMarkOf IsOne) n.supplement mark (ones text n e).supplement f)
-
-pub supplement_stays_after : (text mark number : Text) (n : Numbers) → numbers.numbers_in text ≡ Some n → n.supplement ≡ Some mark
-    → numbers.numbers_in number ≡ Some (numbers.alone number)
-    → numbers.numbers_in (number ++ 0x20 ∷ numbers.short_supplement mark) ≡ Some (record { first = Some number; issue = None; supplement = Some mark })
-supplement_stays_after text mark number n e f one =
-    after_number number mark (holds (IsNumberOf IsOne) (Some number) number (ones number (numbers.alone number) one).first refl)
-    (holds (IsMarkOf IsOne) n.supplement mark (ones text n e).supplement f)

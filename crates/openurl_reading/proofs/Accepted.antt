@@ -25,6 +25,7 @@ use Rattle.openurl_reading.specs.Referrers.{namespace, referrer_of, referrer_ste
 use Rattle.openurl_reading.specs.Numbers.{first_issn, first_eissn, first_isbn, issn_step, eissn_step, isbn_step}
 use Rattle.openurl_reading.specs.Dates.{date_keys, first_date, led_or_none, date_step}
 use Rattle.openurl_reading.specs.Pages.{first_page, last_page, first_page_step, last_page_step, page_steps}
+use Rattle.openurl_reading.specs.Volumes.{added_issue, volume, issue, added_issue_step, volume_step, issue_step, volume_steps}
 use Rattle.openurl_reading.specs.Reading.{normal_form}
 use Rattle.openurl_reading.proofs.Each.{none_has, one_has, each_taken, each_of_key, each_filled, each_led, each_named}
 use Rattle.openurl_reading.proofs.FoundAre.{AreFound}
@@ -32,6 +33,7 @@ use Rattle.openurl_reading.proofs.Identified.{AreIdentified, first_is, of_is}
 use Rattle.openurl_reading.proofs.IdentifierForms.{BeginsWithDigit, identifier_digit}
 use Rattle.openurl_reading.proofs.PagesFound.{AreFoundPages, IsNotBlank, first_page_is, last_page_is}
 use Rattle.openurl_reading.proofs.Stages.{last_steps, with_versions, normal_form-is}
+use Rattle.openurl_reading.proofs.VolumeLaws.{AreFoundNumbers, added_issue_is, found_volume_is, found_issue_is}
 use Rattle.openurl_reading.proofs.Values.{same_key}
 
 abbrev pub AreAccepted : List KeyValue → Type 0
@@ -184,6 +186,23 @@ namings_pass identified pairs all =
     let first = taken pairs (naming Oclc) in
     naming_passes identified Doi (taken first (naming Pmid)) (naming_passes identified Pmid first (naming_passes identified Oclc pairs all))
 
+-- ---- volume and issue
+
+issue_passes : (found first : Option Text) → ((n : Text) → found ≡ Some n → IsNotBlank n) → All (Passes (codes "rft.issue")) (led found first).values
+issue_passes found first is = each_led (Passes (codes "rft.issue")) found first (λ n e. rw (is n e) refl)
+
+volume_passes : (found first : Option Text) → ((n : Text) → found ≡ Some n → IsNotBlank n) → All (Passes (codes "rft.volume")) (led found first).values
+volume_passes found first is = each_led (Passes (codes "rft.volume")) found first (λ n e. rw (is n e) refl)
+
+volumes_pass : AreFoundNumbers IsNotBlank → (pairs : List KeyValue) → AreAccepted pairs → AreAccepted (after volume_steps pairs)
+volumes_pass found pairs all =
+    let first = taken pairs added_issue_step in
+    let second = taken first volume_step in
+    step_passes issue_step second (issue_passes (issue second) (first_of second (codes "rft.issue")) (found_issue_is IsNotBlank found second))
+    (step_passes volume_step first (volume_passes (volume first) (first_of first (codes "rft.volume")) (found_volume_is IsNotBlank found first))
+    (step_passes added_issue_step pairs (issue_passes (added_issue pairs) (first_of pairs (codes "rft.issue")) (added_issue_is IsNotBlank found pairs))
+    all))
+
 -- ---- pages
 
 page_passes : (found first : Option Text) → ((n : Text) → found ≡ Some n → IsNotBlank n) → All (Passes (codes "rft.spage")) (led found first).values
@@ -192,7 +211,8 @@ page_passes found first is = each_led (Passes (codes "rft.spage")) found first (
 end_passes : (found first : Option Text) → ((n : Text) → found ≡ Some n → IsNotBlank n) → All (Passes (codes "rft.epage")) (led found first).values
 end_passes found first is = each_led (Passes (codes "rft.epage")) found first (λ n e. rw (is n e) refl)
 
-pages_pass : AreFoundPages IsNotBlank → (pairs : List KeyValue) → AreAccepted pairs → AreAccepted (after page_steps pairs)
+pages_pass : AreFoundPages IsNotBlank
+    → (pairs : List KeyValue) → AreAccepted pairs → AreAccepted (after page_steps pairs)
 pages_pass found pairs all =
     let next = taken pairs last_page_step in
     step_passes first_page_step next (page_passes (first_page next) (first_of next (codes "rft.spage")) (first_page_is IsNotBlank found.first next))
@@ -200,25 +220,29 @@ pages_pass found pairs all =
 
 -- ---- all
 
-last_pass : AreIdentified → AreFound BeginsWithDigit → AreFoundPages IsNotBlank → (pairs : List KeyValue) → AreAccepted pairs → AreAccepted (after last_steps pairs)
-last_pass identified found pages pairs all =
+last_pass : AreIdentified → AreFound BeginsWithDigit → AreFoundNumbers IsNotBlank → AreFoundPages IsNotBlank
+    → (pairs : List KeyValue) → AreAccepted pairs → AreAccepted (after last_steps pairs)
+last_pass identified found numbers pages pairs all =
     let named = taken pairs referrer_step in
     let issns = taken named issn_step in
     let eissns = taken issns eissn_step in
     let isbns = taken eissns isbn_step in
     let dates = taken isbns date_step in
-    namings_pass identified (after page_steps dates)
-    (pages_pass pages dates
+    let placed = after volume_steps dates in
+    namings_pass identified (after page_steps placed)
+    (pages_pass pages placed
+    (volumes_pass numbers dates
     (step_passes date_step isbns (date_passes (first_date date_keys isbns) (first_of isbns (codes "rft.date")) (found.date isbns))
     (step_passes isbn_step eissns (led_passes (codes "rft.isbn") (first_isbn eissns) (first_of eissns (codes "rft.isbn")) refl (found.isbn eissns))
     (step_passes eissn_step issns (led_passes (codes "rft.eissn") (first_eissn issns) (first_of issns (codes "rft.eissn")) refl (found.eissn issns))
     (step_passes issn_step named (led_passes (codes "rft.issn") (first_issn named) (first_of named (codes "rft.issn")) refl (found.issn named))
-    (referrer_passes pairs all))))))
+    (referrer_passes pairs all)))))))
 
-pub normal_form_passes : AreIdentified → AreFound BeginsWithDigit → AreFoundPages IsNotBlank → (pairs : List KeyValue) → AreAccepted pairs → AreAccepted (normal_form pairs)
-normal_form_passes identified found pages pairs all =
+pub normal_form_passes : AreIdentified → AreFound BeginsWithDigit → AreFoundNumbers IsNotBlank → AreFoundPages IsNotBlank
+    → (pairs : List KeyValue) → AreAccepted pairs → AreAccepted (normal_form pairs)
+normal_form_passes identified found numbers pages pairs all =
     let first = taken pairs (correction (codes "ctx_ver")) in
     subst AreAccepted (sym (normal_form-is pairs))
-    (last_pass identified found pages (after copies (with_versions pairs))
+    (last_pass identified found numbers pages (after copies (with_versions pairs))
     (copies_pass old_keys (with_versions pairs) old_keys_allow
     (version_passes (codes "url_ver") first refl (version_passes (codes "ctx_ver") pairs refl all))))

@@ -16,12 +16,13 @@ use Rattle.openurl_reading.specs.OldKeys.{OldKey, old_keys, filled, copied}
 use Rattle.openurl_reading.specs.Referrers.{referrer_of, referred}
 use Rattle.openurl_reading.specs.Numbers.{eissn_among, other_than}
 use Rattle.openurl_reading.specs.Dates.{led_or_none}
-use Rattle.openurl_reading.specs.Canonical.{Lacks, Under, IsVersion, IsPage, ArePagesApart}
+use Rattle.openurl_reading.specs.Canonical.{Lacks, Under, IsVersion, IsDesignation, IsPage, ArePagesApart}
 use Rattle.openurl_reading.proofs.DateLed.{date_among, rest_of, IsSettledAmong}
 use Rattle.openurl_reading.proofs.FoundAgain.{issn_among, further_among, isbn_among}
 use Rattle.openurl_reading.proofs.PagesStay.{first_page_stays, last_page_stays}
 use Rattle.openurl_reading.proofs.Settled.{IsSettled, IsNamed, led-same, filled-none}
 use Rattle.openurl_reading.proofs.Others.{bytes_eq-same}
+use Rattle.openurl_reading.proofs.VolumesLed.{designations_settle}
 
 -- versions
 version-known : (values : List Text) → All IsVersion values → is_other_version (slice_get values 0) ≡ false
@@ -112,6 +113,8 @@ pub record HasKept (pairs : List KeyValue) : Type 0 where
   pub eissns : Under pairs (codes "rft.eissn") (IsKept issns_in)
   pub isbns : Under pairs (codes "rft.isbn") (IsKept isbns_in)
   pub dates : Under pairs (codes "rft.date") IsDateKept
+  pub volumes : Under pairs (codes "rft.volume") IsDesignation
+  pub issues : Under pairs (codes "rft.issue") IsDesignation
   pub spages : Under pairs (codes "rft.spage") IsPage
   pub epages : Under pairs (codes "rft.epage") IsPage
   pub pages : ArePagesApart pairs
@@ -131,6 +134,7 @@ kept_settled pairs has =
       eissn = ap (λ n. led n (slice_get eissns 0)) (eissn_leads issns eissns has.issns has.eissns) ∙ led-same (slice_get eissns 0);
       isbn = ap (λ n. led n (slice_get isbns 0)) (isbn_leads (all_of pairs (codes "rft.eisbn")) isbns has.no_eisbn has.isbns) ∙ led-same (slice_get isbns 0);
       date = date_settled (all_of pairs (codes "rft.date")) _ _ _ has.no_year has.no_date has.no_old_year has.dates;
+      volumes = designations_settle (all_of pairs (codes "rft.issue")) (all_of pairs (codes "rft.volume")) has.issues has.volumes;
       last_page = last_page_stays (all_of pairs (codes "rft.spage")) (all_of pairs (codes "rft.epage")) has.spages has.epages;
       first_page = first_page_stays pairs has.spages has.pages;
       works = has.works;

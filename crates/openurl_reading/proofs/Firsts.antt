@@ -1,8 +1,14 @@
 -- The first value of a key, one pair at a time.
-use Rattle.std.proofs.Common.{◌≡◌, ℕ, zero, suc, ◌<◌, List, [], ◌∷◌, filter, take, length, get_or, Bool, true, false, cond, refl, ap, Some, None, arith}
+use Rattle.std.proofs.Common.{◌≡◌, ℕ, zero, suc, ◌<◌, List, [], ◌∷◌, filter, take, length, get_or, Bool, true, false, cond, refl, ap, Option, Some}
+use Rattle.std.proofs.Common.{None, arith}
 use Rattle.std.specs.Prelude.{map, slice_get}
+use Rattle.std.specs.Option.{option_and_then}
 use Rattle.text_model.specs.Texts.{Text}
 use Rattle.kev_read.specs.Pairs.{KeyValue, has_key, all_of, first_of}
+
+-- what is read in the first of several values
+abbrev pub of_first : (Text → Option Text) → List Text → Option Text
+of_first read values = option_and_then read (slice_get values 0)
 
 pub not_first : (pair : KeyValue) (rest : List KeyValue) (b : Bool)
     → map (λ p. p.value) (cond b (pair ∷ rest) rest) ≡ [] → (b ≡ false) × (map (λ p. p.value) rest ≡ [])

@@ -16,6 +16,7 @@ use Rattle.openurl_reading.specs.Numbers.{issn_step, eissn_step, isbn_step}
 use Rattle.openurl_reading.specs.Dates.{date_step}
 use Rattle.openurl_reading.specs.Identifiers.{identifier_of, source_keys, identifier_keys, first_under, first_identifier, uri_of, named, naming}
 use Rattle.openurl_reading.specs.Pages.{page_steps}
+use Rattle.openurl_reading.specs.Volumes.{volume_steps}
 use Rattle.openurl_reading.specs.Origins.{HasOrigin, identifier_in_value, uri_of_identifier}
 use Rattle.openurl_reading.proofs.Each.{each_named}
 use Rattle.openurl_reading.proofs.FoundAre.{IsAll}
@@ -53,9 +54,9 @@ sent_read sent pairs all k d h j e g namespace n is =
 
 -- after the steps before those that name works, each value is one of the request
 pub identifiers_under : (sent : List Text) (copied : List KeyValue) → All (IsSent sent) copied
-    → AreRead sent (after (referrer_step ∷ issn_step ∷ eissn_step ∷ isbn_step ∷ date_step ∷ page_steps) copied)
+    → AreRead sent (after (referrer_step ∷ issn_step ∷ eissn_step ∷ isbn_step ∷ date_step ∷ volume_steps ++ page_steps) copied)
 identifiers_under sent copied is =
-    let steps = referrer_step ∷ issn_step ∷ eissn_step ∷ isbn_step ∷ date_step ∷ page_steps in
+    let steps = referrer_step ∷ issn_step ∷ eissn_step ∷ isbn_step ∷ date_step ∷ volume_steps ++ page_steps in
     sent_read sent (after steps copied) (λ k d h.
     let key = get_or identifier_keys k d in
     subst (All (Contains sent)) (sym (same_after steps copied key (AllPass-from_list_all (λ key. list_all (λ step. not (bytes_eq step.key key)) steps)

@@ -20,11 +20,12 @@ use Rattle.work_identifiers.specs.declared.namespace.Namespace.{Namespace}
 use Rattle.work_identifiers.specs.declared.namespace.Namespace.TheVariants.{Doi, Pmid, Oclc}
 use Rattle.openurl_reading.specs.Identifiers.{first_identifier, naming, namings}
 use Rattle.openurl_reading.specs.Pages.{first_page, last_page, first_page_step, last_page_step}
+use Rattle.openurl_reading.specs.Volumes.{added_issue, volume, issue, added_issue_step, volume_step, issue_step}
 use Rattle.openurl_reading.proofs.Each.{one_has}
 use Rattle.openurl_reading.proofs.Filled.{MakesSome, KeepsKey, filled_unchanged, filled-keeps, all_keep_filled, copies_fill}
 use Rattle.openurl_reading.proofs.Led.{led-keeps}
 use Rattle.openurl_reading.proofs.Named.{named-keeps}
-use Rattle.openurl_reading.proofs.Stages.{after_dates, last_steps}
+use Rattle.openurl_reading.proofs.Stages.{after_dates, after_volumes, last_steps}
 use Rattle.openurl_reading.proofs.Values.{values_after, all_of-taken-own, all_of-after}
 
 -- steps of other keys, by a test over a list
@@ -75,8 +76,11 @@ last_keep key h =
     (All-cons (KeepsKey key) eissn_step (isbn_step ∷ date_step ∷ after_dates) (inr (λ p. led-keeps (first_eissn p) (first_of p (codes "rft.eissn"))))
     (All-cons (KeepsKey key) isbn_step (date_step ∷ after_dates) (inr (λ p. led-keeps (first_isbn p) (first_of p (codes "rft.isbn"))))
     (All-cons (KeepsKey key) date_step after_dates (inl h)
+    (All-cons (KeepsKey key) added_issue_step (volume_step ∷ issue_step ∷ after_volumes) (inr (λ p. led-keeps (added_issue p) (first_of p (codes "rft.issue"))))
+    (All-cons (KeepsKey key) volume_step (issue_step ∷ after_volumes) (inr (λ p. led-keeps (volume p) (first_of p (codes "rft.volume"))))
+    (All-cons (KeepsKey key) issue_step after_volumes (inr (λ p. led-keeps (issue p) (first_of p (codes "rft.issue"))))
     (All-cons (KeepsKey key) last_page_step (first_page_step ∷ namings) (inr (λ p. led-keeps (last_page p) (first_of p (codes "rft.epage"))))
-    (All-cons (KeepsKey key) first_page_step namings (inr (λ p. led-keeps (first_page p) (first_of p (codes "rft.spage")))) (namings_keep key)))))))
+    (All-cons (KeepsKey key) first_page_step namings (inr (λ p. led-keeps (first_page p) (first_of p (codes "rft.spage")))) (namings_keep key))))))))))
 
 old_apart : All (λ key. list_all (λ step. not (bytes_eq step.key key.old)) last_steps ≡ true) old_keys
 old_apart = AllPass-from_list_all (λ key. list_all (λ step. not (bytes_eq step.key key.old)) last_steps) old_keys refl

@@ -25,9 +25,15 @@ pub mod PagesFound
 pub mod PagesLed
 pub mod PagesStay
 pub mod ReadOnce
+pub mod ReadValues
 pub mod Sent
 pub mod Settled
 pub mod Sizes
 pub mod Stages
 pub mod Totals
 pub mod Values
+pub mod VolumeLaws
+pub mod VolumeForms
+pub mod VolumeOrigins
+pub mod VolumesFound
+pub mod VolumesLed

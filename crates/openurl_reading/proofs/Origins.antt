@@ -14,10 +14,11 @@ use Rattle.openurl_reading.specs.Values.{most_values, searched, led}
 use Rattle.openurl_reading.specs.Numbers.{eissn_among, other_than}
 use Rattle.openurl_reading.specs.Origins.{HasOrigin, issn_in, isbn_in, date_of, page_in, last_page_in}
 use Rattle.openurl_reading.specs.Pages.{first_in, last_in, last_among}
+use Rattle.openurl_reading.proofs.Firsts.{of_first}
 use Rattle.openurl_reading.proofs.DateLed.{date_of_first}
 use Rattle.openurl_reading.proofs.Each.{none_has, one_has, each_after, each_found}
 use Rattle.openurl_reading.proofs.FoundAgain.{IsIssnAgain, IsIsbnAgain, first_has, other_has, issn_among, further_among, isbn_among}
-use Rattle.openurl_reading.proofs.PagesLed.{page_of, first_among}
+use Rattle.openurl_reading.proofs.PagesLed.{first_among}
 use Rattle.openurl_reading.proofs.Values.{values_after}
 
 -- ---- the keys of numbers
@@ -111,11 +112,11 @@ dates_have sent dates years old old_years a b c d =
 abbrev pub page_keys : List Text
 page_keys = codes "rft.spage" ∷ codes "rft.epage" ∷ codes "rft.pages" ∷ []
 
-first_of_has : (sent values : List Text) → All (Contains sent) values → Has sent (page_of first_in values)
+first_of_has : (sent values : List Text) → All (Contains sent) values → Has sent (of_first first_in values)
 first_of_has sent [] all n e = none_found sent n e
 first_of_has sent (v ∷ vs) all n e = page_in v n (all 0 v (omega arith)) e
 
-last_of_has : (sent values : List Text) → All (Contains sent) values → Has sent (page_of last_in values)
+last_of_has : (sent values : List Text) → All (Contains sent) values → Has sent (of_first last_in values)
 last_of_has sent [] all n e = none_found sent n e
 last_of_has sent (v ∷ vs) all n e = last_page_in v n (all 0 v (omega arith)) e
 
@@ -123,7 +124,7 @@ pub first_page_has : (sent firsts pages : List Text) → All (Contains sent) fir
 first_page_has sent firsts pages a b = or_has sent _ _ (first_of_has sent firsts a) (first_of_has sent pages b)
 
 pub last_page_has : (sent firsts values : List Text) → All (Contains sent) firsts → All (Contains sent) values
-    → Has sent (last_among values (page_of last_in firsts))
+    → Has sent (last_among values (of_first last_in firsts))
 last_page_has sent firsts [] a b = last_of_has sent firsts a
 last_page_has sent firsts (v ∷ vs) a b =
     let known = b 0 v (omega arith) in or_has sent (last_in v) (first_in v) (λ n e. last_page_in v n known e) (λ n e. page_in v n known e)

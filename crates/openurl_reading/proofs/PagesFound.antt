@@ -1,5 +1,6 @@
 -- What holds of all pages that are found in values holds of those of a request.
-use Rattle.std.proofs.Common.{◌≡◌, ◌≤◌, ◌+◌, ◌⊎◌, ℕ, zero, suc, List, [], ◌∷◌, ◌++◌, Bool, true, false, cond, not, eqb, Option, Some, None, length, take, drop, refl, sym, ap, ◌∙◌, subst, inl, inr, arith}
+use Rattle.std.proofs.Common.{◌≡◌, ◌≤◌, ◌+◌, ◌⊎◌, ℕ, zero, suc, List, [], ◌∷◌, ◌++◌, Bool, true, false, cond, not, eqb, Option, Some, None, length}
+use Rattle.std.proofs.Common.{take, drop, refl, sym, ap, ◌∙◌, subst, inl, inr, arith}
 use Rattle.std.specs.Prelude.{codes, nat_le}
 use Rattle.std.specs.List.{flat_map, list_all, prefix_len, slice_split}
 use Rattle.std.specs.Option.{option_and_then, option_map, option_or}
@@ -12,19 +13,20 @@ use Rattle.article_places.specs.Parts.{IsPartOf, IsFromFirst}
 use Rattle.openurl_reading.specs.Counting.{is_blank}
 use Rattle.openurl_reading.specs.Values.{most_bytes}
 use Rattle.openurl_reading.specs.Pages.{read_pages, first_in, last_in, end_in, first_page, last_page, last_among}
+use Rattle.openurl_reading.proofs.Firsts.{of_first}
 use Rattle.openurl_reading.proofs.FoundAre.{IsAll, none_is, or_is}
-use Rattle.openurl_reading.proofs.PagesLed.{IsPageAgain, ArePagesAgain, page_of}
+use Rattle.openurl_reading.proofs.PagesLed.{IsPageAgain, ArePagesAgain}
 
 -- of each page that one value gives
 pub record AreFoundPages (P : Text → Type 0) : Type 0 where
   pub first : (value : Text) → IsAll P (first_in value)
   pub last : (value : Text) → IsAll P (last_in value)
 
-first_of_values : (P : Text → Type 0) → ((value : Text) → IsAll P (first_in value)) → (values : List Text) → IsAll P (page_of first_in values)
+first_of_values : (P : Text → Type 0) → ((value : Text) → IsAll P (first_in value)) → (values : List Text) → IsAll P (of_first first_in values)
 first_of_values P are [] = none_is P
 first_of_values P are (v ∷ vs) = are v
 
-last_of_values : (P : Text → Type 0) → AreFoundPages P → (values : List Text) → IsAll P (page_of last_in values)
+last_of_values : (P : Text → Type 0) → AreFoundPages P → (values : List Text) → IsAll P (of_first last_in values)
 last_of_values P are [] = none_is P
 last_of_values P are (v ∷ vs) = are.last v
 

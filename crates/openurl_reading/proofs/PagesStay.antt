@@ -11,7 +11,8 @@ use Rattle.openurl_reading.specs.Steps.{unchanged}
 use Rattle.openurl_reading.specs.Values.{led}
 use Rattle.openurl_reading.specs.Pages.{read_pages, first_in, last_in, end_in, last_among, first_page}
 use Rattle.openurl_reading.specs.Canonical.{Under, IsPage, HasNoPage, ArePagesApart, first_page_apart, no_page}
-use Rattle.openurl_reading.proofs.PagesLed.{page_of, first_among}
+use Rattle.openurl_reading.proofs.Firsts.{of_first}
+use Rattle.openurl_reading.proofs.PagesLed.{first_among}
 use Rattle.openurl_reading.proofs.Settled.{led-same}
 
 end_led : (v : Text) → IsPage v → led (end_in v) (Some v) ≡ unchanged
@@ -23,20 +24,20 @@ no_last : (v : Text) → IsPage v → last_in v ≡ None
 no_last v (inl e) = ap (option_and_then (λ (p : Range). p.last)) e
 no_last v (inr e) = ap (option_and_then (λ (p : Range). p.last)) e
 
-last_of_pages : (firsts : List Text) → All IsPage firsts → page_of last_in firsts ≡ None
+last_of_pages : (firsts : List Text) → All IsPage firsts → of_first last_in firsts ≡ None
 last_of_pages [] all = refl
 last_of_pages (v ∷ vs) all = no_last v (All-head IsPage v vs all)
 
 pub last_page_stays : (firsts values : List Text) → All IsPage firsts → All IsPage values
-    → led (last_among values (page_of last_in firsts)) (slice_get values 0) ≡ unchanged
+    → led (last_among values (of_first last_in firsts)) (slice_get values 0) ≡ unchanged
 last_page_stays firsts [] all own = ap (λ l. led l None) (last_of_pages firsts all)
 last_page_stays firsts (v ∷ vs) all own = end_led v (All-head IsPage v vs own)
 
-no_first : (pages : List Text) → All HasNoPage pages → page_of first_in pages ≡ None
+no_first : (pages : List Text) → All HasNoPage pages → of_first first_in pages ≡ None
 no_first [] all = refl
 no_first (v ∷ vs) all = ap (option_map (λ (p : Range). p.first)) (All-head HasNoPage v vs all)
 
-first_led : (pages values : List Text) → page_of first_in pages ≡ None → All IsPage values → led (first_among pages values) (slice_get values 0) ≡ unchanged
+first_led : (pages values : List Text) → of_first first_in pages ≡ None → All IsPage values → led (first_among pages values) (slice_get values 0) ≡ unchanged
 first_led pages [] none all = ap (λ o. led o None) none
 first_led pages (v ∷ vs) none all =
     ap (λ o. led (option_or (first_in v) o) (Some v)) none ∙ by_page (All-head IsPage v vs all)
@@ -48,8 +49,8 @@ first_led pages (v ∷ vs) none all =
 apart_led : (pages values : List Text) (page : Text) → slice_get values 0 ≡ Some page → read_pages page ≡ Some (only page)
     → led (first_among pages values) (slice_get values 0) ≡ unchanged
 apart_led pages values page first alone =
-    ap (λ o. led (option_or (option_and_then first_in o) (page_of first_in pages)) o) first
-    ∙ ap (λ r. led (option_or (option_map (λ (p : Range). p.first) r) (page_of first_in pages)) (Some page)) alone ∙ led-same (Some page)
+    ap (λ o. led (option_or (option_and_then first_in o) (of_first first_in pages)) o) first
+    ∙ ap (λ r. led (option_or (option_map (λ (p : Range). p.first) r) (of_first first_in pages)) (Some page)) alone ∙ led-same (Some page)
 
 pub first_page_stays : (pairs : List KeyValue) → Under pairs (codes "rft.spage") IsPage → ArePagesApart pairs
     → led (first_page pairs) (first_of pairs (codes "rft.spage")) ≡ unchanged

@@ -1,5 +1,5 @@
 -- After all steps, no step changes anything: each has done its work, and the later ones do not undo it.
-use Rattle.std.proofs.Common.{◌≡◌, List, ◌∷◌, refl, sym, ◌∙◌, subst, take, map}
+use Rattle.std.proofs.Common.{◌≡◌, List, ◌∷◌, refl, sym, ap, ◌∙◌, subst, take, map}
 use Rattle.std.specs.Prelude.{codes, slice_get}
 use Rattle.std.proofs.lemmas.List.Elements.{All-tail}
 use Rattle.text_model.specs.Texts.{Text}
@@ -13,7 +13,9 @@ use Rattle.openurl_reading.specs.Numbers.{first_issn, first_eissn, first_isbn, e
 use Rattle.openurl_reading.specs.Dates.{date_keys, first_date, led_or_none, date_step}
 use Rattle.openurl_reading.specs.Identifiers.{namings}
 use Rattle.openurl_reading.specs.Pages.{last_in, last_among, first_page, last_page, first_page_step, last_page_step, page_steps}
+use Rattle.openurl_reading.specs.Volumes.{added_issue_step, volume_step, issue_step, volume_steps}
 use Rattle.openurl_reading.specs.Reading.{normal_form}
+use Rattle.openurl_reading.proofs.Firsts.{of_first}
 use Rattle.openurl_reading.proofs.DateLed.{rest_of, IsSettledAmong, date_settles, found_again}
 use Rattle.openurl_reading.proofs.Filled.{KeepsKey, filled_unchanged, fill-fills, all_keep_filled}
 use Rattle.openurl_reading.proofs.FoundAgain.{AreFoundAgain, issn_among, issn_again, further_among, eissn_again, isbn_among, isbn_again}
@@ -21,10 +23,12 @@ use Rattle.openurl_reading.proofs.Identified.{AreIdentified}
 use Rattle.openurl_reading.proofs.KeysSettle.{apart, same_after, version_settles, first_referrer, referral, last_keep, copies_settle}
 use Rattle.openurl_reading.proofs.Led.{led_settles}
 use Rattle.openurl_reading.proofs.Named.{works_named}
-use Rattle.openurl_reading.proofs.PagesLed.{ArePagesAgain, page_of, first_among, first_again, same_leading, last_settles}
-use Rattle.openurl_reading.proofs.Settled.{IsSettled, IsDateSettled, settled_stays}
-use Rattle.openurl_reading.proofs.Stages.{after_dates, last_steps, with_versions, normal_form-is}
+use Rattle.openurl_reading.proofs.PagesLed.{ArePagesAgain, first_among, first_again, same_leading, last_settles}
+use Rattle.openurl_reading.proofs.Settled.{AreVolumesSettled, IsSettled, IsDateSettled, settled_stays}
+use Rattle.openurl_reading.proofs.Stages.{after_dates, after_volumes, last_steps, with_versions, normal_form-is}
 use Rattle.openurl_reading.proofs.Values.{values_after, all_of-taken, all_of-taken-own}
+use Rattle.openurl_reading.proofs.VolumesFound.{AreNumbersAgain}
+use Rattle.openurl_reading.proofs.VolumesLed.{with_added, with_volume, with_issue, volumes_settle}
 
 referrer_settles : (before : List KeyValue) → referred (after last_steps before) ≡ unchanged
 referrer_settles before =
@@ -85,24 +89,50 @@ date_is_settled laws before =
     (subst (IsSettledAmong rest) (sym (same_after after_dates (taken before date_step) (codes "rft.date") refl ∙ all_of-taken-own date_step before))
     (date_settles rest values (found_again (λ value d h. laws.dates (searched value) d h) before)))
 
+-- the volume and the issue, after the three steps
+volumes_are_settled : AreNumbersAgain → (before : List KeyValue) → let now = after after_dates before in
+    AreVolumesSettled (all_of now (codes "rft.issue")) (all_of now (codes "rft.volume"))
+volumes_are_settled numbers before =
+    let issues = all_of before (codes "rft.issue") in
+    let volumes = all_of before (codes "rft.volume") in
+    let first = taken before added_issue_step in
+    let second = taken first volume_step in
+    let third = taken second issue_step in
+    let now = after after_dates before in
+    let added = with_added issues volumes in
+    let known = with_volume added volumes in
+    let one : all_of first (codes "rft.issue") ≡ added = all_of-taken-own added_issue_step before in
+    let two : all_of second (codes "rft.volume") ≡ known =
+    all_of-taken-own volume_step first
+    ∙ ap (λ vs. with_volume (all_of first (codes "rft.issue")) vs) (all_of-taken added_issue_step before (codes "rft.volume") refl)
+    ∙ ap (λ is. with_volume is volumes) one in
+    let three : all_of third (codes "rft.issue") ≡ with_issue added known =
+    all_of-taken-own issue_step second
+    ∙ ap (λ is. with_issue is (all_of second (codes "rft.volume"))) (all_of-taken volume_step first (codes "rft.issue") refl ∙ one)
+    ∙ ap (with_issue added) two in
+    subst (λ is. AreVolumesSettled is (all_of now (codes "rft.volume"))) (sym (same_after after_volumes third (codes "rft.issue") refl ∙ three))
+    (subst (AreVolumesSettled (with_issue added known))
+    (sym (same_after (issue_step ∷ after_volumes) second (codes "rft.volume") refl ∙ two))
+    (volumes_settle numbers issues volumes))
+
 -- the last page, which does not depend on the first one any more
-last_page_settles : ArePagesAgain → (before : List KeyValue) → let now = after after_dates before in
+last_page_settles : ArePagesAgain → (before : List KeyValue) → let now = after after_volumes before in
     led (last_page now) (first_of now (codes "rft.epage")) ≡ unchanged
 last_page_settles again before =
     let values = all_of before (codes "rft.epage") in
     let pages = all_of before (codes "rft.pages") in
     let firsts = all_of before (codes "rft.spage") in
     let next = taken before last_page_step in
-    let now = after after_dates before in
-    let own : all_of now (codes "rft.epage") ≡ values_after (led (last_among values (page_of last_in firsts)) (slice_get values 0)) values =
+    let now = after after_volumes before in
+    let own : all_of now (codes "rft.epage") ≡ values_after (led (last_among values (of_first last_in firsts)) (slice_get values 0)) values =
     same_after (first_page_step ∷ namings) next (codes "rft.epage") refl ∙ all_of-taken-own last_page_step before in
     let others : all_of now (codes "rft.spage") ≡ values_after (led (first_among pages firsts) (slice_get firsts 0)) firsts =
     same_after namings (taken next first_page_step) (codes "rft.spage") refl ∙ all_of-taken-own first_page_step next
     ∙ same_leading pages firsts (all_of next (codes "rft.pages")) (all_of next (codes "rft.spage"))
     (all_of-taken last_page_step before (codes "rft.pages") refl) (all_of-taken last_page_step before (codes "rft.spage") refl) in
-    subst (λ vs. led (last_among vs (page_of last_in (all_of now (codes "rft.spage")))) (slice_get vs 0) ≡ unchanged) (sym own)
-    (subst (λ vs. let led_values = values_after (led (last_among values (page_of last_in firsts)) (slice_get values 0)) values in
-    led (last_among led_values (page_of last_in vs)) (slice_get led_values 0) ≡ unchanged) (sym others)
+    subst (λ vs. led (last_among vs (of_first last_in (all_of now (codes "rft.spage")))) (slice_get vs 0) ≡ unchanged) (sym own)
+    (subst (λ vs. let led_values = values_after (led (last_among values (of_first last_in firsts)) (slice_get values 0)) values in
+    led (last_among led_values (of_first last_in vs)) (slice_get led_values 0) ≡ unchanged) (sym others)
     (last_settles again pages firsts values))
 
 first_page_settles : ArePagesAgain → (before : List KeyValue) → let now = after (first_page_step ∷ namings) before in
@@ -118,8 +148,9 @@ first_page_settles again before =
     (sym (same_after namings (taken before first_page_step) key refl ∙ all_of-taken-own first_page_step before))
     (led_settles (first_among pages) values (first_again again pages values)))
 
-settled_stages : AreFoundAgain → ArePagesAgain → AreIdentified → (pairs : List KeyValue) → IsSettled (after last_steps (after copies (with_versions pairs)))
-settled_stages laws pages identified pairs =
+settled_stages : AreFoundAgain → AreNumbersAgain → ArePagesAgain → AreIdentified → (pairs : List KeyValue)
+    → IsSettled (after last_steps (after copies (with_versions pairs)))
+settled_stages laws numbers pages identified pairs =
     let first = taken pairs (correction (codes "ctx_ver")) in
     let second = with_versions pairs in
     let copied_all = after copies second in
@@ -128,6 +159,7 @@ settled_stages laws pages identified pairs =
     let eissns = taken issns eissn_step in
     let isbns = taken eissns isbn_step in
     let dates = taken isbns date_step in
+    let placed = after volume_steps dates in
     record {
       context = version_settles (codes "ctx_ver") pairs (after last_steps copied_all)
           (same_after last_steps copied_all (codes "ctx_ver") refl ∙ same_after copies second (codes "ctx_ver") refl
@@ -140,11 +172,12 @@ settled_stages laws pages identified pairs =
       eissn = eissn_settles laws issns;
       isbn = isbn_settles laws eissns;
       date = date_is_settled laws isbns;
-      last_page = last_page_settles pages dates;
-      first_page = first_page_settles pages (taken dates last_page_step);
-      works = works_named identified (after page_steps dates);
+      volumes = volumes_are_settled numbers dates;
+      last_page = last_page_settles pages placed;
+      first_page = first_page_settles pages (taken placed last_page_step);
+      works = works_named identified (after page_steps placed);
     }
 
-pub read_once : AreFoundAgain → ArePagesAgain → AreIdentified → (pairs : List KeyValue) → normal_form (normal_form pairs) ≡ normal_form pairs
-read_once laws pages identified pairs =
-    settled_stays (normal_form pairs) (subst IsSettled (sym (normal_form-is pairs)) (settled_stages laws pages identified pairs))
+pub read_once : AreFoundAgain → AreNumbersAgain → ArePagesAgain → AreIdentified → (pairs : List KeyValue) → normal_form (normal_form pairs) ≡ normal_form pairs
+read_once laws numbers pages identified pairs =
+    settled_stays (normal_form pairs) (subst IsSettled (sym (normal_form-is pairs)) (settled_stages laws numbers pages identified pairs))

@@ -1,6 +1,6 @@
 -- Pairs that no step changes.
 use Rattle.std.proofs.Common.{◌≡◌, List, [], ◌∷◌, map, filter, false, Option, Some, None, refl, ap, ◌∙◌, inl, inr, ◌⊎◌}
-use Rattle.std.specs.Prelude.{codes}
+use Rattle.std.specs.Prelude.{codes, slice_get}
 use Rattle.std.specs.List.{All}
 use Rattle.std.proofs.lemmas.List.Elements.{All-head, All-tail}
 use Rattle.text_model.specs.Texts.{Text}
@@ -17,10 +17,12 @@ use Rattle.work_identifiers.specs.declared.namespace.Namespace.{Namespace}
 use Rattle.work_identifiers.specs.declared.namespace.Namespace.TheVariants.{Doi, Pmid, Oclc}
 use Rattle.openurl_reading.specs.Identifiers.{first_identifier, named, naming, namings}
 use Rattle.openurl_reading.specs.Pages.{first_page, last_page, first_page_step, last_page_step, page_steps}
+use Rattle.openurl_reading.specs.Volumes.{without_own, issue_after_volume, volume_before_issue, volume_among, issue_in}
+use Rattle.openurl_reading.specs.Volumes.{added_issue_step, volume_step, issue_step, volume_steps}
 use Rattle.openurl_reading.specs.Reading.{normal_form}
-use Rattle.openurl_reading.proofs.Firsts.{not_first}
+use Rattle.openurl_reading.proofs.Firsts.{not_first, of_first}
 use Rattle.openurl_reading.proofs.Others.{bytes_eq-same}
-use Rattle.openurl_reading.proofs.Stages.{after_dates, last_steps, with_versions, normal_form-is}
+use Rattle.openurl_reading.proofs.Stages.{after_dates, after_volumes, last_steps, with_versions, normal_form-is}
 
 -- the change of the date leaves all values
 abbrev pub IsDateSettled : Change → List Text → Type 0
@@ -29,6 +31,12 @@ IsDateSettled change values = (change ≡ unchanged) ⊎ ((change ≡ replacing 
 -- the first identifier of the namespace has its URI in `rft_id`, if there is one
 abbrev pub IsNamed : List KeyValue → Namespace → Type 0
 IsNamed pairs namespace = named namespace (first_identifier namespace pairs) (all_of pairs (codes "rft_id")) ≡ unchanged
+
+-- the values of issues and of volumes stay
+pub record AreVolumesSettled (issues volumes : List Text) : Type 0 where
+  pub added : led (without_own issues (of_first issue_after_volume volumes)) (slice_get issues 0) ≡ unchanged
+  pub volume : led (volume_among volumes (of_first volume_before_issue issues)) (slice_get volumes 0) ≡ unchanged
+  pub issue : led (of_first (issue_in (slice_get volumes 0)) issues) (slice_get issues 0) ≡ unchanged
 
 pub record IsSettled (pairs : List KeyValue) : Type 0 where
   pub context : is_other_version (first_of pairs (codes "ctx_ver")) ≡ false
@@ -39,6 +47,7 @@ pub record IsSettled (pairs : List KeyValue) : Type 0 where
   pub eissn : led (first_eissn pairs) (first_of pairs (codes "rft.eissn")) ≡ unchanged
   pub isbn : led (first_isbn pairs) (first_of pairs (codes "rft.isbn")) ≡ unchanged
   pub date : IsDateSettled (led_or_none (first_date date_keys pairs) (first_of pairs (codes "rft.date"))) (all_of pairs (codes "rft.date"))
+  pub volumes : AreVolumesSettled (all_of pairs (codes "rft.issue")) (all_of pairs (codes "rft.volume"))
   pub last_page : led (last_page pairs) (first_of pairs (codes "rft.epage")) ≡ unchanged
   pub first_page : led (first_page pairs) (first_of pairs (codes "rft.spage")) ≡ unchanged
   pub works : (namespace : Namespace) → IsNamed pairs namespace
@@ -87,6 +96,11 @@ works-stay pairs is =
     ap (after (naming Pmid ∷ naming Doi ∷ [])) (stays-unchanged (naming Oclc) pairs (is.works Oclc))
     ∙ ap (after (naming Doi ∷ [])) (stays-unchanged (naming Pmid) pairs (is.works Pmid)) ∙ stays-unchanged (naming Doi) pairs (is.works Doi)
 
+volumes-stay : (pairs : List KeyValue) → IsSettled pairs → after volume_steps pairs ≡ pairs
+volumes-stay pairs is =
+    ap (after (volume_step ∷ issue_step ∷ [])) (stays-unchanged added_issue_step pairs is.volumes.added)
+    ∙ ap (after (issue_step ∷ [])) (stays-unchanged volume_step pairs is.volumes.volume) ∙ stays-unchanged issue_step pairs is.volumes.issue
+
 pages-stay : (pairs : List KeyValue) → IsSettled pairs → after page_steps pairs ≡ pairs
 pages-stay pairs is =
     ap (after (first_page_step ∷ [])) (stays-unchanged last_page_step pairs is.last_page) ∙ stays-unchanged first_page_step pairs is.first_page
@@ -98,6 +112,7 @@ last-stay pairs is =
     ∙ ap (after (isbn_step ∷ date_step ∷ after_dates)) (stays-unchanged eissn_step pairs is.eissn)
     ∙ ap (after (date_step ∷ after_dates)) (stays-unchanged isbn_step pairs is.isbn)
     ∙ ap (after after_dates) (date-stays pairs is)
+    ∙ ap (after after_volumes) (volumes-stay pairs is)
     ∙ ap (after namings) (pages-stay pairs is)
     ∙ works-stay pairs is
 

@@ -20,10 +20,12 @@ use Rattle.work_identifiers.specs.declared.namespace.Namespace.TheVariants.{Doi,
 use Rattle.work_identifiers.specs.Forms.{IsIdentifier}
 use Rattle.openurl_reading.specs.Identifiers.{first_under, first_identifier, uri_of, naming, namings}
 use Rattle.openurl_reading.specs.Pages.{first_page, last_page, first_page_step, last_page_step, page_steps}
+use Rattle.openurl_reading.specs.Volumes.{added_issue, volume, issue, added_issue_step, volume_step, issue_step, volume_steps}
 use Rattle.openurl_reading.specs.Reading.{normal_form, added, issns_of, second_issn, with_derived}
 use Rattle.openurl_reading.proofs.FoundAre.{AreFound}
 use Rattle.openurl_reading.proofs.Identified.{AreIdentified, under_is, first_is, of_is}
 use Rattle.openurl_reading.proofs.KeysSettle.{all_apart, same_after}
+use Rattle.openurl_reading.proofs.VolumeLaws.{AreFoundNumbers, added_issue_is, found_volume_is, found_issue_is}
 use Rattle.openurl_reading.proofs.PagesFound.{ArePagesShort, first_page_is, last_page_is}
 use Rattle.openurl_reading.proofs.Stages.{after_dates, last_steps, with_versions, normal_form-is}
 use Rattle.openurl_reading.proofs.Totals.{total, total_taken, filled_weighs, led_weighs, named_weighs, shares-le, olds, copies_weigh}
@@ -94,6 +96,24 @@ namings_weigh g m u light pairs =
       naming_weighs g m u light Doi (taken first (naming Pmid)),
     )
 
+-- ---- volume and issue
+
+volumes_weigh : (g : Text → ℕ) (r : ℕ) → AreFoundNumbers (λ t. g t ≤ r) → (pairs : List KeyValue)
+    → total g (after volume_steps pairs) ≤ 3 * r + total g pairs
+volumes_weigh g r light pairs =
+    let P : Text → Type 0 = λ t. g t ≤ r in
+    let first = taken pairs added_issue_step in
+    let second = taken first volume_step in
+    omega (
+      arith,
+      total_taken g added_issue_step pairs,
+      led_weighs g r (added_issue pairs) (first_of pairs (codes "rft.issue")) (added_issue_is P light pairs),
+      total_taken g volume_step first,
+      led_weighs g r (volume first) (first_of first (codes "rft.volume")) (found_volume_is P light first),
+      total_taken g issue_step second,
+      led_weighs g r (issue second) (first_of second (codes "rft.issue")) (found_issue_is P light second),
+    )
+
 -- ---- pages
 
 -- the greatest weight of a first page, and of a last one
@@ -120,12 +140,14 @@ pages_weigh g p q light pairs =
 
 -- ---- all
 
-last_weigh : (g : Text → ℕ) (m p q : ℕ) (u : Namespace → ℕ) → AreLight g m u → ArePagesLight g p q → (pairs : List KeyValue)
-    → total g (after (issn_step ∷ eissn_step ∷ isbn_step ∷ date_step ∷ after_dates) pairs) ≤ 4 * m + p + q + all_three u + total g pairs
-last_weigh g m p q u light pages pairs =
+last_weigh : (g : Text → ℕ) (m r p q : ℕ) (u : Namespace → ℕ) → AreLight g m u → AreFoundNumbers (λ t. g t ≤ r) → ArePagesLight g p q → (pairs : List KeyValue)
+    → total g (after (issn_step ∷ eissn_step ∷ isbn_step ∷ date_step ∷ after_dates) pairs) ≤ 4 * m + 3 * r + p + q + all_three u + total g pairs
+last_weigh g m r p q u light numbers pages pairs =
     let issns = taken pairs issn_step in
     let eissns = taken issns eissn_step in
     let isbns = taken eissns isbn_step in
+    let dates = taken isbns date_step in
+    let placed = after volume_steps dates in
     omega (
       arith,
       total_taken g issn_step pairs,
@@ -136,8 +158,9 @@ last_weigh g m p q u light pages pairs =
       led_weighs g m (first_isbn eissns) (first_of eissns (codes "rft.isbn")) (light.found.isbn eissns),
       total_taken g date_step isbns,
       date_weighs (first_date date_keys isbns) (first_of isbns (codes "rft.date")) (light.found.date isbns),
-      pages_weigh g p q pages (taken isbns date_step),
-      namings_weigh g m u light (after page_steps (taken isbns date_step)),
+      volumes_weigh g r numbers dates,
+      pages_weigh g p q pages placed,
+      namings_weigh g m u light (after page_steps placed),
     )
   where
     date_weighs : (found first : Option Text) → ((n : Text) → found ≡ Some n → g n ≤ m) → sum_by g (led_or_none found first).values ≤ m
@@ -180,17 +203,18 @@ derived_weigh g m u light pairs =
         (λ n e. light.identifier namespace n (under_is (IsIdentifier namespace) namespace (of_is light.identified namespace) pairs (codes "rft_id") n e))
 
 -- twice the request, and some numbers, dates and identifiers
-pub reading_weighs : (g : Text → ℕ) (m p q : ℕ) (u : Namespace → ℕ) → AreLight g m u → ArePagesLight g p q → (pairs : List KeyValue)
-    → total g (with_derived (normal_form pairs)) ≤ 2 * total g pairs + 12 * m + p + q + 2 * all_three u
-reading_weighs g m p q u light pages pairs =
+pub reading_weighs : (g : Text → ℕ) (m r p q : ℕ) (u : Namespace → ℕ) → AreLight g m u → AreFoundNumbers (λ t. g t ≤ r) → ArePagesLight g p q
+    → (pairs : List KeyValue)
+    → total g (with_derived (normal_form pairs)) ≤ 2 * total g pairs + 12 * m + 3 * r + p + q + 2 * all_three u
+reading_weighs g m r p q u light numbers pages pairs =
     let first = taken pairs (correction (codes "ctx_ver")) in
     let second = with_versions pairs in
     let named = taken (after copies second) referrer_step in
-    subst (λ normal. total g (with_derived normal) ≤ 2 * total g pairs + 12 * m + p + q + 2 * all_three u) (sym (normal_form-is pairs))
+    subst (λ normal. total g (with_derived normal) ≤ 2 * total g pairs + 12 * m + 3 * r + p + q + 2 * all_three u) (sym (normal_form-is pairs))
     (omega (
       arith,
       derived_weigh g m u light (after last_steps (after copies second)),
-      last_weigh g m p q u light pages named,
+      last_weigh g m r p q u light numbers pages named,
       keys_weigh g m u light second,
       version_weighs g m u light (codes "url_ver") first,
       version_weighs g m u light (codes "ctx_ver") pairs,

@@ -11,11 +11,15 @@ use Rattle.openurl_reading.specs.Numbers.{issn_step, eissn_step, isbn_step}
 use Rattle.openurl_reading.specs.Dates.{date_step}
 use Rattle.openurl_reading.specs.Identifiers.{namings}
 use Rattle.openurl_reading.specs.Pages.{page_steps}
+use Rattle.openurl_reading.specs.Volumes.{volume_steps}
 use Rattle.openurl_reading.specs.Reading.{steps, normal_form}
 
--- those after the date
+-- those after volume and issue, and those after the date
+abbrev pub after_volumes : List Step
+after_volumes = page_steps ++ namings
+
 abbrev pub after_dates : List Step
-after_dates = page_steps ++ namings
+after_dates = volume_steps ++ after_volumes
 
 abbrev pub last_steps : List Step
 last_steps = referrer_step ∷ issn_step ∷ eissn_step ∷ isbn_step ∷ date_step ∷ after_dates

@@ -8,10 +8,12 @@ use Rattle.publication_dates.specs.Forms.{IsDate}
 use Rattle.work_identifiers.specs.declared.namespace.Namespace.{Namespace}
 use Rattle.work_identifiers.specs.Forms.{IsIdentifier}
 use Rattle.work_identifiers.specs.Places.{identifier_in}
+use Rattle.article_places.specs.Enumerations.{alone, short_supplement}
 use Rattle.article_places.specs.Pages.{only}
 use Rattle.openurl_reading.specs.OldKeys.{old_keys}
 use Rattle.openurl_reading.specs.Identifiers.{identifier_of, source_keys, uri_of}
 use Rattle.openurl_reading.specs.Pages.{read_pages}
+use Rattle.openurl_reading.specs.Volumes.{read_numbers}
 
 -- no pair has the key
 abbrev pub Lacks : List KeyValue → Text → Type 0
@@ -41,6 +43,13 @@ HasNoIdentifier key value = (namespace : Namespace) → identifier_of namespace 
 abbrev pub other_keys : List Text
 other_keys = codes "sid" ∷ codes "date" ∷ codes "year" ∷ codes "rft.year" ∷ codes "rft.eisbn" ∷ []
 
+-- the designation of a volume or an issue: a number alone, a supplement as PubMed writes it, or something else, such as `Spring`
+pub data IsDesignation : Text → Type 0 where
+  is_number : (value : Text) → read_numbers value ≡ Some (alone value) → IsDesignation value
+  is_supplement : (mark : Text) → read_numbers (short_supplement mark) ≡ Some (record { first = None; issue = None; supplement = Some mark })
+      → IsDesignation (short_supplement mark)
+  other_designation : (value : Text) → read_numbers value ≡ None → IsDesignation value
+
 -- a page alone, or none that is found, such as `C-12` of a section
 abbrev pub IsPage : Text → Type 0
 IsPage value = (read_pages value ≡ Some (only value)) ⊎ (read_pages value ≡ None)
@@ -62,6 +71,8 @@ pub record IsCanonical (pairs : List KeyValue) : Type 0 where
   pub eissns : Under pairs (codes "rft.eissn") IsSureIssn
   pub isbns : Under pairs (codes "rft.isbn") IsIsbn
   pub dates : Under pairs (codes "rft.date") IsDate
+  pub volumes : Under pairs (codes "rft.volume") IsDesignation
+  pub issues : Under pairs (codes "rft.issue") IsDesignation
   pub spages : Under pairs (codes "rft.spage") IsPage
   pub epages : Under pairs (codes "rft.epage") IsPage
   pub pages : ArePagesApart pairs

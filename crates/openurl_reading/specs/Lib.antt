@@ -6,6 +6,7 @@ pub mod OldKeys
 pub mod Referrers
 pub mod Numbers
 pub mod Dates
+pub mod Volumes
 pub mod Pages
 pub mod Identifiers
 pub mod Reading

@@ -1,10 +1,11 @@
 -- Where the values of a reading come from.
-use Rattle.std.specs.Prelude.{◌≡◌, List, Some, map, Contains}
+use Rattle.std.specs.Prelude.{◌≡◌, ◌⊎◌, List, ◌∷◌, ◌++◌, Some, map, Contains}
 use Rattle.text_model.specs.Texts.{Text}
 use Rattle.kev_read.specs.Pairs.{KeyValue}
 use Rattle.standard_numbers.specs.Issn.{issns_in}
 use Rattle.standard_numbers.specs.Isbn.{isbns_in}
 use Rattle.publication_dates.specs.Dates.{date_in}
+use Rattle.article_places.specs.Enumerations.{Numbers, numbers_in, short_supplement}
 use Rattle.work_identifiers.specs.declared.namespace.Namespace.{Namespace}
 use Rattle.openurl_reading.specs.Identifiers.{identifier_of, uri_of}
 use Rattle.openurl_reading.specs.Pages.{first_in, last_in}
@@ -15,6 +16,10 @@ use Rattle.openurl_reading.specs.Referrers.{referrer_of}
 abbrev pub all_values : List KeyValue → List Text
 all_values pairs = map (λ pair. pair.value) pairs
 
+-- the first number, or that of the issue
+abbrev pub IsNumberOf : Numbers → Text → Type 0
+IsNumberOf n number = (n.first ≡ Some number) ⊎ (n.issue ≡ Some number)
+
 -- a value of the request, the version, or what is read in one value of the request
 pub data HasOrigin (sent : List Text) : Text → Type 0 where
   from_request : (value : Text) → Contains sent value → HasOrigin sent value
@@ -23,6 +28,11 @@ pub data HasOrigin (sent : List Text) : Text → Type 0 where
   issn_in : (value issn : Text) → Contains sent value → Contains (issns_in (searched value)) issn → HasOrigin sent issn
   isbn_in : (value isbn : Text) → Contains sent value → Contains (isbns_in (searched value)) isbn → HasOrigin sent isbn
   date_of : (value date : Text) → Contains sent value → date_in (searched value) ≡ Some date → HasOrigin sent date
+  number_in : (value number : Text) (n : Numbers) → Contains sent value → numbers_in value ≡ Some n → IsNumberOf n number → HasOrigin sent number
+  supplement_in : (value mark : Text) (n : Numbers) → Contains sent value → numbers_in value ≡ Some n → n.supplement ≡ Some mark
+      → HasOrigin sent (short_supplement mark)
+  supplement_of_issue : (value number mark : Text) (n : Numbers) → Contains sent value → numbers_in value ≡ Some n → IsNumberOf n number
+      → n.supplement ≡ Some mark → HasOrigin sent (number ++ 0x20 ∷ short_supplement mark)
   page_in : (value page : Text) → Contains sent value → first_in value ≡ Some page → HasOrigin sent page
   last_page_in : (value page : Text) → Contains sent value → last_in value ≡ Some page → HasOrigin sent page
   identifier_in_value : (namespace : Namespace) (key value identifier : Text) → Contains sent value

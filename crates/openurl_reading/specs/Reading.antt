@@ -12,9 +12,10 @@ use Rattle.openurl_reading.specs.Numbers.{issns_under, first_number, other_than,
 use Rattle.openurl_reading.specs.Dates.{date_step}
 use Rattle.openurl_reading.specs.Identifiers.{first_under, namings}
 use Rattle.openurl_reading.specs.Pages.{page_steps}
+use Rattle.openurl_reading.specs.Volumes.{volume_steps}
 
 unfoldable pub steps : List Step
-steps = versions ++ copies ++ referrer_step ∷ issn_step ∷ eissn_step ∷ isbn_step ∷ date_step ∷ page_steps ++ namings
+steps = versions ++ copies ++ referrer_step ∷ issn_step ∷ eissn_step ∷ isbn_step ∷ date_step ∷ volume_steps ++ page_steps ++ namings
 
 -- the pairs of OpenURL 1.0
 abbrev pub normal_form : List KeyValue → List KeyValue

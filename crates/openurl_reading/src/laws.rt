@@ -9,7 +9,9 @@ ghost use Rattle.openurl_reading.specs.Origins.{HasOrigin, all_values};
 ghost use Rattle.openurl_reading.specs.Reading.{derived, normal_form, reading_of, with_derived};
 ghost use Rattle.openurl_reading.specs.Steps.{Step, others, taken};
 
-use article_places::laws::{pages_are_parts, pages_stay, parts_are_short};
+use article_places::laws::{
+    numbers_are_parts, numbers_stay, pages_are_parts, pages_stay, parts_are_short, supplements_stay,
+};
 use publication_dates::laws::{dates_are_read, dates_stay};
 use standard_numbers::laws::{
     isbns_are_isbns, isbns_stay, issns_are_found_alone, issns_are_issns, issns_stay,
@@ -57,6 +59,9 @@ pub fn readings_are_read_as_they_are()
     isbns_stay();
     dates_are_read();
     dates_stay();
+    numbers_are_parts();
+    numbers_stay();
+    supplements_stay();
     pages_are_parts();
     pages_stay();
     parts_are_short();
@@ -76,6 +81,9 @@ pub fn nothing_is_invented()
     isbns_stay();
     dates_are_read();
     dates_stay();
+    numbers_are_parts();
+    numbers_stay();
+    supplements_stay();
     pages_are_parts();
     pages_stay();
     parts_are_short();
@@ -87,14 +95,17 @@ pub fn nothing_is_invented()
 /// A reading has at most twice the pairs that count, of which there are at most 300, and twice the bytes of the values
 /// of the request, and what the resolver adds.
 pub fn readings_are_bounded()
-    ensures few { (pairs : List KeyValue) → length (reading_of pairs).pairs ≤ 2 * length (counting pairs) + 20 }
+    ensures few { (pairs : List KeyValue) → length (reading_of pairs).pairs ≤ 2 * length (counting pairs) + 23 }
     ensures counting { (pairs : List KeyValue) → length (counting pairs) ≤ most_pairs }
     ensures bytes { (pairs : List KeyValue)
-        → value_bytes (reading_of pairs).pairs ≤ 2 * value_bytes pairs + 1862 }
+        → value_bytes (reading_of pairs).pairs ≤ 2 * value_bytes pairs + 3083 }
 {
     issns_are_issns();
     isbns_are_isbns();
     dates_are_read();
+    numbers_are_parts();
+    numbers_stay();
+    supplements_stay();
     pages_are_parts();
     parts_are_short();
     identifiers_are_identifiers();

@@ -29,6 +29,7 @@ mod reading;
 mod referrer;
 mod searched;
 mod versions;
+mod volumes;
 
 pub use kev_read::KevError;
 pub use pairs::Pairs;

@@ -11,6 +11,7 @@ use crate::pages::lead_pages;
 use crate::pairs::Pairs;
 use crate::referrer::name_referrer;
 use crate::versions::correct;
+use crate::volumes::lead_volumes;
 use std::alloc::{AllocError, Global};
 
 /// The pairs after all steps.
@@ -25,6 +26,7 @@ pub(crate) fn normal_form(alloc: Global, pairs: Pairs) -> Result<Pairs, AllocErr
     let pairs = lead_eissn(alloc, pairs)?;
     let pairs = lead_isbn(alloc, pairs)?;
     let pairs = lead_date(alloc, pairs)?;
+    let pairs = lead_volumes(alloc, pairs)?;
     let pairs = lead_pages(alloc, pairs)?;
     let pairs = name_works(alloc, pairs)?;
     Ok(pairs)

@@ -23,6 +23,8 @@ mod queries;
 #[cfg(test)]
 mod request_pages;
 #[cfg(test)]
+mod request_volumes;
+#[cfg(test)]
 mod requests;
 #[cfg(test)]
 mod shared;

@@ -24,7 +24,7 @@ const UNDER_PAGES: [Case; 9] = [
     ("rft.pages=n/a", &[("rft.spage", ""), ("rft.epage", "")]),
 ];
 
-const FIRST_PAGES: [Case; 16] = [
+const FIRST_PAGES: [Case; 17] = [
     ("rft.spage=45", &[("rft.spage", "45"), ("rft.epage", "")]),
     (
         "rft.spage=2344-2355",
@@ -66,6 +66,10 @@ const FIRST_PAGES: [Case; 16] = [
     ("rft.spage=45-3", &[("rft.spage", "45"), ("rft.epage", "")]),
     ("rft.spage=45;+discussion+68", &[("rft.spage", "45")]),
     ("rft.spage=CD004567", &[("rft.spage", "CD004567")]),
+    (
+        "rft.spage=12%E2%80%9315",
+        &[("rft.spage", "12"), ("rft.epage", "")],
+    ),
     ("rft.spage=C-12", &[("rft.spage", "C-12")]),
     ("rft.spage=xiiz", &[("rft.spage", "xiiz")]),
     (
@@ -102,7 +106,7 @@ fn pages_lead_their_keys(rt: HostRuntime) -> Result<(), Fail> {
     Ok(())
 }
 
-/// The first page of a request whose value for it is `45-67` and spaces.
+/// How long the first page of a request is whose value for it is `45-67` and spaces.
 fn page_of_long_value(alloc: Global, spaces: usize) -> Result<usize, Fail> {
     let mut query = String::from_str(alloc, "rft.spage=45-67")?;
     for _ in 0..spaces {

@@ -1,4 +1,4 @@
-use Rattle.article_places.proofs.WrittenNumbers.{supplement_stays, supplement_stays_after}
+use Rattle.article_places.proofs.SupplementStays.{supplement_stays, supplement_stays_after}
 use Rattle.article_places.proofs.laws.supplements_stay.Goals as goal
 
 pub returns-clause-alone : goal.returns-clause-alone

@@ -23,6 +23,8 @@ returns-clause-steps c pairs is =
       eissns = λ k d h. let one = is.eissns k d h in issn_kept c.issns_stay.ensures _ one.0 one.1;
       isbns = λ k d h. isbn_kept c.isbns_stay.ensures _ (is.isbns k d h);
       dates = λ k d h. date_kept c.dates_stay.ensures _ (is.dates k d h);
+      volumes = is.volumes;
+      issues = is.issues;
       spages = is.spages;
       epages = is.epages;
       pages = is.pages;

@@ -7,6 +7,8 @@ use Rattle.openurl_reading.proofs.Identified.{identified}
 use Rattle.openurl_reading.proofs.IdentifierForms.{longest_uri, uri_short, identifier_short}
 use Rattle.openurl_reading.proofs.LowerLaws.{found_short}
 use Rattle.openurl_reading.proofs.PagesFound.{pages_short}
+use Rattle.openurl_reading.proofs.VolumeForms.{numbers_short}
+use Rattle.openurl_reading.proofs.VolumeLaws.{NumberLaws, AreFoundNumbers}
 use Rattle.openurl_reading.proofs.Sizes.{AreLight, ArePagesLight, pages_light, reading_weighs, counting_weighs, total-one, source_short}
 use Rattle.openurl_reading.proofs.laws.readings_are_bounded.Goals as goal
 
@@ -28,7 +30,17 @@ returns-clause-few c pairs =
       uri = λ namespace n is. omega arith;
     } in
     let pages : ArePagesLight (λ n. 1) 1 1 = record { first = λ pairs n e. omega arith; last = λ pairs n e. omega arith } in
-    omega (arith, reading_weighs (λ n. 1) 1 1 1 (λ namespace. 1) light pages counted, total-one counted, total-one (with_derived (normal_form counted)))
+    let numbers : AreFoundNumbers (λ n. 1 ≤ 1) = λ value. record {
+      number = λ number n e is. omega arith;
+      supplement = λ mark n e f. omega arith;
+      both = λ number mark n e is f. omega arith;
+    } in
+    omega (
+      arith,
+      reading_weighs (λ n. 1) 1 1 1 1 (λ namespace. 1) light numbers pages counted,
+      total-one counted,
+      total-one (with_derived (normal_form counted)),
+    )
 
 pub returns-clause-counting : goal.returns-clause-counting
 returns-clause-counting c pairs = omega (arith, length-take most_pairs (accepted pairs))
@@ -48,4 +60,14 @@ returns-clause-bytes c pairs =
     let short = pages_short c.pages_are_parts.ensures.first c.pages_are_parts.ensures.last c.parts_are_short.ensures.part
     c.parts_are_short.ensures.last in
     let pages : ArePagesLight (λ n. length n) 200 400 = pages_light short in
-    omega (arith, reading_weighs (λ n. length n) 13 200 400 longest_uri light pages counted, counting_weighs (λ n. length n) pairs)
+    let numbers = numbers_short (record {
+      short = c.parts_are_short.ensures.part;
+      first_part = c.numbers_are_parts.ensures.first;
+      issue_part = c.numbers_are_parts.ensures.issue;
+      supplement_part = c.numbers_are_parts.ensures.supplement;
+      first_alone = c.numbers_stay.ensures.first;
+      issue_alone = c.numbers_stay.ensures.issue;
+      supplement_alone = c.supplements_stay.ensures.alone;
+      after_number = c.supplements_stay.ensures.after_number;
+    }) in
+    omega (arith, reading_weighs (λ n. length n) 13 407 200 400 longest_uri light numbers pages counted, counting_weighs (λ n. length n) pairs)

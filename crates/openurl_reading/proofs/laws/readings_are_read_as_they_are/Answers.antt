@@ -4,6 +4,8 @@ use Rattle.openurl_reading.proofs.Identified.{identified}
 use Rattle.openurl_reading.proofs.IdentifierForms.{BeginsWithDigit}
 use Rattle.openurl_reading.proofs.LowerLaws.{found_again, found_digits}
 use Rattle.openurl_reading.proofs.PagesFound.{pages_again, pages_not_blank}
+use Rattle.openurl_reading.proofs.VolumeForms.{numbers_not_blank}
+use Rattle.openurl_reading.proofs.VolumeLaws.{NumberLaws, numbers_again}
 use Rattle.openurl_reading.proofs.ReadOnce.{read_once}
 use Rattle.openurl_reading.proofs.laws.readings_are_read_as_they_are.Goals as goal
 
@@ -12,6 +14,16 @@ returns-clause-steps c =
     read_once
     (found_again c.issns_are_issns.ensures c.issns_are_found_alone.ensures c.isbns_are_isbns.ensures c.isbns_stay.ensures
     c.dates_are_read.ensures c.dates_stay.ensures)
+    (numbers_again (record {
+      short = c.parts_are_short.ensures.part;
+      first_part = c.numbers_are_parts.ensures.first;
+      issue_part = c.numbers_are_parts.ensures.issue;
+      supplement_part = c.numbers_are_parts.ensures.supplement;
+      first_alone = c.numbers_stay.ensures.first;
+      issue_alone = c.numbers_stay.ensures.issue;
+      supplement_alone = c.supplements_stay.ensures.alone;
+      after_number = c.supplements_stay.ensures.after_number;
+    }))
     (pages_again c.pages_are_parts.ensures.first c.parts_are_short.ensures.part c.pages_stay.ensures.first c.pages_stay.ensures.last)
     (identified c.identifiers_are_identifiers.ensures.named c.identifiers_are_identifiers.ensures.alone c.identifiers_stay.ensures.named
     c.uris_have_one_namespace.ensures)
@@ -22,4 +34,14 @@ returns-clause-reading c pairs few =
     c.uris_have_one_namespace.ensures)
     (returns-clause-steps c)
     (found_are BeginsWithDigit (found_digits c.issns_are_issns.ensures c.isbns_are_isbns.ensures c.dates_are_read.ensures))
+    (numbers_not_blank (record {
+      short = c.parts_are_short.ensures.part;
+      first_part = c.numbers_are_parts.ensures.first;
+      issue_part = c.numbers_are_parts.ensures.issue;
+      supplement_part = c.numbers_are_parts.ensures.supplement;
+      first_alone = c.numbers_stay.ensures.first;
+      issue_alone = c.numbers_stay.ensures.issue;
+      supplement_alone = c.supplements_stay.ensures.alone;
+      after_number = c.supplements_stay.ensures.after_number;
+    }))
     (pages_not_blank c.pages_stay.ensures.first c.pages_stay.ensures.last) pairs few

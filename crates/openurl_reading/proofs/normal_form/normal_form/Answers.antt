@@ -8,6 +8,7 @@ use Rattle.openurl_reading.specs.Numbers.{issn_step, eissn_step, isbn_step}
 use Rattle.openurl_reading.specs.Dates.{date_step}
 use Rattle.openurl_reading.specs.Identifiers.{namings}
 use Rattle.openurl_reading.specs.Pages.{page_steps}
+use Rattle.openurl_reading.specs.Volumes.{volume_steps}
 use Rattle.openurl_reading.specs.Reading.{normal_form}
 use Rattle.openurl_reading.proofs.Stages.{last_steps, normal_form-is}
 use Rattle.openurl_reading.proofs.normal_form.normal_form.Goals as goal
@@ -20,11 +21,12 @@ in_order pairs context transport copied after_all a b c d =
 
 pub returns : goal.returns
 returns c =
-    let last = c.in_ok-pairs-10.ensures
-    ∙ ap (after namings) (c.in_ok-pairs-9.ensures
-    ∙ ap (after page_steps) (c.in_ok-pairs-8.ensures
+    let last = c.in_ok-pairs-11.ensures
+    ∙ ap (after namings) (c.in_ok-pairs-10.ensures
+    ∙ ap (after page_steps) (c.in_ok-pairs-9.ensures
+    ∙ ap (after volume_steps) (c.in_ok-pairs-8.ensures
     ∙ ap (λ p. taken p date_step) (c.in_ok-pairs-7.ensures
     ∙ ap (λ p. taken p isbn_step) (c.in_ok-pairs-6.ensures
-    ∙ ap (λ p. taken p eissn_step) (c.in_ok-pairs-5.ensures ∙ ap (λ p. taken p issn_step) c.in_ok-pairs-4.ensures))))) in
-    in_order c.args.pairs c.in_ok-pairs.pairs c.in_ok-pairs-2.pairs c.in_ok-pairs-3.pairs c.in_ok-pairs-10.pairs
+    ∙ ap (λ p. taken p eissn_step) (c.in_ok-pairs-5.ensures ∙ ap (λ p. taken p issn_step) c.in_ok-pairs-4.ensures)))))) in
+    in_order c.args.pairs c.in_ok-pairs.pairs c.in_ok-pairs-2.pairs c.in_ok-pairs-3.pairs c.in_ok-pairs-11.pairs
     c.in_ok-pairs.ensures c.in_ok-pairs-2.ensures c.in_ok-pairs-3.ensures last

@@ -1,0 +1,173 @@
+-- What steps read, and what they write, has an origin.
+use Rattle.std.proofs.Common.{◌≡◌, List, [], ◌∷◌, map, take, Bool, true, false, cond, not, Option, Some, None, refl, sym, subst, get_or, lit<}
+use Rattle.std.specs.Prelude.{codes, Contains}
+use Rattle.std.specs.List.{All, list_all}
+use Rattle.std.specs.Str.{bytes_eq}
+use Rattle.std.proofs.lemmas.List.Elements.{All-take, All-map}
+use Rattle.text_model.specs.Texts.{Text}
+use Rattle.kev_read.specs.Pairs.{KeyValue, all_of, first_of}
+use Rattle.kev_read.specs.Refusal.{is_other_version}
+use Rattle.openurl_reading.specs.Steps.{Step, unchanged, replacing, taken, after}
+use Rattle.openurl_reading.specs.Values.{most_values}
+use Rattle.openurl_reading.specs.Versions.{version, correction}
+use Rattle.openurl_reading.specs.OldKeys.{OldKey, copy}
+use Rattle.openurl_reading.specs.Referrers.{referrer_of, referrer_step}
+use Rattle.openurl_reading.specs.Numbers.{first_issn, first_eissn, first_isbn, issn_step, eissn_step, isbn_step}
+use Rattle.openurl_reading.specs.Dates.{date_keys, first_date, led_or_none, date_step}
+use Rattle.openurl_reading.specs.Origins.{HasOrigin, version_of_openurl, source_in}
+use Rattle.openurl_reading.proofs.Each.{none_has, one_has, each_taken, each_of_key, each_filled, each_led}
+use Rattle.openurl_reading.proofs.FoundAgain.{AreFoundAgain, issn_among_again, eissn_among_again, isbn_among_again}
+use Rattle.openurl_reading.proofs.KeysSettle.{same_after}
+use Rattle.openurl_reading.proofs.Origins.{number_keys, no_number}
+use Rattle.openurl_reading.proofs.Origins.{GivesIssns, GivesIsbns, sent_gives_issns, sent_gives_isbns, issn_has, eissn_has, isbn_has}
+use Rattle.openurl_reading.proofs.Origins.{dates_have, led_gives_issns, led_gives_isbns}
+use Rattle.openurl_reading.proofs.Sent.{IsNoVersion, IsSent, sent_under}
+use Rattle.openurl_reading.proofs.Values.{all_of-taken, all_of-taken-own}
+
+abbrev pub HaveOrigin : List Text → List KeyValue → Type 0
+HaveOrigin sent pairs = All (λ pair. HasOrigin sent pair.value) pairs
+
+-- ---- a step whose values have an origin
+
+step_has : (sent : List Text) (step : Step) (pairs : List KeyValue) → All (HasOrigin sent) (step.change pairs).values → HaveOrigin sent pairs
+    → HaveOrigin sent (taken pairs step)
+step_has sent step pairs values all = each_taken (λ pair. HasOrigin sent pair.value) step pairs values all
+
+under_has : (sent : List Text) (pairs : List KeyValue) (key : Text) → HaveOrigin sent pairs → All (HasOrigin sent) (all_of pairs key)
+under_has sent pairs key all = each_of_key (λ pair. HasOrigin sent pair.value) (HasOrigin sent) key (λ pair h has. has) pairs all
+
+pub version_has : (sent : List Text) (key : Text) (pairs : List KeyValue) → HaveOrigin sent pairs → HaveOrigin sent (taken pairs (correction key))
+version_has sent key pairs all = step_has sent (correction key) pairs (by_test (is_other_version (first_of pairs key))) all
+  where
+    by_test : (b : Bool) → All (HasOrigin sent) (cond b (replacing (version ∷ [])) unchanged).values
+    by_test true = one_has (HasOrigin sent) version version_of_openurl
+    by_test false = none_has (HasOrigin sent)
+
+pub copies_have : (sent : List Text) (keys : List OldKey) (pairs : List KeyValue) → HaveOrigin sent pairs → HaveOrigin sent (after (map copy keys) pairs)
+copies_have sent [] pairs all = all
+copies_have sent (key ∷ keys) pairs all =
+    let values = all_of pairs key.old in
+    copies_have sent keys (taken pairs (copy key))
+    (step_has sent (copy key) pairs
+    (each_filled (HasOrigin sent) (take most_values values) (all_of pairs key.new)
+    (All-take (HasOrigin sent) most_values values (under_has sent pairs key.old all))) all)
+
+referrer_has : (sent : List Text) (pairs : List KeyValue) → All (IsSent sent) pairs → HaveOrigin sent pairs → HaveOrigin sent (taken pairs referrer_step)
+referrer_has sent pairs is all =
+    let sids = take 1 (all_of pairs (codes "sid")) in
+    let known = All-take (Contains sent) 1 (all_of pairs (codes "sid")) (sent_under sent pairs (codes "sid") (refl, refl) is) in
+    step_has sent referrer_step pairs
+    (each_filled (HasOrigin sent) (map referrer_of sids) (all_of pairs (codes "rfr_id"))
+    (All-map (HasOrigin sent) referrer_of sids (λ k d h. source_in (get_or sids k d) (known k d h)))) all
+
+date_values : (sent : List Text) (found first : Option Text) → ((n : Text) → found ≡ Some n → HasOrigin sent n)
+    → All (HasOrigin sent) (led_or_none found first).values
+date_values sent None first h = none_has (HasOrigin sent)
+date_values sent (Some d) first h = each_led (HasOrigin sent) (Some d) first h
+
+-- ---- what the steps after the old keys read
+
+-- the values of keys are those of the request, or numbers that were found in them
+pub record Reads (sent : List Text) (pairs : List KeyValue) : Type 0 where
+  pub issns : All (GivesIssns sent) (all_of pairs (codes "rft.issn"))
+  pub eissns : All (GivesIssns sent) (all_of pairs (codes "rft.eissn"))
+  pub isbns : All (GivesIsbns sent) (all_of pairs (codes "rft.isbn"))
+  pub eisbns : All (GivesIsbns sent) (all_of pairs (codes "rft.eisbn"))
+  pub all : HaveOrigin sent pairs
+
+give_issns : (sent values : List Text) → All (Contains sent) values → All (GivesIssns sent) values
+give_issns sent values all k d h = sent_gives_issns sent (get_or values k d) (all k d h)
+
+give_isbns : (sent values : List Text) → All (Contains sent) values → All (GivesIsbns sent) values
+give_isbns sent values all k d h = sent_gives_isbns sent (get_or values k d) (all k d h)
+
+-- a step of another key leaves what is read under a key
+kept_under : (P : Text → Type 0) (step : Step) (pairs : List KeyValue) (key : Text) → bytes_eq step.key key ≡ false → All P (all_of pairs key)
+    → All P (all_of (taken pairs step) key)
+kept_under P step pairs key h all = subst (All P) (sym (all_of-taken step pairs key h)) all
+
+-- what is read after a step, if it is known of the keys of numbers that steps write
+step_reads : (sent : List Text) (step : Step) (pairs : List KeyValue) → bytes_eq step.key (codes "rft.eisbn") ≡ false
+    → All (HasOrigin sent) (step.change pairs).values → Reads sent pairs → All (GivesIssns sent) (all_of (taken pairs step) (codes "rft.issn"))
+    → All (GivesIssns sent) (all_of (taken pairs step) (codes "rft.eissn")) → All (GivesIsbns sent) (all_of (taken pairs step) (codes "rft.isbn"))
+    → Reads sent (taken pairs step)
+step_reads sent step pairs apart values reads issns eissns isbns = record {
+  issns = issns;
+  eissns = eissns;
+  isbns = isbns;
+  eisbns = kept_under (GivesIsbns sent) step pairs (codes "rft.eisbn") apart reads.eisbns;
+  all = step_has sent step pairs values reads.all;
+}
+
+pub referrer_reads : (sent : List Text) (pairs : List KeyValue) → All (IsSent sent) pairs → HaveOrigin sent pairs → Reads sent (taken pairs referrer_step)
+referrer_reads sent pairs is all =
+    let under : (key : Text) → IsNoVersion key → All (Contains sent) (all_of pairs key) = λ key other. sent_under sent pairs key other is in
+    record {
+      issns = kept_under (GivesIssns sent) referrer_step pairs (codes "rft.issn") refl (give_issns sent _ (under (codes "rft.issn") (refl, refl)));
+      eissns = kept_under (GivesIssns sent) referrer_step pairs (codes "rft.eissn") refl (give_issns sent _ (under (codes "rft.eissn") (refl, refl)));
+      isbns = kept_under (GivesIsbns sent) referrer_step pairs (codes "rft.isbn") refl (give_isbns sent _ (under (codes "rft.isbn") (refl, refl)));
+      eisbns = kept_under (GivesIsbns sent) referrer_step pairs (codes "rft.eisbn") refl (give_isbns sent _ (under (codes "rft.eisbn") (refl, refl)));
+      all = referrer_has sent pairs is all;
+    }
+
+pub issn_reads : AreFoundAgain → (sent : List Text) (pairs : List KeyValue) → Reads sent pairs → Reads sent (taken pairs issn_step)
+issn_reads laws sent pairs reads =
+    let values = all_of pairs (codes "rft.issn") in
+    let first = first_of pairs (codes "rft.issn") in
+    let found = issn_has sent values reads.issns in
+    step_reads sent issn_step pairs refl (each_led (HasOrigin sent) (first_issn pairs) first found) reads
+    (subst (All (GivesIssns sent)) (sym (all_of-taken-own issn_step pairs))
+    (led_gives_issns sent (first_issn pairs) first values found (issn_among_again laws values) reads.issns))
+    (kept_under (GivesIssns sent) issn_step pairs (codes "rft.eissn") refl reads.eissns)
+    (kept_under (GivesIsbns sent) issn_step pairs (codes "rft.isbn") refl reads.isbns)
+
+pub eissn_reads : AreFoundAgain → (sent : List Text) (pairs : List KeyValue) → Reads sent pairs → Reads sent (taken pairs eissn_step)
+eissn_reads laws sent pairs reads =
+    let issns = all_of pairs (codes "rft.issn") in
+    let values = all_of pairs (codes "rft.eissn") in
+    let first = first_of pairs (codes "rft.eissn") in
+    let found = eissn_has sent issns values reads.issns reads.eissns in
+    step_reads sent eissn_step pairs refl (each_led (HasOrigin sent) (first_eissn pairs) first found) reads
+    (kept_under (GivesIssns sent) eissn_step pairs (codes "rft.issn") refl reads.issns)
+    (subst (All (GivesIssns sent)) (sym (all_of-taken-own eissn_step pairs))
+    (led_gives_issns sent (first_eissn pairs) first values found (eissn_among_again laws issns values) reads.eissns))
+    (kept_under (GivesIsbns sent) eissn_step pairs (codes "rft.isbn") refl reads.isbns)
+
+pub isbn_reads : AreFoundAgain → (sent : List Text) (pairs : List KeyValue) → Reads sent pairs → Reads sent (taken pairs isbn_step)
+isbn_reads laws sent pairs reads =
+    let others = all_of pairs (codes "rft.eisbn") in
+    let values = all_of pairs (codes "rft.isbn") in
+    let first = first_of pairs (codes "rft.isbn") in
+    let found = isbn_has sent others values reads.eisbns reads.isbns in
+    step_reads sent isbn_step pairs refl (each_led (HasOrigin sent) (first_isbn pairs) first found) reads
+    (kept_under (GivesIssns sent) isbn_step pairs (codes "rft.issn") refl reads.issns)
+    (kept_under (GivesIssns sent) isbn_step pairs (codes "rft.eissn") refl reads.eissns)
+    (subst (All (GivesIsbns sent)) (sym (all_of-taken-own isbn_step pairs))
+    (led_gives_isbns sent (first_isbn pairs) first values found (isbn_among_again laws others values) reads.isbns))
+
+-- the values of dates, before the numbers
+pub dates_under : (sent : List Text) (copied : List KeyValue) → All (IsSent sent) copied
+    → let pairs = after (referrer_step ∷ issn_step ∷ eissn_step ∷ isbn_step ∷ []) copied in
+    (n : Text) → first_date date_keys pairs ≡ Some n → HasOrigin sent n
+dates_under sent copied is =
+    let steps = referrer_step ∷ issn_step ∷ eissn_step ∷ isbn_step ∷ [] in
+    let under : (key : Text) → IsNoVersion key → list_all (λ step. not (bytes_eq step.key key)) steps ≡ true
+    → All (Contains sent) (all_of (after steps copied) key) =
+    λ key other h. subst (All (Contains sent)) (sym (same_after steps copied key h)) (sent_under sent copied key other is) in
+    dates_have sent _ _ _ _ (under (codes "rft.date") (refl, refl) refl) (under (codes "rft.year") (refl, refl) refl)
+    (under (codes "date") (refl, refl) refl) (under (codes "year") (refl, refl) refl)
+
+-- a step of another key
+pub other_reads : (sent : List Text) (step : Step) (pairs : List KeyValue) → All (λ key. bytes_eq step.key key ≡ false) number_keys
+    → All (HasOrigin sent) (step.change pairs).values → Reads sent pairs → Reads sent (taken pairs step)
+other_reads sent step pairs apart values reads =
+    step_reads sent step pairs (apart 3 [] (lit< tt)) values reads
+    (kept_under (GivesIssns sent) step pairs (codes "rft.issn") (apart 0 [] (lit< tt)) reads.issns)
+    (kept_under (GivesIssns sent) step pairs (codes "rft.eissn") (apart 1 [] (lit< tt)) reads.eissns)
+    (kept_under (GivesIsbns sent) step pairs (codes "rft.isbn") (apart 2 [] (lit< tt)) reads.isbns)
+
+pub date_reads : (sent : List Text) (pairs : List KeyValue) → ((n : Text) → first_date date_keys pairs ≡ Some n → HasOrigin sent n) → Reads sent pairs
+    → Reads sent (taken pairs date_step)
+date_reads sent pairs found reads =
+    other_reads sent date_step pairs (no_number (codes "rft.date") refl)
+    (date_values sent (first_date date_keys pairs) (first_of pairs (codes "rft.date")) found) reads
