@@ -2,8 +2,10 @@
 use Rattle.std.proofs.Common.{◌≡◌, ℕ, ◌-◌, ◌<◌, ◌≤◌, Bool, true, false, cond, ◌&&◌, ◌||◌, List, length, get_or, refl, sym, ◌∙◌, arith}
 use Rattle.std.specs.Prelude.{◌==◌, nat_le, nat_lt}
 use Rattle.std.specs.List.{list_all}
+use Rattle.std.proofs.lemmas.Bool.{ltb-true, ltb-false}
 use Rattle.std.proofs.lemmas.Bool.Decides.{nat_tests}
 use Rattle.std.proofs.lemmas.Grind.{common_steps}
+use Rattle.std.proofs.lemmas.List.{get_or_past}
 use Rattle.std.proofs.lemmas.List.Folds.{list_all_at}
 use Rattle.request_encodings.specs.declared.encoding.ByteEncoding.{ByteEncoding}
 use Rattle.request_encodings.specs.declared.encoding.ByteEncoding.TheVariants.{Windows1250, Windows1251, Windows1252, Iso8859_2, Iso8859_5}
@@ -47,10 +49,21 @@ entry_at encoding i within =
 chosen_small : (b e : ℕ) (low : Bool) → b < 0x100 → is_entry e ≡ true → cond (low || e == 0x20) b e < 0xd800
 chosen_small b e low byte entry = grind (arith, common_steps, nat_tests)
 
+-- past the table there is no byte
+chosen_past : (b e : ℕ) → 0x100 ≤ b → e ≡ 0 → cond (nat_lt b 0x80 || e == 0x20) b e < 0xd800
+chosen_past b e past zero = grind (arith, common_steps, nat_tests)
+
+small_of : (b e : ℕ) (is : Bool) → nat_lt b 0x100 ≡ is → (b < 0x100 → is_entry e ≡ true) → (0x100 ≤ b → e ≡ 0)
+    → cond (nat_lt b 0x80 || e == 0x20) b e < 0xd800
+small_of b e true h entry past = let byte = ltb-true b 0x100 h in chosen_small b e (nat_lt b 0x80) byte (entry byte)
+small_of b e false h entry past = let beyond = ltb-false b 0x100 h in chosen_past b e beyond (past beyond)
+
 -- all take at most three bytes, and are no surrogates
-pub small : (encoding : ByteEncoding) (b : ℕ) → b < 0x100 → character encoding b < 0xd800
-small encoding b byte =
-    chosen_small b (get_or (upper_half encoding) (b - 0x80) 0) (nat_lt b 0x80) byte (entry_at encoding (b - 0x80) (omega arith))
+pub small : (encoding : ByteEncoding) (b : ℕ) → character encoding b < 0xd800
+small encoding b =
+    let e : ℕ = get_or (upper_half encoding) (b - 0x80) 0 in
+    small_of b e (nat_lt b 0x100) refl (λ byte. entry_at encoding (b - 0x80) (omega arith))
+    (λ past. get_or_past (upper_half encoding) (b - 0x80) 0 (omega (arith, entries_of_half encoding)))
 
 chosen_high : (b e : ℕ) → 0x80 ≤ b → is_entry e ≡ true → 0x80 ≤ cond (nat_lt b 0x80 || e == 0x20) b e
 chosen_high b e high entry = grind (arith, common_steps, nat_tests)

@@ -3,12 +3,10 @@ use Rattle.std.proofs.Common.{◌≡◌, ℕ, suc, ◌+◌, ◌*◌, ◌<◌, �
 use Rattle.std.proofs.Common.{refl, ap, ◌∙◌, arith, length-append}
 use Rattle.std.specs.Prelude.{encode_utf8, encode_utf8_all}
 use Rattle.std.specs.Char.{IsScalar, len_utf8}
-use Rattle.std.specs.List.{All}
 use Rattle.std.specs.Str.{IsUtf8, IsAscii, is_utf8}
 use Rattle.std.proofs.lemmas.Bool.{lt-ltb}
 use Rattle.std.proofs.lemmas.Bool.Decides.{nat_tests}
 use Rattle.std.proofs.lemmas.List.{append-nil, map-append, take_more}
-use Rattle.std.proofs.lemmas.List.Elements.{All-head, All-tail}
 use Rattle.std.proofs.lemmas.Str.{IsUtf8-nil, IsUtf8-append, IsUtf8-encode, IsUtf8-from_ascii, IsUtf8-from_is_utf8, is_utf8-from_IsUtf8}
 use Rattle.std.proofs.lemmas.Str.{encodes-append, encodes-IsAscii, length-encode}
 use Rattle.text_model.specs.Texts.{Text}
@@ -18,9 +16,6 @@ use Rattle.request_encodings.specs.declared.encoding.ByteEncoding.{ByteEncoding}
 use Rattle.request_encodings.specs.declared.encoding.ByteEncoding.TheVariants.{Windows1252}
 use Rattle.request_encodings.specs.Texts.{character, decoded, are_ascii, text_in}
 use Rattle.request_encodings.proofs.Characters.{small, low}
-
-abbrev AreBytes : Text → Type 0
-AreBytes bytes = All (λ b. b < 0x100) bytes
 
 -- ---- one byte more
 
@@ -41,26 +36,25 @@ no_utf8 bytes false e none = e
 small_scalar : (c : ℕ) → c < 0xd800 → IsScalar c
 small_scalar c h = grind (arith, nat_tests)
 
-decoded_utf8 : (encoding : ByteEncoding) (bytes : Text) → AreBytes bytes → IsUtf8 (decoded encoding bytes)
-decoded_utf8 encoding [] are = IsUtf8-nil
-decoded_utf8 encoding (b ∷ bytes) are =
-    let P : ℕ → Type 0 = λ x. x < 0x100 in
+decoded_utf8 : (encoding : ByteEncoding) (bytes : Text) → IsUtf8 (decoded encoding bytes)
+decoded_utf8 encoding [] = IsUtf8-nil
+decoded_utf8 encoding (b ∷ bytes) =
     IsUtf8-append (encode_utf8 (character encoding b)) (decoded encoding bytes)
-    (IsUtf8-encode (character encoding b) (small_scalar (character encoding b) (small encoding b (All-head P b bytes are))))
-    (decoded_utf8 encoding bytes (All-tail P b bytes are))
+    (IsUtf8-encode (character encoding b) (small_scalar (character encoding b) (small encoding b)))
+    (decoded_utf8 encoding bytes)
 
-utf8_choice : (bytes : Text) (b : Bool) → is_utf8 bytes ≡ b → AreBytes bytes → IsUtf8 (cond b bytes (decoded Windows1252 bytes))
-utf8_choice bytes true e are = IsUtf8-from_is_utf8 bytes e
-utf8_choice bytes false e are = decoded_utf8 Windows1252 bytes are
+utf8_choice : (bytes : Text) (b : Bool) → is_utf8 bytes ≡ b → IsUtf8 (cond b bytes (decoded Windows1252 bytes))
+utf8_choice bytes true e = IsUtf8-from_is_utf8 bytes e
+utf8_choice bytes false e = decoded_utf8 Windows1252 bytes
 
-ascii_choice : (bytes : Text) (b : Bool) → AreBytes bytes → IsUtf8 (cond b (decoded Windows1252 bytes) [])
-ascii_choice bytes true are = decoded_utf8 Windows1252 bytes are
-ascii_choice bytes false are = IsUtf8-nil
+ascii_choice : (bytes : Text) (b : Bool) → IsUtf8 (cond b (decoded Windows1252 bytes) [])
+ascii_choice bytes true = decoded_utf8 Windows1252 bytes
+ascii_choice bytes false = IsUtf8-nil
 
-pub texts_utf8 : (encoding : Encoding) (bytes : Text) → AreBytes bytes → IsUtf8 (text_in encoding bytes)
-texts_utf8 Utf8 bytes are = utf8_choice bytes (is_utf8 bytes) refl are
-texts_utf8 (Bytes encoding) bytes are = decoded_utf8 encoding bytes are
-texts_utf8 Unknown bytes are = ascii_choice bytes (are_ascii bytes) are
+pub texts_utf8 : (encoding : Encoding) (bytes : Text) → IsUtf8 (text_in encoding bytes)
+texts_utf8 Utf8 bytes = utf8_choice bytes (is_utf8 bytes) refl
+texts_utf8 (Bytes encoding) bytes = decoded_utf8 encoding bytes
+texts_utf8 Unknown bytes = ascii_choice bytes (are_ascii bytes)
 
 pub utf8_same : (bytes : Text) → IsUtf8 bytes → text_in Utf8 bytes ≡ bytes
 utf8_same bytes is = ap (λ b. cond b bytes (decoded Windows1252 bytes)) (is_utf8-from_IsUtf8 bytes is)
@@ -92,22 +86,21 @@ ascii_same Unknown bytes are =
 three : (c : ℕ) → c < 0xd800 → len_utf8 c ≤ 3
 three c h = grind (arith, nat_tests)
 
-decoded_short : (encoding : ByteEncoding) (bytes : Text) → AreBytes bytes → length (decoded encoding bytes) ≤ 3 * length bytes
-decoded_short encoding [] are = omega arith
-decoded_short encoding (b ∷ bytes) are =
-    let P : ℕ → Type 0 = λ x. x < 0x100 in
+decoded_short : (encoding : ByteEncoding) (bytes : Text) → length (decoded encoding bytes) ≤ 3 * length bytes
+decoded_short encoding [] = omega arith
+decoded_short encoding (b ∷ bytes) =
     let c : ℕ = character encoding b in
-    let one : length (encode_utf8 c) ≤ 3 = omega (arith, length-encode c, three c (small encoding b (All-head P b bytes are))) in
-    let rest = decoded_short encoding bytes (All-tail P b bytes are) in
+    let one : length (encode_utf8 c) ≤ 3 = omega (arith, length-encode c, three c (small encoding b)) in
+    let rest = decoded_short encoding bytes in
     simp length-append (omega (arith, one, rest))
 
 chosen_short : (b : Bool) (x y : Text) (n : ℕ) → length x ≤ n → length y ≤ n → length (cond b x y) ≤ n
 chosen_short true x y n h k = h
 chosen_short false x y n h k = k
 
-pub texts_short : (encoding : Encoding) (bytes : Text) → AreBytes bytes → length (text_in encoding bytes) ≤ 3 * length bytes
-texts_short Utf8 bytes are =
-    chosen_short (is_utf8 bytes) bytes (decoded Windows1252 bytes) (3 * length bytes) (omega arith) (decoded_short Windows1252 bytes are)
-texts_short (Bytes encoding) bytes are = decoded_short encoding bytes are
-texts_short Unknown bytes are =
-    chosen_short (are_ascii bytes) (decoded Windows1252 bytes) [] (3 * length bytes) (decoded_short Windows1252 bytes are) (omega arith)
+pub texts_short : (encoding : Encoding) (bytes : Text) → length (text_in encoding bytes) ≤ 3 * length bytes
+texts_short Utf8 bytes =
+    chosen_short (is_utf8 bytes) bytes (decoded Windows1252 bytes) (3 * length bytes) (omega arith) (decoded_short Windows1252 bytes)
+texts_short (Bytes encoding) bytes = decoded_short encoding bytes
+texts_short Unknown bytes =
+    chosen_short (are_ascii bytes) (decoded Windows1252 bytes) [] (3 * length bytes) (decoded_short Windows1252 bytes) (omega arith)

@@ -1,6 +1,6 @@
 //! What follows from the definitions. These functions have empty bodies; each contract is a theorem.
 
-ghost use Rattle.std.specs.Prelude.{◌≡◌, ◌≤◌, ◌<◌, ◌*◌, ℕ, All, length};
+ghost use Rattle.std.specs.Prelude.{◌≡◌, ◌≤◌, ◌<◌, ◌*◌, ℕ, length};
 ghost use Rattle.std.specs.Str.{IsUtf8, IsAscii};
 ghost use Rattle.text_model.specs.Texts.{Text};
 ghost use Rattle.request_encodings.specs.declared.encoding.ByteEncoding.{ByteEncoding};
@@ -9,7 +9,7 @@ ghost use Rattle.request_encodings.specs.Texts.{character, text_in};
 
 /// The text is UTF-8, in whatever encoding its bytes were.
 pub fn texts_are_utf8()
-    ensures { (encoding : Encoding) (bytes : Text) → All (λ b. b < 0x100) bytes → IsUtf8 (text_in encoding bytes) }
+    ensures { (encoding : Encoding) (bytes : Text) → IsUtf8 (text_in encoding bytes) }
 {}
 
 /// What is UTF-8 stays, if nothing else is declared; so a text that was read is read again as it is.
@@ -29,6 +29,5 @@ pub fn no_ascii_is_added()
 
 /// A text has at most three bytes for each that it was read from.
 pub fn texts_are_bounded()
-    ensures { (encoding : Encoding) (bytes : Text) → All (λ b. b < 0x100) bytes
-        → length (text_in encoding bytes) ≤ 3 * length bytes }
+    ensures { (encoding : Encoding) (bytes : Text) → length (text_in encoding bytes) ≤ 3 * length bytes }
 {}

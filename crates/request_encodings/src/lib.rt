@@ -21,4 +21,4 @@ mod texts;
 
 pub use declaration::declared_in;
 pub use encoding::{ByteEncoding, Encoding};
-pub use texts::{text_in, value_in};
+pub use texts::{is_utf8_value, text_in, value_in};

@@ -22,6 +22,16 @@ pub fn value_in(alloc: Global, encoding: Encoding, value: &[u8]) -> Result<Strin
     Ok(text)
 }
 
+/// Whether the bytes that a name or a value of a query stands for are UTF-8.
+///
+/// `AllocError` if an allocation failed.
+pub fn is_utf8_value(alloc: Global, value: &[u8]) -> Result<bool, AllocError>
+    ensures { IfOk result (λ is. is ≡ is_utf8 (form.decode value.now)) }
+{
+    let bytes = bytes_of(alloc, value)?;
+    Ok(utf8_text(&bytes).is_some())
+}
+
 fn bytes_of(alloc: Global, value: &[u8]) -> Result<Vec<u8>, AllocError>
     ensures { IfOk result (λ bytes. bytes.items ≡ form.decode value.now) }
 {
