@@ -29,4 +29,6 @@ mod requests;
 #[cfg(test)]
 mod shared;
 #[cfg(test)]
+mod utf8;
+#[cfg(test)]
 mod works;

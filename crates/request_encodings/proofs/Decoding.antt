@@ -1,14 +1,14 @@
 -- Texts of bytes.
 use Rattle.std.proofs.Common.{◌≡◌, ℕ, suc, ◌+◌, ◌*◌, ◌<◌, ◌≤◌, Bool, true, false, cond, ◌&&◌, [], ◌∷◌, ◌++◌, map, length, get_or, take}
-use Rattle.std.proofs.Common.{refl, ap, ◌∙◌, arith, length-append}
+use Rattle.std.proofs.Common.{refl, ap, subst, ◌∙◌, arith, length-append}
 use Rattle.std.specs.Prelude.{encode_utf8, encode_utf8_all}
 use Rattle.std.specs.Char.{IsScalar, len_utf8}
 use Rattle.std.specs.Str.{IsUtf8, IsAscii, is_utf8}
-use Rattle.std.proofs.lemmas.Bool.{lt-ltb}
+use Rattle.std.proofs.lemmas.Bool.{cond_both, lt-ltb}
 use Rattle.std.proofs.lemmas.Bool.Decides.{nat_tests}
 use Rattle.std.proofs.lemmas.List.{append-nil, map-append, take_more}
 use Rattle.std.proofs.lemmas.Str.{IsUtf8-nil, IsUtf8-append, IsUtf8-encode, IsUtf8-from_ascii, IsUtf8-from_is_utf8, is_utf8-from_IsUtf8}
-use Rattle.std.proofs.lemmas.Str.{encodes-append, encodes-IsAscii, length-encode}
+use Rattle.std.proofs.lemmas.Str.{encode_ascii, encodes-append, encodes-IsAscii, inside_one, length-encode}
 use Rattle.text_model.specs.Texts.{Text}
 use Rattle.request_encodings.specs.declared.encoding.Encoding.{Encoding}
 use Rattle.request_encodings.specs.declared.encoding.Encoding.TheVariants.{Utf8, Bytes, Unknown}
@@ -104,3 +104,34 @@ texts_short Utf8 bytes =
 texts_short (Bytes encoding) bytes = decoded_short encoding bytes
 texts_short Unknown bytes =
     chosen_short (are_ascii bytes) (decoded Windows1252 bytes) [] (3 * length bytes) (decoded_short Windows1252 bytes) (omega arith)
+
+-- ---- a text in ASCII has a byte for each
+
+some_byte : (c : ℕ) → 0 < len_utf8 c
+some_byte c = grind (arith, nat_tests)
+
+ascii_first : (c : ℕ) (rest : Text) → IsAscii (encode_utf8 c ++ rest) → c < 0x80
+ascii_first c rest are =
+    let some : 0 < length (encode_utf8 c) = omega (arith, length-encode c, some_byte c) in
+    let first = are 0 in
+    omega (arith, first, inside_one c rest (encode_utf8 c ++ rest) 0 refl some first)
+
+decoded_ascii_short : (encoding : ByteEncoding) (bytes : Text) → IsAscii (decoded encoding bytes)
+    → length (decoded encoding bytes) ≤ length bytes
+decoded_ascii_short encoding [] are = omega arith
+decoded_ascii_short encoding (b ∷ bytes) are =
+    let c : ℕ = character encoding b in
+    let rest : Text = decoded encoding bytes in
+    let same : decoded encoding (b ∷ bytes) ≡ c ∷ rest = ap (λ x. x ++ rest) (encode_ascii c (ascii_first c rest are)) in
+    let all : IsAscii (c ∷ rest) = subst IsAscii same are in
+    omega (arith, ap length same, decoded_ascii_short encoding bytes (λ i. all (suc i)))
+
+pub texts_ascii_short : (encoding : Encoding) (bytes : Text) → IsAscii (text_in encoding bytes)
+    → length (text_in encoding bytes) ≤ length bytes
+texts_ascii_short Utf8 bytes =
+    cond_both (is_utf8 bytes) bytes (decoded Windows1252 bytes) (λ t. IsAscii t → length t ≤ length bytes) (λ e are. omega arith)
+    (λ e. decoded_ascii_short Windows1252 bytes)
+texts_ascii_short (Bytes encoding) bytes = decoded_ascii_short encoding bytes
+texts_ascii_short Unknown bytes =
+    cond_both (are_ascii bytes) (decoded Windows1252 bytes) [] (λ t. IsAscii t → length t ≤ length bytes)
+    (λ e. decoded_ascii_short Windows1252 bytes) (λ e are. omega arith)

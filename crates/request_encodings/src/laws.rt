@@ -27,7 +27,9 @@ pub fn no_ascii_is_added()
     ensures { (encoding : ByteEncoding) (byte : ℕ) → 0x80 ≤ byte → byte < 0x100 → 0x80 ≤ character encoding byte }
 {}
 
-/// A text has at most three bytes for each that it was read from.
+/// A text has at most three bytes for each that it was read from, and at most one if it is in ASCII.
 pub fn texts_are_bounded()
-    ensures { (encoding : Encoding) (bytes : Text) → length (text_in encoding bytes) ≤ 3 * length bytes }
+    ensures all { (encoding : Encoding) (bytes : Text) → length (text_in encoding bytes) ≤ 3 * length bytes }
+    ensures ascii { (encoding : Encoding) (bytes : Text) → IsAscii (text_in encoding bytes)
+        → length (text_in encoding bytes) ≤ length bytes }
 {}

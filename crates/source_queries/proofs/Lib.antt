@@ -1,0 +1,5 @@
+pub mod Bytes
+pub mod Keys
+pub mod Declared
+pub mod Readings
+pub mod Bounds
