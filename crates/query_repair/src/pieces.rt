@@ -43,11 +43,11 @@ fn unmarked(part: &[u8]) -> &[u8]
 }
 
 /// The part without marks if a pair or a known key follows them.
-#[tactic(auto, unfolding(crate::specs::Pieces::cleaned))]
+#[tactic(auto, unfolding(crate::specs::Pieces::cleaned, crate::specs::Pieces::unmarked), using(crate::proofs::Marks::no_mark))]
 pub(crate) fn cleaned(part: &[u8]) -> &[u8]
     ensures { result.now ≡ spec.cleaned part.now }
 {
-    if begins_pair(part) {
+    if begins_pair(part) || mark_len(part) == 0 {
         return part;
     }
     let rest = unmarked(part);

@@ -1,6 +1,6 @@
 //! Encodings that sources declare, and bytes in them.
 
-use request_encodings::{ByteEncoding, Encoding, declared_in, text_in, value_in};
+use request_encodings::{ByteEncoding, Encoding, declared_in, is_utf8_value, text_in, value_in};
 use std::alloc::{AllocError, Global};
 use std::test::Fail;
 
@@ -25,7 +25,7 @@ fn first_other(
 }
 
 /// Bytes and characters are those of the indexes of the WHATWG Encoding Standard.
-const ENCODINGS: [(&str, &[u8], &str); 27] = [
+const ENCODINGS: [(&str, &[u8], &str); 28] = [
     ("ctx_enc=windows-1250", b"\x4c\xf3d\x9f", "L\u{f3}d\u{17a}"),
     ("ctx_enc=cp1250", b"\x8at\xed", "\u{160}t\u{ed}"),
     (
@@ -92,6 +92,7 @@ const ENCODINGS: [(&str, &[u8], &str); 27] = [
     ),
     ("ctx_enc=info:ofi/enc:Shift_JIS", b"\x8aC\x97m", ""),
     ("ctx_enc=EUC-KR", b"Sea ", "Sea "),
+    ("ctx_enc=GB2312", b"\xe6\xb5\xb7", "\u{6d77}"),
     ("my_ctx_enc=KOI8-R", b"\xe9", "\u{e9}"),
 ];
 
@@ -139,6 +140,26 @@ const VALUES: [(Encoding, &str, &str); 8] = [
     ),
     (Encoding::Unknown, "Sea%20", "Sea "),
 ];
+
+/// Values, and whether they are UTF-8.
+const UTF8_VALUES: [(&[u8], bool); 8] = [
+    (b"", true),
+    (b"100%+of+it", true),
+    (b"Caf%C3%A9", true),
+    (b"Caf\xc3\xa9", true),
+    (b"Caf%E9", false),
+    (b"Caf\xe9", false),
+    (b"%C3", false),
+    (b"%ED%A0%80", false),
+];
+
+#[test]
+fn values_are_utf8_or_not(rt: HostRuntime) -> Result<(), Fail> {
+    for (value, expected) in UTF8_VALUES {
+        assert!(rt; is_utf8_value(rt.alloc(), value)? == expected);
+    }
+    Ok(())
+}
 
 #[test]
 fn values_are_decoded(rt: HostRuntime) -> Result<(), Fail> {

@@ -1,10 +1,10 @@
 -- Texts of bytes.
-use Rattle.std.proofs.Common.{◌≡◌, ℕ, suc, ◌+◌, ◌*◌, ◌<◌, ◌≤◌, Bool, true, false, cond, ◌&&◌, [], ◌∷◌, ◌++◌, map, length, get_or, take}
+use Rattle.std.proofs.Common.{◌≡◌, ℕ, suc, ◌+◌, ◌*◌, ◌<◌, ◌≤◌, Bool, true, false, cond, [], ◌∷◌, ◌++◌, map, length, get_or, take}
 use Rattle.std.proofs.Common.{refl, ap, subst, ◌∙◌, arith, length-append}
 use Rattle.std.specs.Prelude.{encode_utf8, encode_utf8_all}
 use Rattle.std.specs.Char.{IsScalar, len_utf8}
 use Rattle.std.specs.Str.{IsUtf8, IsAscii, is_utf8}
-use Rattle.std.proofs.lemmas.Bool.{cond_both, lt-ltb}
+use Rattle.std.proofs.lemmas.Bool.{cond_both}
 use Rattle.std.proofs.lemmas.Bool.Decides.{nat_tests}
 use Rattle.std.proofs.lemmas.List.{append-nil, map-append, take_more}
 use Rattle.std.proofs.lemmas.Str.{IsUtf8-nil, IsUtf8-append, IsUtf8-encode, IsUtf8-from_ascii, IsUtf8-from_is_utf8, is_utf8-from_IsUtf8}
@@ -14,7 +14,7 @@ use Rattle.request_encodings.specs.declared.encoding.Encoding.{Encoding}
 use Rattle.request_encodings.specs.declared.encoding.Encoding.TheVariants.{Utf8, Bytes, Unknown}
 use Rattle.request_encodings.specs.declared.encoding.ByteEncoding.{ByteEncoding}
 use Rattle.request_encodings.specs.declared.encoding.ByteEncoding.TheVariants.{Windows1252}
-use Rattle.request_encodings.specs.Texts.{character, decoded, are_ascii, text_in}
+use Rattle.request_encodings.specs.Texts.{character, decoded, text_in}
 use Rattle.request_encodings.proofs.Characters.{small, low}
 
 -- ---- one byte more
@@ -47,14 +47,14 @@ utf8_choice : (bytes : Text) (b : Bool) → is_utf8 bytes ≡ b → IsUtf8 (cond
 utf8_choice bytes true e = IsUtf8-from_is_utf8 bytes e
 utf8_choice bytes false e = decoded_utf8 Windows1252 bytes
 
-ascii_choice : (bytes : Text) (b : Bool) → IsUtf8 (cond b (decoded Windows1252 bytes) [])
-ascii_choice bytes true = decoded_utf8 Windows1252 bytes
-ascii_choice bytes false = IsUtf8-nil
+unknown_choice : (bytes : Text) (b : Bool) → is_utf8 bytes ≡ b → IsUtf8 (cond b bytes [])
+unknown_choice bytes true e = IsUtf8-from_is_utf8 bytes e
+unknown_choice bytes false e = IsUtf8-nil
 
 pub texts_utf8 : (encoding : Encoding) (bytes : Text) → IsUtf8 (text_in encoding bytes)
 texts_utf8 Utf8 bytes = utf8_choice bytes (is_utf8 bytes) refl
 texts_utf8 (Bytes encoding) bytes = decoded_utf8 encoding bytes
-texts_utf8 Unknown bytes = ascii_choice bytes (are_ascii bytes)
+texts_utf8 Unknown bytes = unknown_choice bytes (is_utf8 bytes) refl
 
 pub utf8_same : (bytes : Text) → IsUtf8 bytes → text_in Utf8 bytes ≡ bytes
 utf8_same bytes is = ap (λ b. cond b bytes (decoded Windows1252 bytes)) (is_utf8-from_IsUtf8 bytes is)
@@ -70,16 +70,10 @@ same_characters encoding (b ∷ bytes) are =
 decoded_ascii : (encoding : ByteEncoding) (bytes : Text) → IsAscii bytes → decoded encoding bytes ≡ bytes
 decoded_ascii encoding bytes are = ap encode_utf8_all (same_characters encoding bytes are) ∙ encodes-IsAscii bytes are
 
-passes : (bytes : Text) → IsAscii bytes → are_ascii bytes ≡ true
-passes [] are = refl
-passes (b ∷ bytes) are =
-    ap (λ t. t && are_ascii bytes) (lt-ltb b 0x80 (are 0)) ∙ passes bytes (λ i. are (suc i))
-
 pub ascii_same : (encoding : Encoding) (bytes : Text) → IsAscii bytes → text_in encoding bytes ≡ bytes
 ascii_same Utf8 bytes are = utf8_same bytes (IsUtf8-from_ascii bytes are)
 ascii_same (Bytes encoding) bytes are = decoded_ascii encoding bytes are
-ascii_same Unknown bytes are =
-    ap (λ b. cond b (decoded Windows1252 bytes) []) (passes bytes are) ∙ decoded_ascii Windows1252 bytes are
+ascii_same Unknown bytes are = ap (λ b. cond b bytes []) (is_utf8-from_IsUtf8 bytes (IsUtf8-from_ascii bytes are))
 
 -- ---- how long they are
 
@@ -103,7 +97,7 @@ texts_short Utf8 bytes =
     chosen_short (is_utf8 bytes) bytes (decoded Windows1252 bytes) (3 * length bytes) (omega arith) (decoded_short Windows1252 bytes)
 texts_short (Bytes encoding) bytes = decoded_short encoding bytes
 texts_short Unknown bytes =
-    chosen_short (are_ascii bytes) (decoded Windows1252 bytes) [] (3 * length bytes) (decoded_short Windows1252 bytes) (omega arith)
+    chosen_short (is_utf8 bytes) bytes [] (3 * length bytes) (omega arith) (omega arith)
 
 -- ---- a text in ASCII has a byte for each
 
@@ -133,5 +127,4 @@ texts_ascii_short Utf8 bytes =
     (λ e. decoded_ascii_short Windows1252 bytes)
 texts_ascii_short (Bytes encoding) bytes = decoded_ascii_short encoding bytes
 texts_ascii_short Unknown bytes =
-    cond_both (are_ascii bytes) (decoded Windows1252 bytes) [] (λ t. IsAscii t → length t ≤ length bytes)
-    (λ e. decoded_ascii_short Windows1252 bytes) (λ e are. omega arith)
+    cond_both (is_utf8 bytes) bytes [] (λ t. IsAscii t → length t ≤ length bytes) (λ e are. omega arith) (λ e are. omega arith)

@@ -1,6 +1,5 @@
 -- Bytes read as text in UTF-8.
-use Rattle.std.specs.Prelude.{ℕ, ◌-◌, ◌==◌, ◌||◌, nat_lt, Bool, List, [], map, slice_index, encode_utf8_all, if◌then◌else◌}
-use Rattle.std.specs.List.{list_all}
+use Rattle.std.specs.Prelude.{ℕ, ◌-◌, ◌==◌, ◌||◌, nat_lt, List, [], map, slice_index, encode_utf8_all, if◌then◌else◌}
 use Rattle.std.specs.Str.{is_utf8}
 use Rattle.form_urlencoded.specs.Form as form
 use Rattle.text_model.specs.Texts.{Text}
@@ -30,14 +29,11 @@ character encoding byte =
 abbrev pub decoded : ByteEncoding → Text → Text
 decoded encoding bytes = encode_utf8_all (map (character encoding) bytes)
 
-abbrev pub are_ascii : Text → Bool
-are_ascii bytes = list_all (λ b. nat_lt b 0x80) bytes
-
--- what is not UTF-8, though it should be, is windows-1252; of an encoding that is not known, only ASCII is read
+-- what is not UTF-8, though it should be, is windows-1252; of an encoding that is not known, only UTF-8 is read
 abbrev pub text_in : Encoding → Text → Text
 text_in Utf8 bytes = if is_utf8 bytes then bytes else decoded Windows1252 bytes
 text_in (Bytes encoding) bytes = decoded encoding bytes
-text_in Unknown bytes = if are_ascii bytes then decoded Windows1252 bytes else []
+text_in Unknown bytes = if is_utf8 bytes then bytes else []
 
 -- the text that a name or a value of a query stands for (URL Standard, section 5.1: `+` is a space, and `%` with two digits a byte)
 abbrev pub value_in : Encoding → Text → Text

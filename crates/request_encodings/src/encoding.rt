@@ -14,7 +14,7 @@ pub enum Encoding {
     Utf8,
     /// A legacy encoding of one byte a character.
     Bytes(ByteEncoding),
-    /// Another one. Only ASCII is read.
+    /// Another one. Only what is UTF-8 is read.
     Unknown,
 }
 

@@ -8,6 +8,7 @@ ghost use Rattle.request_encodings.specs.Texts as spec;
 use crate::encoding::{ByteEncoding, Encoding};
 use percent_encoding::percent_decode;
 use std::alloc::{AllocError, Global};
+use std::borrow::CowSlice;
 use std::str::from_utf8;
 
 /// The text that a name or a value of a query stands for, with spaces for `+` and bytes for their escapes (URL
@@ -36,9 +37,10 @@ fn bytes_of(alloc: Global, value: &[u8]) -> Result<Vec<u8>, AllocError>
     ensures { IfOk result (λ bytes. bytes.items ≡ form.decode value.now) }
 {
     let spaced = spaced(alloc, value)?;
-    let mut bytes = Vec::new(alloc);
-    percent_decode(&spaced).append_to(&mut bytes)?;
-    Ok(bytes)
+    match percent_decode(&spaced).into_cow(alloc)? {
+        CowSlice::Owned(bytes) => Ok(bytes),
+        CowSlice::Borrowed(_) => Ok(spaced),
+    }
 }
 
 /// The value with a space for each `+`.
@@ -63,7 +65,7 @@ pub fn text_in(alloc: Global, encoding: Encoding, bytes: &[u8]) -> Result<String
     match encoding {
         Encoding::Utf8 => utf8_or_windows_1252(alloc, bytes),
         Encoding::Bytes(encoding) => decoded(alloc, encoding, bytes),
-        Encoding::Unknown => ascii_or_nothing(alloc, bytes),
+        Encoding::Unknown => utf8_or_nothing(alloc, bytes),
     }
 }
 
@@ -86,20 +88,13 @@ fn utf8_text(bytes: &[u8]) -> Option<&str>
     }
 }
 
-fn ascii_or_nothing(alloc: Global, bytes: &[u8]) -> Result<String, AllocError>
+fn utf8_or_nothing(alloc: Global, bytes: &[u8]) -> Result<String, AllocError>
     ensures { IfOk result (λ text. string_bytes text ≡ spec.text_in Encoding.Unknown bytes.now) }
 {
-    if are_ascii(bytes) {
-        decoded(alloc, ByteEncoding::Windows1252, bytes)
-    } else {
-        Ok(String::new(alloc))
+    match utf8_text(bytes) {
+        Some(text) => String::from_str(alloc, text),
+        None => Ok(String::new(alloc)),
     }
-}
-
-fn are_ascii(bytes: &[u8]) -> bool
-    ensures { result ≡ spec.are_ascii bytes.now }
-{
-    bytes.iter().all(|byte| *byte < 0x80)
 }
 
 /// The text of characters of one byte.
