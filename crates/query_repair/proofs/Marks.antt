@@ -4,7 +4,7 @@ use Rattle.std.proofs.Common.{length-drop}
 use Rattle.std.specs.Prelude.{◌==◌}
 use Rattle.std.proofs.lemmas.Bool.Decides.{nat_tests}
 use Rattle.text_model.specs.Texts.{Text}
-use Rattle.query_repair.specs.Pieces.{mark_length, after_marks}
+use Rattle.query_repair.specs.Pieces.{mark_length, after_marks, unmarked}
 
 -- two texts are the same if their second choices are
 second_same : (b : Bool) (t x y : Text) → (b ≡ false → x ≡ y) → cond b t x ≡ cond b t y
@@ -53,6 +53,10 @@ pub no_mark : (t : Text) → mark_length t ≤ 0 → t ≡ after_marks (length t
 no_mark [] small = refl
 no_mark (b ∷ t) small =
     sym (ap (λ test. cond test (b ∷ t) (after_marks (length t) (drop (mark_length (b ∷ t)) (b ∷ t)))) (test_of_none (mark_length (b ∷ t)) small))
+
+pub none_marked : (t : Text) → mark_length t ≤ 0 → unmarked t ≡ t
+unfolding unmarked
+none_marked t small = sym (no_mark t small)
 
 shorter_choice : (b : Bool) (t x : Text) → length x ≤ length t → length (cond b t x) ≤ length t
 shorter_choice true t x h = omega arith

@@ -43,7 +43,7 @@ fn unmarked(part: &[u8]) -> &[u8]
 }
 
 /// The part without marks if a pair or a known key follows them.
-#[tactic(auto, unfolding(crate::specs::Pieces::cleaned, crate::specs::Pieces::unmarked), using(crate::proofs::Marks::no_mark))]
+#[tactic(auto, unfolding(crate::specs::Pieces::cleaned), using(crate::proofs::Marks::none_marked))]
 pub(crate) fn cleaned(part: &[u8]) -> &[u8]
     ensures { result.now ≡ spec.cleaned part.now }
 {

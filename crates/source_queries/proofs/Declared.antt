@@ -97,7 +97,8 @@ parts_declare : (pair : Text × Text) (pairs : List (Text × Text)) → IsUtf8Pa
     → All DeclaresNoOther (split_at_cut (form.serialize_pair pair ++ later pairs))
 unfolding later is_cut split_at_cut
 parts_declare pair [] fine all =
-    subst (All DeclaresNoOther) (sym (ap split_at_cut (append-nil (form.serialize_pair pair)) ∙ slice_split_none is_cut (form.serialize_pair pair) (whole_pair pair)))
+    subst (All DeclaresNoOther)
+    (sym (ap split_at_cut (append-nil (form.serialize_pair pair)) ∙ slice_split_none is_cut (form.serialize_pair pair) (whole_pair pair)))
     (All-cons DeclaresNoOther (form.serialize_pair pair) [] (no_other pair fine) (All-nil DeclaresNoOther))
 parts_declare pair (next ∷ pairs) fine all =
     let rest : Text = form.serialize_pair next ++ later pairs in

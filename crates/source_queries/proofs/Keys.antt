@@ -53,6 +53,11 @@ end_first b tail =
     (λ k h. let both = begins_with 61 [] 43 tail h in cc)
     (λ k h. let both = begins_with 61 [] 37 _ h in cc))
 
+first_byte : (b : ℕ) (t rest : Text)
+    → form.byte_serialize (b ∷ t) ++ 61 ∷ rest ≡ form.serialize_byte b ++ (form.byte_serialize t ++ 61 ∷ rest)
+first_byte b t rest =
+    ap (λ x. x ++ 61 ∷ rest) (byte_serialize-cons b t) ∙ append_assoc (form.serialize_byte b) (form.byte_serialize t) (61 ∷ rest)
+
 -- a name that is written so is so itself
 same_name : (w name rest : Text) → All IsLetter w → begins (form.byte_serialize name ++ 61 ∷ rest) (w ++ 61 ∷ []) ≡ true
     → bytes_eq (map to_ascii_lowercase name) w ≡ true
@@ -60,14 +65,14 @@ same_name [] [] rest letters h = refl
 same_name [] (b ∷ t) rest letters h =
     let tail : Text = form.byte_serialize t ++ 61 ∷ rest in
     absurd (end_first b tail
-    (subst (λ x. begins x (61 ∷ []) ≡ true) (ap (λ x. x ++ 61 ∷ rest) (byte_serialize-cons b t) ∙ append_assoc (form.serialize_byte b) (form.byte_serialize t) (61 ∷ rest)) h))
+    (subst (λ x. begins x (61 ∷ []) ≡ true) (first_byte b t rest) h))
 same_name (c ∷ w) [] rest letters h =
     let both = begins_with c (w ++ 61 ∷ []) 61 rest (subst (λ x. begins (x ++ 61 ∷ rest) (c ∷ (w ++ 61 ∷ [])) ≡ true) byte_serialize-nil h) in
     absurd ((All-head IsLetter c w letters).0 (sym (eqb-true 61 c both.0)))
 same_name (c ∷ w) (b ∷ t) rest letters h =
     let tail : Text = form.byte_serialize t ++ 61 ∷ rest in
     let both = letter_first c (w ++ 61 ∷ []) b tail (All-head IsLetter c w letters)
-    (subst (λ x. begins x (c ∷ (w ++ 61 ∷ [])) ≡ true) (ap (λ x. x ++ 61 ∷ rest) (byte_serialize-cons b t) ∙ append_assoc (form.serialize_byte b) (form.byte_serialize t) (61 ∷ rest)) h) in
+    (subst (λ x. begins x (c ∷ (w ++ 61 ∷ [])) ≡ true) (first_byte b t rest) h) in
     ap (λ x. x && bytes_eq (map to_ascii_lowercase t) w) both.0 ∙ same_name w t rest (All-tail IsLetter c w letters) both.1
 
 is_letter : ℕ → Bool

@@ -149,7 +149,8 @@ read_raw (pair ∷ raw) all =
     let same : decoded_pair pair ≡ key_value (decode_pair pair) =
     ap (λ key. record { key = key; value = utf8_lossy (form.decode pair.1) }) (utf8_lossy-IsUtf8 (form.decode pair.0) first.0)
     ∙ ap (λ value. record { key = form.decode pair.0; value = value }) (utf8_lossy-IsUtf8 (form.decode pair.1) first.1) in
-    ap (λ p. p ∷ map decoded_pair raw) same ∙ ap (λ ps. key_value (decode_pair pair) ∷ ps) (read_raw raw (All-tail P (decode_pair pair) (map decode_pair raw) all))
+    ap (λ p. p ∷ map decoded_pair raw) same
+    ∙ ap (λ ps. key_value (decode_pair pair) ∷ ps) (read_raw raw (All-tail P (decode_pair pair) (map decode_pair raw) all))
 
 pub source_read : TextsAreUtf8 → (query : Text) → pairs_of (source_query query) ≡ map key_value (form.parse (source_query query))
 source_read texts query = read_raw (form.raw_pairs (source_query query)) (source_texts texts query)

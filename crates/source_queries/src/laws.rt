@@ -15,10 +15,11 @@ ghost use Rattle.source_queries.specs.Utf8.{IsUtf8Pair, is_utf8_query, key_value
 use query_repair::laws::{repaired_queries_stay, repairs_are_bounded, settled_queries_stay};
 use request_encodings::laws::{texts_are_bounded, texts_are_utf8};
 
-/// Names and values are UTF-8, and no other encoding is declared. So `kev_read` reads each text as it is, with no U+FFFD
-/// for bytes.
+/// Names and values are UTF-8, and no other encoding is declared. So `kev_read` reads each text as it is, with no
+/// U+FFFD for bytes.
 pub fn source_queries_are_utf8()
-    ensures texts { (query : Text) → All (λ pair. IsUtf8 pair.0 × IsUtf8 pair.1) (form.parse (source_query query)) }
+    ensures texts { (query : Text)
+        → All (λ pair. IsUtf8 pair.0 × IsUtf8 pair.1) (form.parse (source_query query)) }
     ensures read { (query : Text) → pairs_of (source_query query) ≡ map key_value (form.parse (source_query query)) }
     ensures declared { (query : Text) → declared_in (source_query query) ≡ Encoding.Utf8 }
 {
