@@ -58,6 +58,11 @@ UMLAUTS = (
     "Haefen und Kanaele\t2901-0047\tserial\n"
     "A History of Harbours (Online)\t2901-0055\tserial\n"
 )
+EDITIONS = (
+    "publication_title\tprint_identifier\ttitle_id\tpreceding_publication_title_id\tpublication_type\n"
+    "Piers of the North\t9781234575014\tb0\t\tmonograph\n"
+    "Piers of the North Sea\t9781234575021\tb1\tb0\tmonograph\n"
+)
 
 
 class Titles(TitlesCase):
@@ -281,6 +286,21 @@ class Titles(TitlesCase):
             re.findall(r'Earlier title: <a href="(.*?)">(.*?)</a>', related),
             [("/find?rft.issn=2915-0272", "Harbour Engineering Letters")],
         )
+
+    def test_related_books(self) -> None:
+        """A book has the ISBN of the one before it."""
+        self.site.write("tables/books.txt", EDITIONS)
+        self.site.write("books.tsv", f"{self.site.read('registry.tsv')}books\tnone.olk\ttables/books.txt\n")
+        write_index(self.site.path("books.tsv"), self.site.folder, self.site.path("books"))
+        self.put_in_use("books")
+        found = main_of(self.site.get("/find?isbn=9781234575021"))
+        links = re.findall(r'Earlier title: <a href="(.*?)">(.*?)</a>', found)
+        self.expect("the link", links, [("/find?rft.isbn=9781234575014", "Piers of the North")])
+
+    def test_unnamed_keys(self) -> None:
+        """What JavaScript calls a missing value is no key of a citation."""
+        citation = self.data("undefined=x&null=x&issn=2901-0012")["citation"]
+        self.expect("the citation", [name for name, value in citation.items() if value == "x"], [])
 
     def test_staff(self) -> None:
         """The report and the page for staff have the queries of the page."""
