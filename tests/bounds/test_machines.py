@@ -90,6 +90,14 @@ class Names(Case):
             for claim in children.claimed:
                 claim.close()
 
+    def test_ports_that_others_have(self) -> None:
+        """One at which something listens is left out."""
+        with socket.create_server(("127.0.0.1", 0)) as server, mock.patch.object(children, "claimed", list[object]()):
+            with mock.patch.object(children, "_PORTS", [server.getsockname()[1]]):
+                told = reason(children.free_port)
+            self.expect("none is free", told.startswith("no free port from "))
+            self.expect("none is claimed", children.claimed, [])
+
     def test_where_the_ports_of_trials_begin(self) -> None:
         """At any of them, so that two runs rarely try the same; those before it come last."""
         with mock.patch.object(children, "_PORTS", range(31_000, 31_003)), mock.patch.object(

@@ -168,12 +168,13 @@ class Cells(Case):
         self.expect("both", found and (found.count, found.example), (2, "Archive Embargo of 1 year, Tides"))
 
     def test_few_volumes(self) -> None:
-        """Two cells without a number are no slip, three are one."""
-        header = ("publication_title", "print_identifier", "num_first_vol_online")
-        for count, wanted in ((2, None), (3, 3)):
-            rows = [[f"Tides {at}", f"2901-00{at}2", "none"] for at in range(count)]
-            found = FIND["volumes or issues that are no number"](Pair(of(Table(header, rows)), None, DAY, lambda _: {}))
-            self.expect(f"{count}", found and found.count, wanted)
+        """Two cells without a number are no slip, three are one, of each of the four columns."""
+        for column in (f"num_{end}_{part}_online" for end in ("first", "last") for part in ("vol", "issue")):
+            for count, wanted in ((2, None), (3, 3)):
+                rows = [[f"Tides {at}", f"2901-00{at}2", "none"] for at in range(count)]
+                table = Table(("publication_title", "print_identifier", column), rows)
+                found = FIND["volumes or issues that are no number"](Pair(of(table), None, DAY, lambda _: {}))
+                self.expect(f"{count} of {column}", found and found.count, wanted)
 
     def test_no_columns(self) -> None:
         """A table that has none, as of an empty file, gets none."""

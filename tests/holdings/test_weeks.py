@@ -143,6 +143,8 @@ class TwoWeeks(Case):
         with Library() as library:
             write_first_week(library)
             self.expect_first_week(library, *library.update())
+            kept = os.listdir(os.path.join(library.library, "current"))
+            self.expect("what only the update needs is gone", [it for it in kept if it == "prepared"], [])
             before = {name: library.table(name) for name in library.targets}
             write_second_week(library)
             status, printed = library.update()
