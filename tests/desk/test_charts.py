@@ -23,6 +23,11 @@ class Charts(Case):
         self.expect(
             "the numbers of lines", [it.text for it in chart.labels if it.anchor == "end"], "0 50 100 150 200".split()
         )
+        beside = [(it.x, it.y) for it in chart.labels if it.anchor == "end"]
+        self.expect(
+            "each is below its line", [round(y - line, 1) for (_, y), line in zip(beside, chart.lines)], [4] * 5
+        )
+        self.expect("they are left of the bars", max(x for x, _ in beside) < min(it.x for it in chart.bars))
         self.expect("the greatest reaches its line", other.y, min(chart.lines))
         self.expect("labels", [it.text for it in chart.labels if it.anchor == "middle"], ["01", "2026", "02", "03"])
 

@@ -26,6 +26,7 @@ from openlink_update.counts.log_files import LogFile
 from openlink_update.fetch.fetch_folder import FetchFolder
 from openlink_update.input_files import InputFolder
 from openlink_update.outcome import Refused
+from openlink_update.machines import library_updates
 from openlink_update.received import archives
 from openlink_update.received import headers
 from openlink_update.rights import filters
@@ -144,6 +145,22 @@ class Libraries(Case):
             libraries = mock.Mock(has_one_alone=lambda: has_one_alone, names=lambda: names)
             self.expect(name, reason(update._update_several, update_options.parse([]), libraries), wanted)
 
+    def test_reports_of_the_last_time(self) -> None:
+        """They are removed before the first update begins; the library alone has none."""
+        with tempfile.TemporaryDirectory() as folder:
+            file, left = Path(folder, "east"), list[bool]()
+            file.touch()
+
+            def update_one(*_: object) -> int:
+                left.append(file.exists())
+                return 0
+
+            updates = library_updates.Updates(mock.Mock(path=lambda name, _: Path(folder, name)), [])
+            parts = {"_options_of_sharing": lambda _: [], "_update": update_one}
+            with mock.patch.multiple(updates, **parts), mock.patch.object(library_updates, "raise_signals"):
+                status = updates.run([library_updates.ALONE, "east"], False)
+            self.expect("the status, and whether it is there", (status, left), (0, [False, False]))
+
 
 class Notes(Case):
     def heard(self, call: Callable[[], object]) -> list[dict[str, object]]:
@@ -191,6 +208,13 @@ class Records(FolderCase):
         self.write("runs", b"")
         said = printed_by(lambda: Recorder("update").write(library, 0))
         self.expect("what is said", said, f"no record of this run: {self.folder}/runs: File exists\n")
+
+    def test_no_version(self) -> None:
+        """A run that left none in use has a record too."""
+        Recorder("update").write(Library(self.folder), 4)
+        self.expect("the record", [(it.status, it.version) for it in records_in(self.folder)], [(4, "")])
+        (data,) = (self.folder / "runs").glob("*.json")
+        self.expect("its version", json.loads(data.read_bytes())["version"], "")
 
     def test_a_link_that_is_wrong(self) -> None:
         """The run has said so; its record has no version."""
