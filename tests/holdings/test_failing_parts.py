@@ -12,6 +12,7 @@ import socket
 import tempfile
 import types
 import zipfile
+from collections.abc import Callable
 from pathlib import Path
 from unittest import mock
 
@@ -21,6 +22,7 @@ from fixtures.cases import Case
 from fixtures.made_versions import Weeks
 from openlink_update.commands import holdings
 from openlink_update.fetch import transfers
+from openlink_update.outcome import Failure
 from openlink_update.received import spreadsheets
 from openlink_update.rights import closed_files
 from openlink_update.rights import library_user
@@ -353,6 +355,21 @@ class Sandboxes(Case):
         self.expect("what is said", printed.getvalue(), f"{text} cannot be written\n")
         self.expect("whose rights", box.number, None)
         self.expect("of a filter", said, "no user is free")
+
+    def test_root_that_has_gone(self) -> None:
+        """The child of a run that has ended gets no reply."""
+        calls: dict[str, Callable[[sandbox._Root], object]] = {
+            "a pause": lambda root: root.pause(),
+            "tables": lambda root: root.prepared([("a", b"x")]),
+            "a filter": lambda root: root.filtered("a", b"x"),
+        }
+        for name, call in calls.items():
+            root, child = socket.socketpair(socket.AF_UNIX, socket.SOCK_SEQPACKET)
+            with root, child:
+                root.shutdown(socket.SHUT_WR)
+                with self.assertRaises(Failure) as ending:
+                    call(sandbox._Root(Job(work), child))
+            self.expect(name, (str(ending.exception), ending.exception.status), ("the run has ended", 4))
 
     def test_child_that_reads_no_more(self) -> None:
         """One that ends with or without a message that it has not read has sent nothing."""

@@ -54,6 +54,7 @@ REFUSED = [
     (with_text('"targets": {"\\u0061": {}, "a": {}}'), ['"targets": "a" occurs more than once']),
     (with_text('"groups": []'), ['"groups" occurs more than once']),
     (of_size(MOST_BYTES + 1), ["more than 1,048,576 bytes"]),
+    (b"\xef\xbb\xbf" + json.dumps(GOOD).encode(), ["line 1: begins with a byte order mark"]),
     (nested(DEPTH + 1), ['"groups": 1: 1: 1: 1: 1: 1: 1: 1: 1: 1: ..: more than 31 objects and lists in each other']),
     (nested(60), ['"groups": 1: 1: 1: 1: 1: 1: 1: 1: 1: 1: ..: more than 31 objects and lists in each other']),
     (nested(500_000), ["more than 31 objects and lists in each other"]),
