@@ -313,6 +313,7 @@ class Kernels(Case):
 
     def test_files(self) -> None:
         """The same for files. A kernel that does not know the call, or one that refuses it."""
+        self.expect("the rights of Landlock's first version", closed_files._ALL, 0b1_1111_1111_1111)
         for what, numbers, text in (
             ("none", [-1], "this kernel cannot close files, by Landlock"),
             ("no rules", [4, -1], "the files of the machine cannot be closed"),
