@@ -18,7 +18,7 @@ count_line n = decimal n ++ codes " bytes\n"
 module _ {F : Type 0} (at : F → Disk) (mode_at : F → Modes) (fails runs_out : F → FileCall → Text → F → Type 0) (old new : F) where
   -- a file of these bytes is placed at the path, with the mode of the old one, and the text is the line with their number; or a call failed or memory ran out
   pub data Places (path : Bor Text) (bytes : Text) : Result Text Fault → Type 0 where
-    no_place : IsPlaceFailure fails path.now → IsAsBefore fails (at old) path.now (at new) → Places path bytes (Err (Device path))
-    no_memory : IsPlaceShortage runs_out old path.now new → IsAsBefore fails (at old) path.now (at new) → Places path bytes (Err (Refused Memory))
+    no_place : IsPlaceFailure at fails old path.now new → IsAsBefore at fails (at old) path.now new → Places path bytes (Err (Device path))
+    no_memory : IsPlaceShortage at runs_out old path.now new → IsAsBefore at fails (at old) path.now new → Places path bytes (Err (Refused Memory))
     placed : (text : Text) → IsPlaced (at old) path.now bytes (at new) → KeepsModes (mode_at old) path.now (mode_at new)
         → text ≡ count_line (length bytes) → Places path bytes (Ok text)

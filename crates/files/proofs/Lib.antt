@@ -1,1 +1,2 @@
 mod PathExamples
+pub mod PlacingLemmas

@@ -1,11 +1,11 @@
 //! Placing a whole file: after any failure the old file or the new one is complete.
 
 ghost use Rattle.std.specs.Prelude.{◌≡◌, ◌≢◌, ℕ, List, [], Err, IfOk, IfSome, OnErr, OnOk, string_bytes};
-ghost use Rattle.files.specs.Found.{IsFile, IsFree};
+ghost use Rattle.files.specs.Found.{Absent, IsFile, IsFree};
 ghost use Rattle.files.specs.Changes.{ChangesOnly, kept, removed};
 ghost use Rattle.files.specs.Modes.{ChangesModeOnly, IsMode};
-ghost use Rattle.files.specs.Failures.{HasFailedAt};
 ghost use Rattle.files.specs.Placing.{IsAsBefore, IsPlaced, IsPlaceFailure, IsPlaceShortage, KeepsModes, beside};
+ghost use Rattle.files.specs.Placing.{IsDraftFailure, IsUnwritten};
 ghost use Rattle.files.specs.declared.error.FileError.TheVariants.{Failed, NoMemory};
 
 use crate::error::FileError;
@@ -27,10 +27,10 @@ pub fn place<F: Files>(
     bytes: &[u8],
 ) -> Result<(), FileError>
     ensures placed { OnOk result (IsPlaced (F.at files.old) path.now bytes.now (F.at files.new)) }
-    ensures err { OnErr result (IsAsBefore F.fails (F.at files.old) path.now (F.at files.new)) }
+    ensures err { OnErr result (IsAsBefore F.at F.fails (F.at files.old) path.now files.new) }
     ensures modes { KeepsModes (F.mode_at files.old) path.now (F.mode_at files.new) }
-    ensures failed { result ≡ Err Failed → IsPlaceFailure F.fails path.now }
-    ensures ran_out { result ≡ Err NoMemory → IsPlaceShortage F.runs_out files.old path.now files.new }
+    ensures failed { result ≡ Err Failed → IsPlaceFailure F.at F.fails files.old path.now files.new }
+    ensures ran_out { result ≡ Err NoMemory → IsPlaceShortage F.at F.runs_out files.old path.now files.new }
 {
     let beside = path_beside(alloc, path)?;
     let mode = files.check_place(path)?;
@@ -56,12 +56,12 @@ fn place_by<F: Files>(
     ensures free { OnOk result (IsFree (F.at files.old other.now)) }
     ensures there { OnOk result (IsFile (F.at files.new path.now) bytes.now) }
     ensures others { OnOk result (ChangesOnly path.now (F.at files.old) (F.at files.new)) }
-    ensures err { OnErr result (IsAsBefore F.fails (F.at files.old) path.now (F.at files.new)) }
+    ensures err { OnErr result (IsAsBefore F.at F.fails (F.at files.old) path.now files.new) }
     ensures mode { OnOk result (IfSome mode (IsMode (F.mode_at files.new path.now))) }
     ensures same_mode { OnErr result (F.mode_at files.new path.now ≡ F.mode_at files.old path.now) }
     ensures modes { (p : List ℕ) → p ≢ other.now → p ≢ path.now → F.mode_at files.new p ≡ F.mode_at files.old p }
-    ensures failed { result ≡ Err Failed → HasFailedAt F.fails other.now }
-    ensures ran_out { result ≡ Err NoMemory → HasFailedAt F.runs_out other.now }
+    ensures failed { result ≡ Err Failed → IsUnwritten F.at F.fails (F.at files.old) path.now files.new }
+    ensures ran_out { result ≡ Err NoMemory → IsUnwritten F.at F.runs_out (F.at files.old) path.now files.new }
 {
     let draft = files.create(other)?;
     match fill(files, draft, other, path, mode, bytes) {
@@ -83,17 +83,19 @@ fn fill<F: Files>(
     bytes: &[u8],
 ) -> Result<(), FileError>
     requires draft { F.drafted draft other.now [] }
+    requires exists { F.at files.old other.now ≢ Absent }
     requires apart { other.now ≢ path.now }
     ensures there { OnOk result (F.at files.new path.now ≡ kept bytes.now (F.at files.old other.now)) }
     ensures gone { OnOk result (F.at files.new other.now ≡ removed (F.at files.old other.now)) }
     ensures others { OnOk result ((p : List ℕ) → p ≢ other.now → p ≢ path.now → F.at files.new p ≡ F.at files.old p) }
     ensures err { OnErr result (ChangesOnly other.now (F.at files.old) (F.at files.new)) }
     ensures left { OnErr result (removed (F.at files.new other.now) ≡ removed (F.at files.old other.now)) }
+    ensures remains { OnErr result (F.at files.new other.now ≢ Absent) }
     ensures mode { OnOk result (IfSome mode (IsMode (F.mode_at files.new path.now))) }
     ensures modes { (p : List ℕ) → p ≢ other.now → p ≢ path.now → F.mode_at files.new p ≡ F.mode_at files.old p }
     ensures same_modes { OnErr result (ChangesModeOnly other.now (F.mode_at files.old) (F.mode_at files.new)) }
-    ensures failed { result ≡ Err Failed → HasFailedAt F.fails other.now }
-    ensures ran_out { result ≡ Err NoMemory → HasFailedAt F.runs_out other.now }
+    ensures failed { result ≡ Err Failed → IsDraftFailure F.at F.fails (F.at files.old) other.now }
+    ensures ran_out { result ≡ Err NoMemory → IsDraftFailure F.at F.runs_out (F.at files.old) other.now }
 {
     let mut draft = draft;
     // The mode is set first, so that only those whom it lets read the file can read its bytes.

@@ -42,3 +42,7 @@ IsRefusedCall call.Create at = at ≢ Absent
 IsRefusedCall call.Rename at = at ≡ Absent
 IsRefusedCall call.Remove at = at ≡ Absent
 IsRefusedCall other at = ⊥
+
+-- a call failed between two states because of what was at its path before it
+abbrev pub HasRefused : Memory → FileCall → Text → Memory → Type 0
+HasRefused old call path new = IsRefusedCall call (disk_of old path)

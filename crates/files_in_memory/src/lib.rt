@@ -3,6 +3,7 @@
 
 mod content;
 mod failing;
+pub mod laws;
 mod memory;
 
 pub use content::{Content, Entry};

@@ -102,7 +102,7 @@ impl Memory {
 
 impl Files for Memory {
     ghost use Rattle.std.specs.Prelude.{◌≡◌, string_bytes};
-    ghost use Rattle.files_in_memory.specs.InMemory.{IsRefusedCall, disk_of, modes_of};
+    ghost use Rattle.files_in_memory.specs.InMemory.{HasRefused, disk_of, modes_of};
 
     type Draft = MemoryDraft;
 
@@ -110,7 +110,7 @@ impl Files for Memory {
 
     ghost mode_at = { modes_of };
 
-    ghost fails = { λ old call path _. IsRefusedCall call (disk_of old path) };
+    ghost fails = { HasRefused };
 
     ghost runs_out = { λ _ _ _ _. Unit {0} };
 
