@@ -80,5 +80,5 @@ not_loaded fails draws no_keys disk old path new bytes keys (Line n) read line =
     inr (record { bytes = bytes; keys = keys; file = read.file; drawn = read.drawn; fault = line })
 not_loaded fails draws no_keys disk old path new bytes keys (Target e) read line =
     record { bytes = bytes; keys = keys; file = read.file; drawn = read.drawn; fault = line }
-not_loaded fails draws no_keys disk old path new bytes keys NoMemory read line = tt
+not_loaded fails draws no_keys disk old path new bytes keys NoMemory read line = inr (keys, read.drawn)
 not_loaded fails draws no_keys disk old path new bytes keys Device read line = absurd line

@@ -138,7 +138,7 @@ module _ {K : Type 0} (draws : K → ℕ → ℕ → K → Type 0) (disk : Disk)
     pub fault : HasLineFault fails disk keys bytes e
 
 -- why the file at a path gives no registry, in this order: it cannot be read or is too long, and then no keys are drawn; no keys can be drawn; a line gives no
--- target
+-- target. If memory runs out, no keys were drawn yet, or those of the tables were
 abbrev pub IsNotLoaded : {F K : Type 0} → (F → FileCall → Text → F → Type 0) → (K → ℕ → ℕ → K → Type 0) → (K → K → Type 0)
     → Disk → K → Text → K → RegistryError → Type 0
 IsNotLoaded fails draws no_keys disk old path new Device =
@@ -146,4 +146,4 @@ IsNotLoaded fails draws no_keys disk old path new Device =
 IsNotLoaded fails draws no_keys disk old path new (Line n) =
     ((n ≡ 0) × IsLong MAX_REGISTRY_BYTES (disk path) × (new ≡ old)) ⊎ HasFileFault draws disk old path new fails (Line n)
 IsNotLoaded fails draws no_keys disk old path new (Target e) = HasFileFault draws disk old path new fails (Target e)
-IsNotLoaded fails draws no_keys disk old path new NoMemory = Unit {0}
+IsNotLoaded fails draws no_keys disk old path new NoMemory = (new ≡ old) ⊎ ((keys : Keys) × IsDrawn draws old keys new)
