@@ -53,7 +53,8 @@ pub fn carry_out<F: Files, K: KeySource, P: Ports, O: Write, E: Write>(
     output: &mut O,
     errors: &mut E,
 ) -> u8
-    ensures unread { IfErr arguments.entry (λ fault. result ≡ status_of fault) }
+    ensures unread { IfErr arguments.entry (λ fault. (result ≡ status_of fault) × (rt.new ≡ rt.old)
+        × (output.new ≡ output.old)) }
     ensures ends { IfOk arguments.entry (λ given. (end : Option Fault) × (result ≡ status_of_end end)
         × HasEnded ⟦<System<F, K, P> as World>⟧.told rt.old rt.new (output_of O.contents output.old output.new)
         (output_of E.contents errors.old) (map string_bytes given.items) end) }
