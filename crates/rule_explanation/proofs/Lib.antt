@@ -9,3 +9,4 @@ pub mod LinkLemmas
 pub mod WholeText
 pub mod RowLemmas
 mod CellLemmas
+mod KnownLemmas

@@ -1,8 +1,8 @@
 -- Items with their places: the first that passes a test, those before it, and one more.
-use Rattle.std.proofs.Common.{◌≡◌, ◌<◌, ◌≤◌, ◌+◌, ℕ, zero, suc, List, [], ◌∷◌, ◌++◌, Bool, true, false, not, cond, Some, None, length, take, get_or}
+use Rattle.std.proofs.Common.{◌≡◌, ◌<◌, ◌≤◌, ◌+◌, ℕ, zero, suc, List, [], ◌∷◌, ◌++◌, Bool, true, false, not, cond, Some, None, length, map, take, get_or}
 use Rattle.std.proofs.Common.{refl, ap, sym, ◌∙◌, arith, add-zero, nat_lt}
 use Rattle.std.specs.List.{before_first, enumerate_from, find, flat_map, position, position_or_len}
-use Rattle.std.proofs.lemmas.List.{flat_map_more, length-take-le, take_more}
+use Rattle.std.proofs.lemmas.List.{flat_map_more, length-map, length-take-le, take_more}
 use Rattle.std.proofs.lemmas.List.Quantifiers.{position-Some}
 use Rattle.std.proofs.lemmas.Option.{none-some, same_Some}
 use Rattle.text_model.proofs.Lists.{before_first-none, position-none}
@@ -123,3 +123,15 @@ pub pieces_more : {A : Type 0} (piece : ℕ × A → List ℕ) (start : List ℕ
 pieces_more piece start xs i x before after within is so_far appended =
     appended ∙ ap (λ (t : List ℕ). t ++ piece (i + 1, x)) so_far ∙ flat_map_more piece start (enumerate_from 1 (take i xs)) (i + 1, x)
     ∙ ap (λ ps. start ++ flat_map piece ps) (sym (numbered_more xs i x within is))
+
+-- ---- the items of a list that a function gives
+
+same_index : {A B : Type 0} (test : B → Bool) (f : A → B) (xs : List A) → position_or_len test (map f xs) ≡ position_or_len (λ x. test (f x)) xs
+same_index test f [] = refl
+same_index test f (x ∷ xs) = ap (λ n. cond (not (test (f x))) (1 + n) 0) (same_index test f xs)
+
+pub position_given : {A B : Type 0} (test : B → Bool) (f : A → B) (xs : List A) → position test (map f xs) ≡ position (λ x. test (f x)) xs
+position_given test f xs =
+    let n = position_or_len (λ x. test (f x)) xs in
+    ap (λ (i : ℕ). cond (nat_lt i (length (map f xs))) (Some i) None) (same_index test f xs)
+    ∙ ap (λ (l : ℕ). cond (nat_lt n l) (Some n) None) (length-map xs f)

@@ -1,3 +1,4 @@
 -- Definitions that no contract of a public function cites.
-pub mod Seen
+pub mod KnownNames
 pub mod ListNames
+pub mod Seen

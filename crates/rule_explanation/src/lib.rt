@@ -9,7 +9,9 @@
 mod error;
 mod explaining;
 mod failing;
+mod guard_names;
 mod holding;
+mod known_names;
 pub mod laws;
 mod list_names;
 mod names;

@@ -4,6 +4,7 @@ ghost use Rattle.std.specs.Prelude.{◌≡◌, ◌<◌, ◌≤◌, IfOk, IfSome,
 ghost use Rattle.std.specs.Option.{option_copied};
 ghost use Rattle.text_model.specs.Texts.{texts_of};
 ghost use Rattle.target_vars.specs.declared.env.TheConstants.{MAX_BYTES};
+ghost use Rattle.kbart_rows.specs.Cells.{column_of};
 ghost use Rattle.kbart_rows.specs.Lines.{cells_in};
 ghost use Rattle.rule_explanation.specs.Private.Seen.{cell_seen};
 
@@ -54,13 +55,14 @@ impl<'r, 'a> RowView<'r, 'a> {
     }
 
     /// The row's cell in the first column with the name, if it is defined.
-    fn cell(&self, name: &str) -> Option<&str>
+    fn cell(&self, name: &str, column: Option<usize>) -> Option<&str>
+        requires { column ≡ column_of self.now.request.table.header name.now }
         ensures value { option_copied result ≡ cell_seen self.now name.now }
         ensures small { IfSome result (λ cell. length cell.now ≤ MAX_BYTES) }
     {
         let request = self.request;
         let _known = request.table.rows();
-        let cell = *self.cells.get(request.table.column(name)?)?;
+        let cell = *self.cells.get(column?)?;
         if cell.is_empty() { None } else { Some(cell) }
     }
 }
@@ -74,10 +76,11 @@ impl Variables for RowView<'_, '_> {
         rows_shadow_requests();
         rows_by_names();
         let request = self.request;
-        if request.lists.contains(name) {
+        let known = request.name(name);
+        if known.is_list {
             return None;
         }
-        match self.cell(name) {
+        match self.cell(name, known.column) {
             Some(cell) => Some(cell),
             None => request.values.text(name),
         }
@@ -87,7 +90,8 @@ impl Variables for RowView<'_, '_> {
         rows_shadow_requests();
         rows_by_names();
         let request = self.request;
-        if request.lists.contains(name) && self.cell(name).is_none() {
+        let known = request.name(name);
+        if known.is_list && self.cell(name, known.column).is_none() {
             request.values.list(name)
         } else {
             Members::none()

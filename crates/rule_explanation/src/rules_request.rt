@@ -1,7 +1,11 @@
 //! A request at a target.
 
 ghost use Rattle.std.specs.Prelude.{◌≡◌, ◌<◌, IfOk, length};
+ghost use Rattle.environment_model.specs.Lists.{is_list};
+ghost use Rattle.kbart_rows.specs.Cells.{column_of};
 
+use crate::guard_names::guard_names;
+use crate::known_names::{KnownName, KnownNames};
 use crate::list_names::ListNames;
 use crate::row_view::RowView;
 use kbart_rows::Table;
@@ -18,7 +22,9 @@ pub(crate) struct RulesRequest<'a> {
     pub(crate) table: &'a Table,
     request: &'a Request,
     /// The names of the lists of the rules.
-    pub(crate) lists: ListNames,
+    lists: ListNames,
+    /// What the names of the guards are.
+    names: KnownNames,
     /// The values of the request without a row, with the lists of the rules.
     pub(crate) values: Env,
 }
@@ -28,6 +34,7 @@ impl<'a> Model for RulesRequest<'a> {
     ghost use Rattle.text_model.specs.Texts.{Text};
     ghost use Rattle.environment_model.specs.Lists.{is_list};
     ghost use Rattle.row_laws.specs.Shadowing.{requested};
+    ghost use Rattle.rule_explanation.specs.Private.KnownNames.{AreKnown};
     ghost use Rattle.rule_explanation.specs.Private.ListNames.{has};
     ghost use Rattle.rule_explanation.specs.Private.Seen.{RulesRequestValue};
 
@@ -36,6 +43,7 @@ impl<'a> Model for RulesRequest<'a> {
     ghost view = { λ r. record { rules = r.rules.now; table = r.table.now; pairs = r.request.now.pairs } };
 
     ghost invariant = { λ r. (r.values.entries ≡ requested r.rules.now.lists r.request.now.pairs)
+        × AreKnown r.lists r.table.now.header r.names
         × ((name : Text) → has r.lists name ≡ is_list r.rules.now.lists name) };
 }
 
@@ -54,6 +62,8 @@ impl<'a> RulesRequest<'a> {
     {
         let names = rules.lists(alloc)?;
         let lists = ListNames::new(alloc, table.keys(), &names)?;
+        let mentioned = guard_names(alloc, table.keys(), rules.rules())?;
+        let known = KnownNames::new(alloc, mentioned, &lists, table)?;
         let mut values = Env::new(alloc);
         match request.fill(&names, &mut values) {
             Ok(()) => Ok(RulesRequest {
@@ -61,9 +71,21 @@ impl<'a> RulesRequest<'a> {
                 table,
                 request,
                 lists,
+                names: known,
                 values,
             }),
             Err(_) => Err(AllocError),
+        }
+    }
+
+    /// Whether a name is a list, and its column.
+    pub(crate) fn name(&self, name: &str) -> KnownName
+        ensures list { result.is_list ≡ is_list self.now.rules.lists name.now }
+        ensures column { result.column ≡ column_of self.now.table.header name.now }
+    {
+        match self.names.get(&self.lists, self.table, name) {
+            Some(known) => known,
+            None => KnownName::new(&self.lists, self.table, name),
         }
     }
 

@@ -13,5 +13,6 @@ invariant_of-result c =
     let seen = ap texts_of c.deref.ensures.value ∙ c.in_ok-names.ensures in
     let filled_with = ap texts_of c.deref-2.ensures.value ∙ c.in_ok-names.ensures in (
       c.in-Ok.ensures.ok ∙ same_environment _ lists _ pairs filled_with ∙ ap (λ (env : Environment). filled lists env pairs) c.new-values.ensures.value,
+      c.in_ok-known.ensures,
       λ name. c.in_ok-lists.ensures name ∙ same_names name _ lists seen,
     )

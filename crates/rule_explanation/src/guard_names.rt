@@ -1,0 +1,27 @@
+//! The names that guards mention.
+
+use kbart_rows::{Keys, NameSet};
+use rule_parser::{Guard, Rule};
+use std::alloc::{AllocError, Global};
+
+/// The names that the guards of the rules mention. Nothing that is printed depends on them, only how long it takes.
+pub(crate) fn guard_names(
+    alloc: Global,
+    keys: Keys,
+    rules: &[Rule],
+) -> Result<NameSet, AllocError> {
+    let mut names = NameSet::new(alloc, keys);
+    for rule in rules {
+        add_names(alloc, &mut names, rule.guards.as_slice())?;
+    }
+    Ok(names)
+}
+
+fn add_names(alloc: Global, names: &mut NameSet, guards: &[Guard]) -> Result<(), AllocError> {
+    for guard in guards {
+        for name in &guard.names(alloc)? {
+            names.add(alloc, name)?;
+        }
+    }
+    Ok(())
+}
