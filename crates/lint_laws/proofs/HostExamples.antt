@@ -1,5 +1,5 @@
 -- Templates by what a request can do to their hosts, computed by the definitions.
-use Rattle.std.proofs.Common.{◌≡◌, ℕ, true, false, List, [], ◌∷◌, map, refl, codes}
+use Rattle.std.proofs.Common.{◌≡◌, ℕ, true, false, List, [], ◌∷◌, ◌++◌, Option, Some, get_or, map, refl, codes}
 use Rattle.text_model.specs.Texts.{Text, is_reserved, is_unreserved}
 use Rattle.text_model.specs.Writing.{written_u, written_ur}
 use Rattle.environment_model.specs.Environment.{look_up}
@@ -9,9 +9,12 @@ use Rattle.uri_grammar.specs.declared.parts.Part.{Part}
 use Rattle.uri_grammar.specs.declared.parts.Part.TheVariants.{Literal}
 use Rattle.kbart_rows.specs.Cells.{Holdings}
 use Rattle.kbart_rows.specs.declared.keys.Keys.{Keys}
+use Rattle.rule_parser.specs.Meaning.{meaning}
+use Rattle.rule_parser.specs.Rules.{RuleSet}
 use Rattle.rule_lint.specs.declared.place.Place.TheVariants as place
-use Rattle.lint_laws.specs.RowLinks.{has_open_host, host_of_row_alone, host_on_row, link_on_row}
-use Rattle.rule_lint.proofs.Examples.{rules_of, table_of, variable}
+use Rattle.lint_laws.specs.Browsers.{backslash, browsers_host}
+use Rattle.lint_laws.specs.RowLinks.{environment_of_cells, has_open_host, has_open_hosts, host_of_row_alone, host_on_row, link_on_row}
+use Rattle.rule_lint.proofs.Examples.{rule_of, rules_of, table_of, variable}
 
 -- every row has an address, a title and a path; the second has no note
 abbrev table : Keys → Holdings
@@ -132,3 +135,52 @@ of_the_address keys = refl
 of_both : (keys : Keys) → hosts keys 0 ended_twice (x_is (codes "a") ∷ x_is (codes "") ∷ []) ≡ codes "e.org" ∷ codes "e.org" ∷ codes "e.org" ∷ []
 unfolding look_up written_u is_unreserved
 of_both keys = refl
+
+-- ---- links of which nothing is found, and which lack another premise of `no_request_sets_the_host`
+
+-- `https://e.org\f.org/`, which no template text gives
+abbrev with_backslash : List Part
+with_backslash = Literal (codes "https://e.org" ++ backslash ∷ codes "f.org/") ∷ []
+
+-- `e.org/{x}`, which gives no web link
+abbrev without_scheme : List Part
+without_scheme = Literal (codes "e.org/") ∷ variable operator.Simple (codes "x") ∷ []
+
+not_found : (keys : Keys) → map (has_open_host (rules_of [] []) (table keys) (place.Link 1)) (with_backslash ∷ without_scheme ∷ cell_ended ∷ [])
+    ≡ false ∷ false ∷ false ∷ []
+not_found keys = refl
+
+-- a browser has another host
+host_with_backslash : (keys : Keys) → hosts keys 0 with_backslash [] ≡ (codes "e.org" ++ backslash ∷ codes "f.org") ∷ []
+host_with_backslash keys = refl
+
+browsers_host_with_backslash : (keys : Keys) → browsers_host (link_on_row (rules_of [] []) (table keys) with_backslash 0 []) ≡ codes "e.org"
+browsers_host_with_backslash keys = refl
+
+-- there is no host
+hosts_without_scheme : (keys : Keys) → hosts keys 0 without_scheme (x_is (codes "a") ∷ []) ≡ [] ∷ [] ∷ []
+unfolding look_up written_u is_unreserved
+hosts_without_scheme keys = refl
+
+-- the request has the cell that a row after the last one lacks
+after_the_last_row : (keys : Keys) → hosts keys 2 cell_ended (other_title ∷ []) ≡ [] ∷ codes "t" ∷ []
+unfolding look_up written_u is_unreserved
+after_the_last_row keys = refl
+
+-- ---- the same of rules that have one of these templates each, and what they mean
+
+abbrev alone : List Part → RuleSet
+alone parts = rules_of [] (rule_of [] parts ∷ [])
+
+not_found_in_rules : (keys : Keys) → map (λ (parts : List Part). has_open_hosts (alone parts) (table keys)) (
+    with_backslash ∷ without_scheme ∷ cell_ended ∷ [])
+    ≡ false ∷ false ∷ false ∷ []
+not_found_in_rules keys = refl
+
+abbrev meaning_on_row : Keys → List Part → ℕ → List KeyValue → Option Text
+meaning_on_row keys parts row pairs = meaning (alone parts) (environment_of_cells (alone parts) (table keys) (get_or (table keys).rows row []) pairs)
+
+meanings : (keys : Keys) → meaning_on_row keys with_backslash 0 [] ∷ meaning_on_row keys without_scheme 0 [] ∷ meaning_on_row keys cell_ended 2 other_title ∷ []
+    ≡ Some (codes "https://e.org" ++ backslash ∷ codes "f.org/") ∷ Some (codes "e.org/") ∷ Some (codes "https://t") ∷ []
+unfolding look_up written_u is_unreserved
+meanings keys = refl

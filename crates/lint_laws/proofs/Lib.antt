@@ -11,6 +11,7 @@ pub mod RowHosts
 pub mod PrintedHosts
 mod HostExamples
 mod BrowserExamples
+mod ReachExamples
 pub mod BrowserHosts
 pub mod FixedHosts
 pub mod TemplateNames
