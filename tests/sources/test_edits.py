@@ -21,6 +21,9 @@ import record
 import stored
 
 MOST_EDITS, MOST_CRATES = 67, 15
+# More edits than this change a line with a premise.
+LEAST_OF_PREMISES = 100
+ARROW = "→"  # after a premise
 Edits = list[tuple[str, str]]
 
 
@@ -35,6 +38,26 @@ def of_names(edits: Edits) -> Iterator[str]:
         why = stored.fault(crate, path) if first == path else f"{first} has the same name"
         if why:
             yield f"{path}: {why}"
+
+
+def changed_lines(crate: str, path: str) -> list[tuple[str, str]]:
+    """The lines that an edit changes, before and after."""
+    edit = stored.read(crate, path)
+    files = [(edit.before[it].split("\n"), text.split("\n")) for it, text in edit.texts.items()]
+    return [(old, new) for before, after in files for old, new in zip(before, after, strict=True) if old != new]
+
+
+def of_premises(edits: Edits) -> Iterator[str]:
+    """Which edits remove a premise of a statement and put none in its place. A proof that takes the premise does not fit
+    what is left, whether it needs the premise or not, so such an edit shows nothing."""
+    for crate, path in edits:
+        if any(new.count(ARROW) < old.count(ARROW) for old, new in changed_lines(crate, path)):
+            yield f"{path}: put a premise that says nothing, such as x ≡ x, in place of the one that it removes"
+
+
+def number_of_premises(edits: Edits) -> int:
+    """How many edits change a line with a premise."""
+    return sum(any(ARROW in old for old, _ in changed_lines(crate, path)) for crate, path in edits)
 
 
 def of_sums(sums: Mapping[str, str], tried: Mapping[str, Any]) -> Iterator[str]:
@@ -86,6 +109,12 @@ class MustFailEdits(Case):
     def test_all_apply_and_were_tried(self) -> None:
         self.expect(line(), faults(), [])
 
+    def test_all_keep_the_premises(self) -> None:
+        edits = [*stored.of_the_gate(), *stored.others()]
+        number = number_of_premises(edits)
+        self.expect(f"{number} edits of lines with premises", number > LEAST_OF_PREMISES)
+        self.expect("premises", [*of_premises(edits)], [])
+
     @needs.toolchain()
     def test_all_were_tried_by_this_toolchain(self) -> None:
         version = subprocess.run(["rt", "version"], stdout=subprocess.PIPE, text=True, check=True).stdout.strip()
@@ -99,7 +128,7 @@ EDIT = "crates/budget/must-fail/cut_counts_its_items.edit"
 
 
 class SpoiltEdits(Case):
-    """The check fails for edits and sums that are changed."""
+    """The checks fail for edits and sums that are changed."""
 
     def test_an_edit_that_does_not_apply(self) -> None:
         with open(EDIT, encoding="utf-8") as file:
@@ -116,6 +145,15 @@ class SpoiltEdits(Case):
         twice = [*of_names([("budget", EDIT), ("budget", EDIT.replace("budget/", "budget/../budget/"))])]
         self.expect("two edits of one name", [it.partition(": ")[2] for it in twice], [f"{EDIT} has the same name"])
         self.expect("no crate", [*of_names([("nowhere", EDIT)])], [f"{EDIT}: there is no crate nowhere"])
+
+    def test_premises(self) -> None:
+        law = "(a b : Text) → IsUriText a → IsUriText b → IsUriText (a ++ b) }"
+        with tempfile.TemporaryDirectory() as folder:
+            for at, (premise, wanted) in enumerate((("", 1), ("b ≡ b → ", 0), ("IsUriText a → ", 0))):
+                path = f"{folder}/{at}.edit"
+                with open(path, "w", encoding="utf-8") as file:
+                    file.write(f"file: src/laws.rt\nold: {law}\nnew: {law.replace('IsUriText b → ', premise)}\n")
+                self.expect(f"'{premise}' for a premise", len([*of_premises([("text_model", path)])]), wanted)
 
     def test_sums(self) -> None:
         tried = {"a/one": ("1", "toolchain"), "b/two": ("2", "toolchain")}
