@@ -26,6 +26,7 @@ const DROPPED = [
     ['keys of the front door', 'rft_val_fmt=x&x.doi=10.1/x&%78.issn=2901-0012', '', 'rft_val_fmt=x'],
     ['columns', 'rft_val_fmt=x&title_url=https://e.org/&title%5Fid=3&access_type=F&notes=n', '', 'rft_val_fmt=x'],
     ['a key like a column', 'rft_val_fmt=x&own_key=1', ''],
+    ['a key of two columns', 'rft_val_fmt=x&publication_title+print_identifier=1', ''],
     ['ANY', 'rft_val_fmt=x&rft.issn=ANY&rft.eissn=any&rft.isbn=%41ny&issn=ANY&isbn=Any', '', 'rft_val_fmt=x'],
     ['ANY in the form', 'rft_val_fmt=x&number=ANY', '', 'rft_val_fmt=x&number=ANY'],
     ['ANY as the program reads it', 'rft_val_fmt=x&rft.issn=A-N-Y&rft.isbn=+a+n+y+', '', 'rft_val_fmt=x'],

@@ -18,6 +18,7 @@ CASES = [
     ("issn=2901-0012;sid=a", False),
     ("SID=a", False),
     ("issn=1&%73id=a", False),
+    ("issn=1&%20sid%20=a", False),
     ("rft.issn=sid=a", True),
     ("pid=sid", True),
     ("issn=2901-0012&sid", False),
