@@ -85,15 +85,18 @@ class Taking(Case):
         self.addCleanup(shutil.rmtree, self.folder)
         (self.folder / "input").mkdir()
 
-    def taken(self, request: str | None, *words: str) -> tuple[int, str, str]:
-        """The status and the outputs of the command of a key to which sshd hands a request."""
+    def taken(self, request: str | None, *words: str, commands: pathlib.Path | None = None) -> tuple[int, str, str]:
+        """The status and the outputs of the command of a key to which sshd hands a request, with the commands of a
+        folder before others."""
         environment = {name: it for name, it in os.environ.items() if name != "SSH_ORIGINAL_COMMAND"}
+        if commands is not None:
+            environment["PATH"] = f"{commands}:{environment['PATH']}"
         if request is not None:
             environment["SSH_ORIGINAL_COMMAND"] = request
         done = subprocess.run(
             [*PYTHON, UPDATE, "--library", str(self.folder), "--take", *words],
             env=environment,
-            cwd=self.folder,
+            cwd=self.folder if commands is None else commands,
             stdin=subprocess.DEVNULL,
             capture_output=True,
             encoding="utf-8",
@@ -138,6 +141,17 @@ class Taking(Case):
         for request in OF_RSYNC:
             status, _, said = self.taken(f"openlink-update --take {request}")
             self.expect(f"{request}: {said}", (REFUSED in said, "rsync error" in said), (False, True))
+
+    def test_where_rsync_begins(self) -> None:
+        """In the folder of the libraries, wherever sshd begins."""
+        commands = self.folder / "commands"
+        commands.mkdir()
+        stand_in = commands / "rsync"
+        stand_in.write_text('#!/bin/sh\npwd\necho "$*"\n', encoding="utf-8")
+        stand_in.chmod(0o755)
+        request = f"{RSYNC} . ./input/"
+        wanted = f"{self.folder.resolve()}\n{request.partition(' ')[2]}\n"
+        self.expect("its folder, and its arguments", self.taken(request, commands=commands), (0, wanted, ""))
 
     def test_state(self) -> None:
         """The versions in use, and whether the key may do more."""
