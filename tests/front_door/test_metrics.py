@@ -97,6 +97,18 @@ class Metrics(SiteCase):
         finally:
             os.rename(self.site.path("away"), self.site.path("desk"))
 
+    def test_without_times(self) -> None:
+        """Before the first version, and the first update that ended well, there is no time of one, and none is zero."""
+        for name, metric in (("in_use", "openlink_version"), ("updated", "openlink_update")):
+            time = f"{metric}_timestamp_seconds"
+            os.rename(self.site.path(name), self.site.path("away"))
+            try:
+                found = self.metrics()
+            finally:
+                os.rename(self.site.path("away"), self.site.path(name))
+            self.expect(f"{time} without {name}", time in found, False)
+            self.expect(f"{time} with {name}", time in self.metrics())
+
     def test_lines_of_the_desk(self) -> None:
         path = Path(self.site.path("desk/current/state/metrics.txt"))
         before = path.read_text()
