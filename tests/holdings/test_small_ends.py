@@ -38,6 +38,7 @@ from openlink_update.run_records import records_in
 from openlink_update.site import targets_file
 from openlink_update.site.front_door import Site
 from openlink_update.tables.table import Table
+from openlink_update.versions import same_files
 from openlink_update.versions import served
 from openlink_update.versions import target_list
 from openlink_update.versions.judging import Judge
@@ -161,6 +162,37 @@ class Libraries(Case):
                 status = updates.run([library_updates.ALONE, "east"], False)
             self.expect("the status, and whether it is there", (status, left), (0, [False, False]))
 
+    def test_no_room_to_share(self) -> None:
+        """Each library prepares its own tables then."""
+        updates, found = library_updates.Updates(mock.Mock(), []), list[list[str]]()
+        full = OSError(28, "No space left on device")
+        with contextlib.ExitStack() as stack, mock.patch("tempfile.TemporaryDirectory", side_effect=full):
+            said = printed_by(lambda: found.append(updates._options_of_sharing(stack)))
+        self.expect("the options of an update", found, [[]])
+        self.expect("what is said", said, "shared tables are prepared for each library: No space left on device\n")
+
+    def test_no_process(self) -> None:
+        """An update that cannot be started is an error of its library, whose report says how it ended."""
+        with tempfile.TemporaryDirectory() as folder:
+            libraries = mock.Mock(path=lambda *parts: Path(folder, *parts), folder=Path(folder), machine=Path("m.conf"))
+            Path(folder, "east").mkdir()
+            updates, found = library_updates.Updates(libraries, []), list[int]()
+            few = OSError(11, "Resource temporarily unavailable")
+            with mock.patch.object(children, "start", side_effect=few), contextlib.redirect_stderr(io.StringIO()) as said:
+                printed_by(lambda: found.append(updates._update("east", [])))
+            self.expect("the status", found, [4])
+            self.expect("what is said", said.getvalue(), "openlink-update: update: Resource temporarily unavailable\n")
+            self.expect("the report", Path(folder, "east/report").read_text(), "4\n")
+
+    def test_no_report(self) -> None:
+        """A report that cannot be written does not end the run."""
+        with tempfile.TemporaryDirectory() as folder:
+            updates = library_updates.Updates(mock.Mock(path=lambda *parts: Path(folder, *parts)), [])
+            with contextlib.redirect_stderr(io.StringIO()) as said:
+                updates._write_report("gone", "0", [])
+            wanted = f"openlink-update: {folder}/gone/report: No such file or directory\n"
+            self.expect("what is said", said.getvalue(), wanted)
+
 
 class Notes(Case):
     def heard(self, call: Callable[[], object]) -> list[dict[str, object]]:
@@ -248,6 +280,25 @@ class Versions(FolderCase):
         with mock.patch("os.symlink", side_effect=OSError(28, "No space left on device")):
             library.move_back(OLD)
         self.expect("in use", (library.current(), library.is_unsettled()), (OLD, False))
+
+    def test_files_of_two_versions(self) -> None:
+        """A file with the same bytes becomes a link to the older one. Others stay, and so does one for which there is
+        no link."""
+        older, newer = self.folder / OLD, self.folder / NEW
+        full = OSError(31, "Too many links")
+        for name, before, after, fault, is_one in (
+            ("the same", b"row\n", b"row\n", None, True),
+            ("as long", b"row\n", b"low\n", None, False),
+            ("longer", b"row\n", b"rows\n", None, False),
+            ("empty", b"", b"", None, False),
+            ("no link is left", b"row\n", b"row\n", full, False),
+        ):
+            one = self.write(f"{OLD}/tables/{name}.txt", before)
+            other = self.write(f"{NEW}/tables/{name}.txt", after)
+            with mock.patch("os.link", side_effect=fault) if fault else contextlib.nullcontext():
+                same_files.link(newer, older, [])
+            self.expect(name, (other.samefile(one), other.read_bytes()), (is_one, after))
+            other.unlink()
 
     def test_tables_that_differ(self) -> None:
         tables = served.Tables(self.folder, DAY)
