@@ -190,6 +190,11 @@ class Searches(Case):
             [[], 1, 1, 0, True],
         )
 
+    def test_no_index(self) -> None:
+        """A search of a kind of which no list is there finds nothing, on one page."""
+        with tempfile.TemporaryDirectory() as folder:
+            self.expect("what is found", searched(folder, "coast", 2)[:5], [[], 1, 1, 0, False])
+
     def test_work(self) -> None:
         """How many files a search reads: letters, one for each word, pages of its titles, and those of the halving."""
         halves = 2 * (MANY // 50).bit_length()
