@@ -26,6 +26,7 @@ SESSIONS, PROXIES = "session identifiers in addresses", "the proxy of another li
 TEXTS, NO_ROW = "new texts that rules do not compare with", "rules that hold on no row"
 DAMAGED, OTHERS = "damaged letters in titles", "numbers known under other titles"
 EMBARGOES, COVERAGE = "embargoes in notes", "coverage in notes"
+ABSTRACTS = "abstracts alone"
 
 
 def material(*rows: tuple[str, ...], rules: str = "rule\nlink {+title_url}\n", proxy: str = "") -> Material:
@@ -234,6 +235,20 @@ class Cells(Case):
         ):
             found = material(("T", "0028-0836", "https://a.org/1", "", text))
             self.expect(text, (count_of(EMBARGOES, found), count_of(COVERAGE, found)), (embargoes, coverage))
+
+    def test_abstracts(self) -> None:
+        """They are named in any case, and are alone if no row has another text and no rule knows them."""
+        known = 'rule\nwhen coverage_depth is "abstracts"\nlink {+title_url}\n'
+        for texts, rules, wanted in (
+            (("abstracts",) * 3, "rule\nlink {+title_url}\n", 3),
+            (("Abstracts", "ABSTRACT", "abstract"), "rule\nlink {+title_url}\n", 3),
+            (("Abstracts",) * 3, known, 0),
+            (("Abstracts", "Abstracts", "Abstracts", "fulltext"), "rule\nlink {+title_url}\n", 0),
+            (("Abstracts", "Abstracts", "Abstracts", ""), "rule\nlink {+title_url}\n", 3),
+            (("Abstracts",) * 2, "rule\nlink {+title_url}\n", 0),
+        ):
+            now = material(*((f"T {at}", "0028-0836", "", text) for at, text in enumerate(texts)), rules=rules)
+            self.expect(f"{texts}, {rules}", count_of(ABSTRACTS, now), wanted)
 
     def test_other_titles(self) -> None:
         """Titles that may be of one work, and others."""
