@@ -123,6 +123,13 @@ class WordsFiles(Case):
             text = Path("front_door", name).read_text(encoding="utf-8")
             self.expect(name, set(re.findall(r"^#?js_preload_object words_.*$", text, re.M)), lines)
 
+    def test_regions(self) -> None:
+        """By CLDR, no titles are `one` in Brazil and `other` in Portugal. A site may write a tag in any case."""
+        for language, has_one in (("pt", True), ("pt-BR", True), ("PT-br", True), ("pt-PT", False), ("PT-pt", False)):
+            self.expect(language, "one" in words_file.forms_of(language, words_file.TITLES), has_one)
+        for language in ("ru", "RU"):
+            self.expect(language, words_file.forms_of(language, words_file.TITLES), ("one", "few", "many"))
+
     @needs.command("node")
     def test_plurals_and_numbers(self) -> None:
         """The categories and the marks of thousands are those of CLDR, and each category that a count may have has a
