@@ -6,6 +6,7 @@ import socket
 from typing import Any
 from unittest import mock
 
+from bounds.refusals import reason
 from fixtures.cases import Case
 from openlink_update import children
 from openlink_update.outcome import Failure
@@ -48,3 +49,10 @@ class Children(Case):
         port = children.free_port()
         self.expect(f"a free port, {port}", 20_000 <= port < 32_000 and not children.is_open(port))
         self.expect("no port is given twice", children.free_port() != port)
+
+    def test_a_port_in_use(self) -> None:
+        """It is not given, though nobody has its name."""
+        with socket.create_server(("127.0.0.1", 0)) as server:
+            port = server.getsockname()[1]
+            with mock.patch.object(children, "_PORTS", range(port, port + 1)):
+                self.expect("what is said", reason(children.free_port)[:13], "no free port ")
