@@ -17,6 +17,7 @@ from unittest import mock
 from bounds.refusals import reason
 from fixtures.cases import Case
 from openlink_update import children
+from openlink_update import library_run
 from openlink_update import run_notes
 from openlink_update import shown_text
 from openlink_update import update_options
@@ -25,6 +26,8 @@ from openlink_update.commands import update
 from openlink_update.counts.log_files import LogFile
 from openlink_update.fetch.fetch_folder import FetchFolder
 from openlink_update.input_files import InputFolder
+from openlink_update.outcome import Failure
+from openlink_update.outcome import Interrupted
 from openlink_update.outcome import Refused
 from openlink_update.machines import library_updates
 from openlink_update.received import archives
@@ -192,6 +195,25 @@ class Libraries(Case):
                 updates._write_report("gone", "0", [])
             wanted = f"openlink-update: {folder}/gone/report: No such file or directory\n"
             self.expect("what is said", said.getvalue(), wanted)
+
+
+class Runs(Case):
+    def test_what_ends_one(self) -> None:
+        """Whatever it is, a bug of the package too, the run has a status and says why."""
+        options = update_options.parse(["--library", "/l"])
+        for fault, wanted in (
+            (Interrupted("SIGTERM"), (3, "ended by SIGTERM", True)),
+            (Failure("there is no version in use"), (3, "there is no version in use", False)),
+            (OSError(28, "No space left on device", "/l/versions"), (4, "/l/versions: No space left on device", False)),
+            (OSError(5, "Input/output error"), (4, "/l: Input/output error", False)),
+            (ValueError("no number"), (4, "ValueError: no number", False)),
+        ):
+            with mock.patch.object(library_run, "_work", side_effect=fault), mock.patch.object(
+                library_run, "ignore_signals"
+            ) as ignored:
+                end = library_run._end_of(mock.Mock(), options)
+            self.expect(f"{fault!r}", (end.status, end.fault, end.is_by_signal), wanted)
+            self.expect(f"{fault!r}: no signal ends how it goes back", ignored.call_count, 1)
 
 
 class Notes(Case):
