@@ -15,6 +15,7 @@ from unittest import mock
 from fixtures import needs
 from fixtures.cases import Case
 from fixtures.made_titles import issn
+from fixtures.made_versions import HEADER
 from fixtures.made_versions import Weeks
 from fixtures.made_versions import table
 from holdings.test_judging import RULE
@@ -84,6 +85,18 @@ class Changes(Case):
             weeks.deliver("press", table(*other, ("Kept", issn(60), "", "2020")))
             self.expect("a title with another number", weeks.make(), ["press: 1 row added, 1 gone"])
             self.expect("no file", os.path.exists(f"{weeks.version}/changes"), False)
+
+    def test_no_last_dates(self) -> None:
+        """A table without a column of last dates is served without walls there, and the file has none either."""
+        header = tuple(name for name in HEADER if name != "date_last_issue_online")
+        old = [row[:4] + row[5:] for row in rows(0, 40)]
+        with Weeks() as weeks:
+            weeks.deliver("press", table(*old, header=header))
+            weeks.make()
+            weeks.deliver("press", table(*old, ("Came", issn(70), "", "2001-05", "", "c", "P6M"), header=header))
+            self.expect("what is said", weeks.make()[:1], ["press: 1 row added, 0 gone"])
+            lines = weeks.read("changes/press.txt").decode().splitlines()
+            self.expect("the file", lines[1:], [f"came\tCame\t{issn(70)}\t2001-05\t\tP6M"])
 
     def test_again(self) -> None:
         """A table that was in use before is said, with its first day, if another one was in use since."""
