@@ -9,6 +9,7 @@ from fixtures.cases import Case
 from fixtures.made_titles import issn
 from fixtures.made_versions import Weeks
 from fixtures.made_versions import table
+from openlink_update.versions import same_files
 
 RULE = "rule\nlink https://press.example.com/{title_id}\n"
 
@@ -29,6 +30,18 @@ def bad(count: int) -> bytes:
 @needs.program()
 class Judging(Case):
     """Which tables are used."""
+
+    def test_left_out(self) -> None:
+        """The version has no file of a target that is left out, though its table was judged there."""
+        with Weeks() as weeks:
+            weeks.deliver("press", table(*rows(0, 40)))
+            weeks.write("other.rules", RULE.encode())
+            weeks.write("other.txt", bad(10))
+            weeks.write("targets.tsv", b"press\tpress.rules\tpress.txt\t\nother\tother.rules\tother.txt\t\n")
+            self.expect("what is said", "other: left out, since it has no old files" in weeks.make())
+            names = [os.path.basename(it) for it in same_files.files_below(weeks.version)]
+            self.expect("the other target's", "press.txt" in names)
+            self.expect("its own", [it for it in names if it.startswith("other.")], [])
 
     def test_collapse(self) -> None:
         """A table of 7,271 rows of which 6,544 lose their numbers, although the list allows the warning by its
