@@ -3,8 +3,12 @@ from __future__ import annotations
 
 import json
 import re
+import subprocess
+import tempfile
 from pathlib import Path
 
+from fixtures import needs
+from fixtures.cases import Case
 from fixtures.titles_case import ARTICLE
 from fixtures.titles_case import GERMAN
 from fixtures.titles_case import TitlesCase
@@ -147,3 +151,33 @@ class Heads(TitlesCase):
         self.expect("a group", self.shown(), ("Full text", "tidal-press"))
         text = self.site.get(f"/find?{QUERY}").text
         self.expect("the heading", bool(re.search(r"<h1[^>]*>Full text from .*tidal-press", text, re.S)))
+
+
+# Prints how many files of the index are read for links to a target, and for titles that it has.
+READS = """import heads from 'heads.js';
+const count = (targets, links, titles) => {
+    let reads = 0;
+    const r = { subrequest: () => { reads++; return Promise.resolve({ status: 204 }); } };
+    return heads.add(r, { targets, heads: {}, language: 'en', main: 'en' }, links, titles).then(() => reads);
+};
+const link = [{ target: 'press' }];
+const title = [{ rows: ['press 1 1990'], pages: [{ target: 'press' }] }];
+Promise.all([{ press: {} }, { other: {} }, undefined].map((targets) => Promise.all([
+    count(targets, link, []), count(targets, [], title), count(targets, [], [])
+]))).then((found) => { console.log(JSON.stringify(found)); });
+"""
+
+
+@needs.command("njs")
+class Reading(Case):
+    def test_reads(self) -> None:
+        """Most sites name all of their targets, and then no file is read for a page."""
+        with tempfile.TemporaryDirectory() as folder:
+            script = Path(folder, "main.js")
+            script.write_text(READS, encoding="utf-8")
+            words = ["njs", "-p", str(Path("front_door").resolve()), str(script)]
+            done = subprocess.run(words, capture_output=True, text=True, check=True)
+        named, others, without = json.loads(done.stdout)
+        self.expect("a site that names the target", named, [0, 0, 0])
+        self.expect("one that names others", others, [1, 1, 0])
+        self.expect("one that names none", without[:2], [1, 1])
