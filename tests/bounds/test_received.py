@@ -94,6 +94,15 @@ class Tables(Case):
             data = f"<!--{'x' * (end - around - len('<html'))}--><html>"
             self.expect(f"its name ends with character {end}", texts.is_web_page(data), wanted)
 
+    def test_lines_of_a_web_page(self) -> None:
+        """The lines of a page are none of its table, and may be longer."""
+        text = f"<html>{'x' * 100_001}</html>"
+        for encoding in ("utf-8", "utf-16"):
+            data = text.encode(encoding)
+            self.expect(f"a page in {encoding}", texts.text_of(data, is_page=True)[0], text)
+            said = reason(texts.text_of, data)
+            self.expect(f"a table in {encoding}", said.endswith("with an end of line after each row?"))
+
 
 class Archives(Case):
     def test_bytes(self) -> None:
