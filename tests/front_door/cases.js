@@ -57,6 +57,8 @@ const OLD = [
         + ' rft.jtitle=Tides rft_val_fmt=J x.issn=2901-0012 x.isbn=9781234560102'],
     ['ProQuest, a dissertation', 'genre=dissertation&title=On+Silt&au=Berg', 'rft.genre=dissertation rft.au=Berg'
         + ' rft.title=On+Silt rft_val_fmt=D'],
+    ['a genre with spaces around it', 'genre=+Dissertation+&title=On+Silt', 'rft.genre=+Dissertation+'
+        + ' rft.title=On+Silt rft_val_fmt=D'],
     ['ProQuest, a proceeding', 'genre=proceeding&isbn=9781234563189&title=Dredging', 'rft.genre=proceeding'
         + ' rft.isbn=9781234563189 rft.btitle=Dredging rft_val_fmt=B x.isbn=9781234563189'],
     ['Alma, both versions at once', 'rft.jtitle=Tides&title=Other&volume=3&rft.volume=4&sid=a&rfr_id=info:sid/b',
