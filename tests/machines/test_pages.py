@@ -24,6 +24,7 @@ CASES = [
     (None, None, AFTER, 503, MISSING),
     (NAMED, None, "", 200, "ok"),
     (NAMED, None, NAMED, 200, "ok"),
+    (NAMED, None, f"{NAMED}\t", 200, "ok"),
     (NAMED, None, BEFORE, 200, "ok"),
     (NAMED, None, AFTER, 503, MISSING),
     (NAMED, "", "", 404, "drained"),
