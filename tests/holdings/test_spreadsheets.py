@@ -223,6 +223,8 @@ class Dates(Case):
             (Cell("36526", form=2), False, "2000-01"),
             (Cell("36526", form=3), False, "2000"),
             (Cell("36526", form=4), False, "2000-01-01"),
+            (Cell("1995", form=len(spreadsheet_files.FORMS)), False, "1995"),  # the file has no such form
+            (Cell("1995", form=10**12), False, "1995"),
             (36526, False, "2000-01-01"),
             (1995, False, "1995"),
             (1400, False, "1400"),
