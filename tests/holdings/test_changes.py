@@ -135,8 +135,8 @@ class Changes(Case):
         for number in range(40):
             many.put("press", b"%d" % number)
             remembered.append(many.day_of("press"))
-        self.expect("how many are remembered", sum(day is not None for day in remembered), 26)
-        self.expect("the newest", remembered[39], "2026-02-09")
+        newest = [(datetime.date(2026, 1, 1) + datetime.timedelta(number)).isoformat() for number in range(14, 40)]
+        self.expect("the last 26 are remembered", remembered, [None] * 14 + newest)
 
     def test_written_meanwhile(self) -> None:
         """A file that is written after it was read is not used; one that was replaced or removed is, as it was read."""

@@ -26,7 +26,8 @@ DATED = "rule\nwhen x.to from coverage_from to *\nlink https://press.example.com
 LAST = "\nrule\nwhen lacks rft.date\nlink https://press.example.com/{title_id}\n"
 BOOKS = '\nrule\nwhen publication_type is "monograph"\nlink https://press.example.com/{title_id}\n'
 TITLE = (
-    '\nrule\nwhen given rft.jtitle\nwhen given x.issn\nwhen rft.genre is "journal"\nlink https://e.org/{rft.jtitle}\n'
+    '\nrule\nwhen rft_val_fmt is "info:ofi/fmt:kev:mtx:journal"\nwhen given rft.jtitle\nwhen given x.issn\n'
+    'when rft.genre is "journal"\nlink https://e.org/{rft.jtitle}\n'
 )
 PROXY = "rule\nwhen has x.to\nlink https://proxy.example.org/login?qurl={title_url}\n"
 SAID = 'no link without a date for journals, such as "Title 0"'
