@@ -165,6 +165,21 @@ class Libraries(Case):
                 status = updates.run([library_updates.ALONE, "east"], False)
             self.expect("the status, and whether it is there", (status, left), (0, [False, False]))
 
+    def test_interrupted(self) -> None:
+        """A signal between two updates ends the run, and no other update begins."""
+        updates, begun = library_updates.Updates(mock.Mock(), []), list[str]()
+
+        def update_one(name: str, _: object) -> int:
+            begun.append(name)
+            raise Interrupted("SIGTERM")
+
+        parts = {"_options_of_sharing": lambda _: [], "_update": update_one}
+        with mock.patch.multiple(updates, **parts), mock.patch.object(library_updates, "raise_signals"):
+            with contextlib.redirect_stderr(io.StringIO()) as said:
+                status = updates.run(["east", "west"], False)
+        self.expect("the status, and what has begun", (status, begun), (3, ["east"]))
+        self.expect("what is said", said.getvalue(), "openlink-update: ended by SIGTERM\n")
+
     def test_no_room_to_share(self) -> None:
         """Each library prepares its own tables then."""
         updates, found = library_updates.Updates(mock.Mock(), []), list[list[str]]()
@@ -360,6 +375,23 @@ class Versions(FolderCase):
         except OSError as fault:
             said = str(fault.strerror)
         self.expect("what is raised", said, "No such file or directory")
+
+    def test_a_folder_that_cannot_be_opened(self) -> None:
+        """Its files would stay those of the user, so it is an error."""
+        (self.folder / "tables").mkdir()
+        opened, said = os.open, ""
+
+        def few(path: str, *rest: int, **how: int) -> int:
+            if path == "tables":
+                raise OSError(24, "Too many open files")
+            return opened(path, *rest, **how)
+
+        with mock.patch.multiple(os, open=few, fchown=mock.DEFAULT, fchmod=mock.DEFAULT):
+            try:
+                handover.take(self.folder, os.geteuid())
+            except OSError as fault:
+                said = str(fault.strerror)
+        self.expect("what is raised", said, "Too many open files")
 
 
 class Received(FolderCase):
