@@ -195,8 +195,8 @@ class Libraries(Case):
             libraries = mock.Mock(path=lambda *parts: Path(folder, *parts), folder=Path(folder), machine=Path("m.conf"))
             Path(folder, "east").mkdir()
             updates, found = library_updates.Updates(libraries, []), list[int]()
-            few = OSError(11, "Resource temporarily unavailable")
-            with mock.patch.object(children, "start", side_effect=few), contextlib.redirect_stderr(io.StringIO()) as said:
+            few, said = OSError(11, "Resource temporarily unavailable"), io.StringIO()
+            with mock.patch.object(children, "start", side_effect=few), contextlib.redirect_stderr(said):
                 printed_by(lambda: found.append(updates._update("east", [])))
             self.expect("the status", found, [4])
             self.expect("what is said", said.getvalue(), "openlink-update: update: Resource temporarily unavailable\n")
