@@ -110,6 +110,22 @@ class Times(Case):
             )
             self.expect("all are down", group.is_down())
 
+    def test_status_of_a_process(self) -> None:
+        """One that answers with another status has no report, whatever its text is."""
+        reply = mock.Mock(read=lambda: b"press\tno row\n")
+        with mock.patch("http.client.HTTPConnection") as peer:
+            peer.return_value.getresponse.return_value = reply
+            for status, answers in ((200, True), (503, False), (204, False)):
+                reply.status = status
+                self.expect(f"status {status}", processes._answers(1), answers)
+
+    def test_waiting_for_all(self) -> None:
+        """Each is asked until it answers, or the time is over."""
+        for seconds, replies, wanted in ((600, [False, False, True, True], [1, 1, 1, 2]), (0, [False, False], [1, 2])):
+            with mock.patch.object(processes, "_answers", side_effect=replies) as asked:
+                processes.Processes([1, 2], "true", "true", seconds).wait_for_all()
+            self.expect(f"{seconds} seconds: who is asked", [call.args[0] for call in asked.call_args_list], wanted)
+
     def test_restart(self) -> None:
         self.expect("seconds", processes._SECONDS_TO_RESTART, 120)
         self.expect("a command that ends", reason(processes.run, ["true"]), "")
