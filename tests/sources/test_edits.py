@@ -48,8 +48,8 @@ def changed_lines(crate: str, path: str) -> list[tuple[str, str]]:
 
 
 def of_premises(edits: Edits) -> Iterator[str]:
-    """Which edits remove a premise of a statement and put none in its place. A proof that takes the premise does not fit
-    what is left, whether it needs the premise or not, so such an edit shows nothing."""
+    """Which edits remove a premise of a statement and put none in its place. A proof that takes the premise does not
+    fit what is left, whether it needs the premise or not, so such an edit shows nothing."""
     for crate, path in edits:
         if any(new.count(ARROW) < old.count(ARROW) for old, new in changed_lines(crate, path)):
             yield f"{path}: put a premise that says nothing, such as x ≡ x, in place of the one that it removes"
