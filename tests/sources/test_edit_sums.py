@@ -133,9 +133,12 @@ print(json.dumps({name: sums.of(f"a/{name}") for name in sys.argv[1:]}))"""
 EDITS = [name[len("edits/a/") : -len(".edit")] for name in FILES if name.startswith("edits/")]
 
 
-# A toolchain that refuses each edit that it is given, in a file of the crate that $PLACE names.
+# A toolchain that refuses each edit that it is given, in a file of the crate that $PLACE names. If $GATE is `whole`, its
+# gate takes no names of crates, and it needs the libraries that were built.
 RT = """#!/bin/sh
 [ "$1" = version ] && { echo kit; exit; }
+[ "$GATE $1" = "whole ci" ] && { echo "usage: rt ci"; exit 2; }
+[ "$GATE" = whole ] && ! grep -q built crates/low/out/rlib/stamp && exit 1
 for edit in crates/a/must-fail/*.edit; do
   echo "rt: must-fail a/${edit##*/}: refused, as it must be: note: $PLACE:1:1: it is not proved"
 done
@@ -179,8 +182,8 @@ class Sums(Case):
 class Tries(Case):
     """edits/try, with a stand-in for the toolchain."""
 
-    def tried(self, folder: str, place: str, *words: str) -> tuple[int, str]:
-        env = {**os.environ, "PATH": f"{folder}/bin:{os.environ['PATH']}", "PLACE": place}
+    def tried(self, folder: str, place: str, *words: str, gate: str = "") -> tuple[int, str]:
+        env = {**os.environ, "PATH": f"{folder}/bin:{os.environ['PATH']}", "PLACE": place, "GATE": gate}
         env.pop("CI", None)
         done = subprocess.run([f"{folder}/edits/try", *words], env=env, stdout=subprocess.PIPE, text=True, check=False)
         return done.returncode, done.stdout.splitlines()[-1]
@@ -205,3 +208,7 @@ class Tries(Case):
             self.expect("what a lemma decides", changed, (0, "2 passed, 0 failed, 2 as they were tried before"))
             again = self.tried(folder, "src/lib.rt", "--all")
             self.expect("all", again, (0, "4 passed, 0 failed, 0 as they were tried before"))
+            Path(folder, "crates/low/out/rlib").mkdir(parents=True)
+            Path(folder, "crates/low/out/rlib/stamp").write_text("built", encoding="utf-8")
+            alone = self.tried(folder, "src/lib.rt", "--all", gate="whole")
+            self.expect("without a gate for some crates", alone, again)
