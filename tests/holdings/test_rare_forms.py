@@ -209,6 +209,23 @@ class Logs(Case):
         titles = [(it.title, it.numbers, it.requests.total()) for it in counter_reports.titles_in(report)]
         self.expect("of a report", titles, [("Tides", ("2901-0012",), 3), ("Piers", ("2915-0272",), 4)])
 
+    def test_encodings_of_a_report(self) -> None:
+        """UTF-8, with and without a mark, and both orders of UTF-16 with a mark."""
+        report = (
+            "Report_Name,Title Master Report\nReport_ID,TR\nRelease,5\n\n"
+            "Title,Print_ISSN,Metric_Type,Nov-2026\nÉtudes,2901-0012,Total_Item_Requests,3\n"
+        )
+        for encoding, mark in (
+            ("utf-8", b""),
+            ("utf-8", b"\xef\xbb\xbf"),
+            ("utf-16-le", b"\xff\xfe"),
+            ("utf-16-be", b"\xfe\xff"),
+        ):
+            data = mark + report.encode(encoding)
+            self.expect(f"{encoding}, {mark!r}: it is one", counter_reports.is_report(data), True)
+            titles = [(it.title, it.requests.total()) for it in counter_reports.titles_in(data)]
+            self.expect(f"{encoding}, {mark!r}", titles, [("Études", 3)])
+
 
 class Files(Case):
     def test_rules_that_cannot_be_listed(self) -> None:

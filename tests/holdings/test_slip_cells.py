@@ -190,6 +190,7 @@ class Cells(Case):
         for name, address, rules, proxy, wanted in (
             ("rules", own, f"rule\nlink {own}{{+title_url}}\n", "", 0),
             ("a line", own, "rule\nlink {+title_url}\n", own, 0),
+            ("in capitals", own.replace("proxy.example.org", "Proxy.Example.ORG"), "rule\nlink {+title_url}\n", own, 0),
             ("neither", other, f"rule\nlink {own}{{+title_url}}\n", own, 1),
             ("its redirector", athens.format("example.org"), "", athens.format("example.org"), 0),
             ("the redirector of another", athens.format("example.edu"), "", athens.format("example.org"), 1),
