@@ -208,6 +208,17 @@ class Cells(Case):
         self.expect("rows", long, ["file: a sheet with more than 30,000,000 cells: is it a table of holdings?"])
         self.expect(f"they take {megabytes} MB", 0 < megabytes <= MOST_MB)
 
+    def test_exponents(self) -> None:
+        """A whole number of at most fifteen digits is written out. A spreadsheet shows no more digits of another."""
+        for cell, wanted in (
+            ("9.99999999999999E+14", "999999999999999"),
+            ("-2.5E+1", "-25"),
+            ("1E+15", "1e+15"),
+            ("1.23456789012345678E+17", "1.23456789012346e+17"),
+            ("2.50", "2.5"),
+        ):
+            self.expect(cell, sheets.number_of(cell), wanted)
+
 
 class Dates(Case):
     def test_day_numbers(self) -> None:
@@ -279,17 +290,6 @@ class Zeros(Case):
         ):
             rows = read(xlsx([HEAD, ["Tides", cell, "2908-0142", "1995"]]))
             self.expect(str(cell), rows[0][1] if isinstance(rows, list) else rows, wanted)
-
-    def test_exponents(self) -> None:
-        """A whole number of at most fifteen digits is written out. A spreadsheet shows no more digits of another."""
-        for cell, wanted in (
-            ("9.99999999999999E+14", "999999999999999"),
-            ("-2.5E+1", "-25"),
-            ("1E+15", "1e+15"),
-            ("1.23456789012345678E+17", "1.23456789012346e+17"),
-            ("2.50", "2.5"),
-        ):
-            self.expect(cell, sheets.number_of(cell), wanted)
 
     def test_other_numbers(self) -> None:
         """A column of the provider's own numbers gets none, although one in eleven would fit."""
