@@ -68,6 +68,8 @@ class Texts(Case):
             ({"de": "Bibliothek", "fr": "Bibliothèque"}, ("Bibliothek", "Bibliothek")),
             ({"fr": "Bibliothèque", "en": "Library"}, ("Bibliothèque", "Library")),
             ("Library", ("Library", "Library")),
+            ("L" * 100, ("L" * 100, "L" * 100)),
+            ("L" * 101, ("L" * 100 + "..", "L" * 100 + "..")),
             ({}, ("", "")),
             (7, ("", "")),
         ):
