@@ -6,11 +6,13 @@ import tempfile
 from pathlib import Path
 
 from fixtures.cases import Case
+from openlink_update.counts import log_counts
 from openlink_update.desk import lint_lines
 from openlink_update.desk import logs
 from openlink_update.desk import site_files
 from openlink_update.desk import targets
 from openlink_update.desk import words_in
+from openlink_update.desk import year
 from openlink_update.desk.targets import Target
 from openlink_update.outcome import DEVICE
 from openlink_update.outcome import Failure
@@ -42,6 +44,32 @@ class Lint(Case):
             Path(folder, "received/press.rules").write_text("rule\nlink https://e.org/\n", encoding="utf-8")
             said = ("table: TooLong at row 2", "openlink lint: no end after 600 seconds", "rule 1 is never reached")
             self.expect("with rules", lines.of(target), said)
+
+    def test_places_of_lines(self) -> None:
+        """Each line of lint is beside the rule, the guard or the link that it is about."""
+        rules = ["rule", "when given title_id", "when given rft.volume", "link https://e.org/{a}", "rule", "link x"]
+        about = {
+            0: ["rule 1 is never reached"],
+            2: ["rule 1, guard 2: unknown name rft.volume"],
+            3: ["rule 1, link: unknown name a", "rule 1, link: a host"],
+            5: ["rule 2, link: no host"],
+        }
+        others = ["rules 2", "rule 3, link: unknown name b", "rule 1, guard 3: unknown name c"]
+        said = [line for lines in about.values() for line in lines] + others
+        self.expect("places, and the others", lint_lines.beside(rules, said), (about, others))
+
+
+class Years(Case):
+    def test_labels(self) -> None:
+        """Below the first month and each January is its year. If they are too near each other, January has it alone."""
+        for months, wanted in (
+            (("2025-11", "2025-12", "2026-01"), ["11", "12", "01", "2026"]),
+            (("2025-10", "2025-11", "2025-12", "2026-01"), ["10", "2025", "11", "12", "01", "2026"]),
+            (("2026-02", "2026-03"), ["02", "2026", "03"]),
+        ):
+            found = year.year_of([(month, log_counts.REQUESTS, "", 7) for month in months])
+            labels = [it.text for it in found.last.chart.labels if it.anchor == "middle"] if found else []
+            self.expect(" ".join(months), labels, wanted)
 
 
 class Versions(Case):

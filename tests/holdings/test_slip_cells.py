@@ -27,6 +27,7 @@ TEXTS, NO_ROW = "new texts that rules do not compare with", "rules that hold on 
 DAMAGED, OTHERS = "damaged letters in titles", "numbers known under other titles"
 EMBARGOES, COVERAGE = "embargoes in notes", "coverage in notes"
 ABSTRACTS = "abstracts alone"
+CAPITALS = "titles in capitals"
 
 
 def material(*rows: tuple[str, ...], rules: str = "rule\nlink {+title_url}\n", proxy: str = "") -> Material:
@@ -420,6 +421,17 @@ class FirstTables(Case):
         self.expect("what it has", wanted[:-1] in judge.text(["press"]), True)
         said = [line for line in judge.lines("press") if line.startswith("no first date in any row: 9 of 9 rows")]
         self.expect("said", len(said), 1)
+
+    def test_capitals_of_a_small_table(self) -> None:
+        """Two titles in capitals are most of a table of three, but not odd if the version before had them so too."""
+        header = ("publication_title", "print_identifier")
+        capitals = [["TIDAL STUDIES", "0028-0836"], ["HARBOUR ANNALS", "2434-561X"], ["Piers", "2901-0012"]]
+        small = [["Tidal Studies", "0028-0836"], ["Harbour Annals", "2434-561X"], ["Piers", "2901-0012"]]
+        now, before, other = (
+            Material(Table(header, rows), [], [], 3, None, "", "") for rows in (capitals, capitals, small)
+        )
+        for words, old, wanted in (("before too", before, 0), ("in small letters before", other, 2)):
+            self.expect(words, count_of(CAPITALS, now, old), wanted)
 
     def test_same_number(self) -> None:
         """Two titles may share a number that most rows have, and three not."""

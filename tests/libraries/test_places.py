@@ -103,3 +103,18 @@ class Removal(Case):
             self.expect("the statuses", (added, removed), (0, 0))
             names = os.listdir(f"{folder}.removed")
             self.expect(f"{names}", ("site.conf" in names, [it for it in LINKS if it in names]), (True, []))
+
+    def test_names(self) -> None:
+        """What can be no library's name is no name of one to remove either, whatever is at its path."""
+        with tempfile.TemporaryDirectory() as room:
+            Places(room).libraries.mkdir(parents=True)
+            inside, outside = Places(room).libraries / "North", Places(room).libraries.parent / "kept"
+            for folder in inside, outside:
+                folder.mkdir()
+            for name in ("", "..", "../kept", "North", "a b"):
+                said = io.StringIO()
+                with contextlib.redirect_stderr(said), self.assertRaises(SystemExit) as ended:
+                    library.main(["--root", room, "remove", name])
+                self.expect(f"{name!r}: the status", ended.exception.code, 2)
+                self.expect(f"{name!r}", f"no library can have the name {name}\n" in said.getvalue(), True)
+            self.expect("both stay", (inside.is_dir(), outside.is_dir()), (True, True))
