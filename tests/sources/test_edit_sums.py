@@ -133,8 +133,8 @@ print(json.dumps({name: sums.of(f"a/{name}") for name in sys.argv[1:]}))"""
 EDITS = [name[len("edits/a/") : -len(".edit")] for name in FILES if name.startswith("edits/")]
 
 
-# A toolchain that refuses each edit that it is given, in a file of the crate that $PLACE names. If $GATE is `whole`, its
-# gate takes no names of crates, and it needs the libraries that were built.
+# A toolchain that refuses each edit that it is given, in a file of the crate that $PLACE names. If $GATE is `whole`,
+# its gate takes no names of crates, and it needs the libraries that were built.
 RT = """#!/bin/sh
 [ "$1" = version ] && { echo kit; exit; }
 [ "$GATE $1" = "whole ci" ] && { echo "usage: rt ci"; exit 2; }
