@@ -607,12 +607,18 @@ const OTHER_ENCODINGS = [
     ['ISO-8859-15', '5 \u20ac', '5+%A4'], ['KOI8-R', '\u041c\u043e\u0440\u0435', '%ED%CF%D2%C5']
 ].map((it) => [it[0], 'ctx_enc=info:ofi/enc:' + it[0] + '&rft_val_fmt=x&rft.atitle=' + it[2],
     'ctx_enc=info:ofi/enc:UTF-8', 'rft_val_fmt=x&rft.atitle=' + encodeURIComponent(it[1])]);
-const UNKNOWN_ENCODINGS = [
+// Names that begin or end as those of others do.
+const NEARLY_KNOWN = [
+    'ISO-8859-10', 'latin-10', 'windows-12525', '12501', 'cp12511', 'ISO-8859-20', 'latin20', 'ISO-8859-155', 'latin-90',
+    'ISO-8859-50', 'KOI8-RU', 'x-KOI8-R', 'UTF-80', 'x-UTF-8', 'ASCII-8'
+].map((it) => [it, 'ctx_enc=info:ofi/enc:' + it + '&rft_val_fmt=x&rft.atitle=%A4', '',
+    'ctx_enc=info:ofi/enc:' + it + '&rft_val_fmt=x']);
+const UNKNOWN_ENCODINGS = NEARLY_KNOWN.concat([
     ['Shift_JIS', 'ctx_enc=info:ofi/enc:Shift_JIS&rft_val_fmt=x&rft.atitle=%8AC%97m', '',
         'ctx_enc=info:ofi/enc:Shift_JIS&rft_val_fmt=x'],
     ['EUC-KR, and ASCII', 'ctx_enc=info%3Aofi%2Fenc%3AEUC-KR&rft_val_fmt=x&rft.atitle=Sea%20', ''],
     ['GB2312, and UTF-8', 'ctx_enc=info:ofi/enc:GB2312&rft_val_fmt=x&rft.atitle=%E6%B5%B7', '']
-];
+]);
 
 const FIELDS = [
     ['ISSN', 'number=2901-0012&rft_val_fmt=x', 'rft.issn=2901-0012 x.issn=2901-0012'],

@@ -336,9 +336,9 @@ function testHeaders() {
 // The categories of CLDR, of a language and numbers.
 const CATEGORIES = [
     ['en de nl sv da el tr', '0 other, 1 one, 2 other, 5 other, 21 other, 1000000 other'],
-    ['fr pt pt-BR', '0 one, 1 one, 2 other, 21 other, 1000 other, 1000000 many, 1000001 other, 3000000 many'],
-    ['es it pt-PT', '0 other, 1 one, 2 other, 21 other, 1000 other, 1000000 many, 1000001 other, 3000000 many'],
-    ['pl', '0 many, 1 one, 2 few, 4 few, 5 many, 11 many, 12 many, 14 many, 21 many, 22 few, 112 many, 122 few'],
+    ['fr pt pt-BR FR', '0 one, 1 one, 2 other, 21 other, 1000 other, 1000000 many, 1000001 other, 3000000 many'],
+    ['es it pt-PT PT-pt', '0 other, 1 one, 2 other, 21 other, 1000 other, 1000000 many, 1000001 other, 3000000 many'],
+    ['pl PL', '0 many, 1 one, 2 few, 4 few, 5 many, 11 many, 12 many, 14 many, 21 many, 22 few, 112 many, 122 few'],
     ['uk', '0 many, 1 one, 2 few, 4 few, 5 many, 11 many, 12 many, 14 many, 21 one, 22 few, 111 many, 121 one'],
     ['cs', '0 other, 1 one, 2 few, 4 few, 5 other, 12 other, 21 other, 22 other, 102 other'],
     ['hr', '0 other, 1 one, 2 few, 11 other, 12 other, 21 one, 24 few'],
