@@ -53,6 +53,7 @@ const ISBNS = [
 const CHECKED = [
     ['0198534531', true], ['0198534532', false], ['0918534531', false], ['080442957X', true], ['080442957x', true],
     ['0804429570', false], ['9780198534532', true], ['9780198534533', false], ['9870198534532', false],
+    ['00000000000000', false],
     ['978019853453', false], ['00000000000', false], ['0000000000', true], ['', false]
 ];
 
@@ -92,4 +93,24 @@ const ADDRESSES = [
     ['javascript:https://a', false], ['', false]
 ];
 
-export default { DATES, DAYS, ISSNS, ISBNS, CHECKED, VOLUMES, PAGES, ADDRESSES };
+// A text, and the same in HTML and in an attribute of it.
+const ESCAPED = [
+    ['', ''], ['Silt', 'Silt'], ['a & b', 'a &amp; b'], ['&amp;', '&amp;amp;'], ['<b>', '&lt;b&gt;'], ['>', '&gt;'],
+    ['"', '&quot;'], ["'", '&#39;'], ["O'Neill", 'O&#39;Neill'], ['&&<<>>""\'\'',
+        '&amp;&amp;&lt;&lt;&gt;&gt;&quot;&quot;&#39;&#39;'], ['caf\u00e9', 'caf\u00e9']
+];
+// A text, and the same without control characters and noncharacters, line ends and more than one space.
+const CLEAN = [
+    ['', ''], ['a b', 'a b'], [' a ', 'a'], ['a  b', 'a b'], ['a\tb', 'a b'], ['a\r\nb', 'a b'], ['a\u0000b', 'a b'],
+    ['a\u001fb', 'a b'], ['a\u007fb', 'a b'], ['a\u0080b', 'a b'], ['a\u009fb', 'a b'], ['a\u2028b', 'a b'],
+    ['a\u2029b', 'a b'], ['a\ufdd0b', 'a b'], ['a\ufdefb', 'a b'], ['a\ufffeb', 'a b'], ['a\uffffb', 'a b'],
+    ['a\ufffdb', 'a\ufffdb'], ['a\ufdcfb', 'a\ufdcfb'], ['a\u2027b', 'a\u2027b'], ['caf\u00e9', 'caf\u00e9'],
+    ['\t', ''], ['a\n', 'a'], ['a b\n', 'a b'], ['a   b   c', 'a b c'], ['a '.repeat(200), 'a '.repeat(200).trim()]
+];
+// A number of a table, the same as the standards write it, and whether it is an ISSN.
+const STANDARD = [
+    ['2901-0012', '2901-0012 true'], ['0198534531', '9780198534532 false'], ['080442957X', '9780804429573 false'],
+    ['9781234560102', '9781234560102 false']
+];
+
+export default { ESCAPED, CLEAN, STANDARD, DATES, DAYS, ISSNS, ISBNS, CHECKED, VOLUMES, PAGES, ADDRESSES };
