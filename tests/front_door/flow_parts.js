@@ -35,9 +35,23 @@ function replyWith(data) {
 // The values that the keys of an expected text have, in its form: `KEY=VALUE`, with a line between two keys.
 function valuesOf(q, expected) {
     return expected.split('|').map((pair) => pair.slice(0, pair.indexOf('='))).map((name) => {
-        return name + '=' + q.all(name.startsWith('x.') ? name : 'rft.' + name).join('+');
+        const isWhole = name.startsWith('x.') || name.includes('_');
+        return name + '=' + q.all(isWhole ? name : 'rft.' + name).join('+');
     }).join('|');
 }
+
+// The titles of an index by their keys.
+const TIDES = 'j\tTides\t2901-0012 2908-0142\ta 0';
+const SILT = 'b\tSilt\t0198534531\tb 0';
+const TITLES = {
+    '=tides': [TIDES], '2901-0012': [TIDES], '2908-0142': [TIDES], '=silt': [SILT], 9780198534532: [SILT],
+    '=both': ['j\tBoth\t2950-0013\t', 'b\tBoth\t9781234560102\t'], '=two': ['j\tTwo\t2960-0014\t',
+    'j\tTwo\t2970-0015\t'],
+    '=sea and coast': ['j\tSea and coast\t2980-0016\t'], '=kuste': ['j\tK\u00fcste\t2990-0017\t'],
+    '~tides studies': ['j\tTides studies: x\t2930-0018\t'], '~two': ['j\tTwo: x\t2920-0019\t'],
+    '=sued': ['j\tSued\t2910-0011\t'], '2950-0013': ['j\tBoth\t2950-0013\t'],
+    9781234560874: ['b\tSeries\t9781234560874 2940-0011\t']
+};
 
 // ---------------------------------------------------------------- Services
 const WORK = { title: ['Silt'], 'container-title': ['Tides'] };
@@ -108,6 +122,22 @@ const DATACITE = [
         'aulast=Tide Group|aufirst=|date='],
     ['id=arXiv:2101.00001', preprint({ publicationYear: 3021, titles: [] }), 'genre=|atitle=|date=']
 ];
+// The same of a site that asks more, and whose index has these titles.
+const INDEXED = [
+    [DOI, work('journal-article', { ISSN: ['1000-0010'] }), 'x.issn=1000-0010|jtitle=Tides'],
+    [DOI, work('book'), 'rft_val_fmt=info:ofi/fmt:kev:mtx:book|x.isbn=9780198534532'],
+    [DOI, work('journal-article'), 'rft_val_fmt=info:ofi/fmt:kev:mtx:journal|x.issn=2901-0012'],
+    [DOI + '&jtitle=Nothing', work('journal-article'), 'jtitle=Nothing|atitle=Silt'],
+    [DOI + '&rft.title=Nothing', work('journal-article'), 'jtitle=|title=Nothing|atitle=Silt'],
+    [DOI + '&issn=1000-0010&jtitle=Nothing', work('journal-article', { ISSN: ['1000-0010', '2908-0142'] }),
+        'x.issn=1000-0010|eissn=2908-0142'],
+    [DOI + '&issn=1000-0010&eissn=1000-0029&jtitle=Nothing', work('journal-article', { ISSN: ['2908-0142'] }),
+        'x.issn=1000-0010|eissn=1000-0029'],
+    [DOI + '&issn=1000-0010&jtitle=Nothing', work('journal-article', { ISBN: ['9780198534532'] }), 'isbn='],
+    [DOI + '&jtitle=Nothing', work('journal-article', { 'container-title': ['Two'], title: [] }),
+        'issn=|jtitle=Nothing'],
+    ['rft_id=PMC7', summary({ articleids: [{ idtype: 'doi', value: 'pmid:7' }] }), 'x.doi=|x.issn=2901-0012']
+];
 // A request, the variables of the site, and the path of the proxy that is asked.
 const ASKED = [
     [DOI, LOOKUP, 'doi?id=10.5555%2Fabc'], ['id=pmid:12', LOOKUP, 'pmid?id=12'], ['rft_id=PMC7', LOOKUP, 'pmc?id=7'],
@@ -118,7 +148,8 @@ const ASKED = [
     [DOI + '&jtitle=Tides', LOOKUP, ''], [DOI + '&btitle=Silt', LOOKUP, ''], [DOI + '&title=Tides', LOOKUP, ''],
     [DOI + '&stitle=Tid', LOOKUP, ''], [DOI + '&rft.title=Silt', LOOKUP, ''], [DOI + '&atitle=Silt', LOOKUP,
         'doi?id=10.5555%2Fabc'],
-    ['issn=2901-0012', LOOKUP, ''], ['', LOOKUP, ''], ['rft_id=info:oclcnum/7', LOOKUP, ''],
+    ['rft_id=https://pubmed.gov/1234567890', LOOKUP, ''], ['issn=2901-0012', LOOKUP, ''], ['', LOOKUP, ''],
+    ['rft_id=info:oclcnum/7', LOOKUP, ''],
     [DOI + '&jtitle=Tides', MORE, 'doi?id=10.5555%2Fabc'], ['id=pmid:12&jtitle=Tides', MORE, 'pmid?id=12'],
     ['rft_id=PMC7&jtitle=Tides', MORE, 'pmc?id=7'], [DOI + '&issn=2901-0012', MORE, ''],
     [DOI + '&jtitle=Tides', { openlink_lookup_more: 'on' }, '']
@@ -130,6 +161,11 @@ async function testServices(expect) {
         const q = await completion.queryOf(requestWith(all[i][0], null, LOOKUP));
         expect('looked up, ' + all[i][0] + ' ' + i, valuesOf(q, all[i][2]), all[i][2]);
     }
+    for (let i = 0; i < INDEXED.length; i++) {
+        replyWith(INDEXED[i][1]);
+        const q = await completion.queryOf(requestWith(INDEXED[i][0], TITLES, MORE));
+        expect('beside the index, ' + INDEXED[i][0] + ' ' + i, valuesOf(q, INDEXED[i][2]), INDEXED[i][2]);
+    }
     for (let i = 0; i < ASKED.length; i++) {
         replyWith(null);
         await completion.queryOf(requestWith(ASKED[i][0], null, ASKED[i][1]));
@@ -138,15 +174,6 @@ async function testServices(expect) {
 }
 
 // ---------------------------------------------------------------- The index
-const TIDES = 'j\tTides\t2901-0012 2908-0142\ta 0';
-const SILT = 'b\tSilt\t0198534531\tb 0';
-const TITLES = {
-    '=tides': [TIDES], '2901-0012': [TIDES], '2908-0142': [TIDES], '=silt': [SILT], 9780198534532: [SILT],
-    '=both': ['j\tBoth\t2950-0013\t', 'b\tBoth\t9781234560102\t'], '=two': ['j\tTwo\t2960-0014\t',
-    'j\tTwo\t2970-0015\t'],
-    '=sea and coast': ['j\tSea and coast\t2980-0016\t'], '=kuste': ['j\tK\u00fcste\t2990-0017\t'],
-    '~tides studies': ['j\tTides studies: x\t2930-0018\t']
-};
 // A request, and what is known then. `known` is what is certain, and `meant` are the titles that it may mean.
 const COMPLETED = [
     ['jtitle=Tides', 'issn=2901-0012|eissn=2908-0142|x.issn=2901-0012|known=number|meant='],
@@ -154,6 +181,9 @@ const COMPLETED = [
     ['title=Silt', 'btitle=Silt|jtitle=|known=number'], ['title=Tides', 'jtitle=Tides|btitle=|known=number'],
     ['jtitle=Both', 'issn=2950-0013|known=number'], ['btitle=Both', 'x.isbn=9781234560102|known=number'],
     ['title=Both', 'issn=|x.isbn=|known=title|meant=Both Both'], ['jtitle=Two', 'issn=|known=title|meant=Two Two'],
+    ['jtitle=Two&title=Tides', 'issn=|meant=Two Two'], ['genre=book&jtitle=Both&btitle=Silt', 'x.isbn=9780198534532'],
+    ['issn=2901-0012&eissn=2950-0013', 'titles=Tides Both'], ['issn=2901-0012&eissn=2908-0142', 'titles=Tides'],
+    ['isbn=9781234560874', 'eissn=|issn=|further=2940-0011'], ['jtitle=S%C3%BCd', 'issn=|meant=Sued'],
     ['jtitle=Silt', 'x.isbn=|known=title|meant=Silt'], ['jtitle=Nothing', 'known=title|meant='],
     ['jtitle=Nothing&title=Tides', 'issn=2901-0012|known=number'],
     ['issn=2901-0012', 'jtitle=Tides|eissn=2908-0142|known=number'], ['issn=2908-0142', 'eissn=2901-0012|jtitle=Tides'],
@@ -172,6 +202,8 @@ const COMPLETED = [
 async function testIndex(expect) {
     const read = (q, expected) => expected.split('|').map((pair) => pair.slice(0, pair.indexOf('='))).map((name) => {
         if (name === 'known') return 'known=' + q.knowledge;
+        if (name === 'titles') return 'titles=' + q.titles.map((it) => it.title).join(' ');
+        if (name === 'further') return 'further=' + q.further.map((it) => it.numbers.join(' ')).join();
         if (name === 'meant') return 'meant=' + q.maybe.map((it) => it.title).join(' ');
         return valuesOf(q, name + '=');
     }).join('|');
