@@ -25,6 +25,7 @@ import parts from './parts.js';
 import freeForms from './free_forms.js';
 import flowParts from './flow_parts.js';
 import folding from './fold.js';
+import frameParts from './frame_parts.js';
 import ruleCases from './rule_cases.js';
 import sample from './sample.js';
 import values from './values.js';
@@ -772,7 +773,9 @@ testValues();
 testRis();
 testCitations();
 testHeaders();
-freeForms.all().concat(pageParts.all(), menuParts.all()).forEach((it) => { expect(it[0], it[1], it[2]); });
+freeForms.all().concat(pageParts.all(), menuParts.all(), frameParts.all()).forEach((it) => {
+    expect(it[0], it[1], it[2]);
+});
 testWords();
 testPlurals();
 testCases();
