@@ -645,6 +645,48 @@ function testHealth() {
         expect('health, old, ' + it[0], reply.status + ' ' + reply.text.split('\n').slice(0, 2).join(','), it[1]);
     });
     testUpdates();
+    testMachine();
+}
+
+// The delivery of a machine and the one that it should have, whether it is drained, whether the processes of each site
+// answer, and the reply: what a balancer takes for a machine that readers may get is a status of 200, and 404 for one
+// that is drained.
+const EARLY = '20280101T000000Z';
+const LATE = '20280102T000000Z';
+const MISSING = 'the delivery ' + LATE + ' is missing: openlink-update --send brings it';
+const MACHINES = [
+    [EARLY, '', false, ['tt'], '200 ok|delivery ' + EARLY], ['', '', false, ['tt'], '200 ok|no delivery'],
+    [EARLY, EARLY, false, ['tt'], '200 ok|delivery ' + EARLY], [LATE, EARLY, false, ['tt'], '200 ok|delivery ' + LATE],
+    [EARLY, LATE, false, ['tt'], '503 ' + MISSING + '|delivery ' + EARLY],
+    ['', LATE, false, ['tt'], '503 ' + MISSING + '|no delivery'],
+    [LATE, LATE, true, ['tt'], '404 drained|delivery ' + LATE],
+    [EARLY, LATE, true, ['tt'], '503 ' + MISSING + '|delivery ' + EARLY],
+    [EARLY, '', false, ['tt', 'tf'], '200 some processes do not answer|delivery ' + EARLY],
+    [EARLY, '', true, ['tf'], '404 drained|delivery ' + EARLY],
+    [EARLY, '', false, ['tf', 'ff'], '503 no process of site1 answers|delivery ' + EARLY],
+    [EARLY, '', true, ['ff', 'tt', 'f'], '503 no process of site0, site2 answers|delivery ' + EARLY],
+    [EARLY, '', false, [], '503 no site has processes|delivery ' + EARLY],
+    [EARLY, LATE, false, ['f'], '503 no process of site0 answers|' + MISSING + '|delivery ' + EARLY]
+];
+// The text of the file `drain`, and whether the machine is drained on 1 January 2028 at noon.
+const DRAINS = [
+    [null, false], ['', true], ['\n', true], ['x', true], ['20280101T120001Z\n', true], ['20280102T000000Z', true],
+    ['20280101T120000Z\n', false], ['20280101T115959Z', false], ['20271231T120001Z', false], ['20200101T000000Z', false]
+];
+function testMachine() {
+    MACHINES.forEach((it) => {
+        const upstreams = it[3].map((all, i) => ({ name: 'site' + i, are: all.split('').map((one) => one === 't') }));
+        const reply = health.machineReplyOf(it[0], it[1], it[2], upstreams);
+        expect('a machine, ' + JSON.stringify(it.slice(0, 4)), reply.status + ' ' + reply.lines.join('|'), it[4]);
+    });
+    DRAINS.forEach((it) => {
+        expect('drained, ' + JSON.stringify(it[0]), health.isDrained(it[0], Date.UTC(2028, 0, 1, 12)), it[1]);
+    });
+    const site = '#upstream x {\nupstream openlink {\n    server 127.0.0.1:8081;\n'
+        + '    server 127.0.0.1:8082 backup;\n}\nupstream none {\n    server unix:/run/x;\n}\n'
+        + '  upstream  a-b.c{\n    server 127.0.0.1:8091;\n}\n';
+    expect('upstreams of a site', health.upstreamsOf('server 127.0.0.1:1;\n' + site)
+        .map((it) => it.name + ' ' + it.ports.join(' ')).join(', '), 'openlink 8081 8082, a-b.c 8091');
 }
 
 function testUpdates() {
