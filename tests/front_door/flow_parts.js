@@ -1,6 +1,9 @@
 // What a request becomes by the library's index and by the services of a look-up, without nginx: both are stand-ins.
 import completion from './completion.js';
 import index from './index.js';
+import languages from './languages.js';
+import openurl from './openurl.js';
+import titlePages from './title_pages.js';
 
 // The file of an index at a path that has these lines by their keys.
 function fileOf(path, titles) {
@@ -215,6 +218,23 @@ async function testIndex(expect) {
     expect('no index', none.knowledge, 'unlisted');
 }
 
+// The page of a title is offered if nginx says that no new version is being put in use.
+async function testOffers(expect) {
+    const site = languages.siteIn({}, '');
+    const statuses = [204, 200, 404, 503];
+    for (let i = 0; i < statuses.length; i++) {
+        const title = { kind: 'j', rows: ['z 0'], pages: [{ target: 'z', url: 'https://z/' }] };
+        const q = Object.assign(openurl.queryOf('issn=2901-0012'), { titles: [title] });
+        const r = { places: [], subrequest: function (place) {
+            this.places.push(place);
+            return Promise.resolve({ status: statuses[i] });
+        } };
+        const found = await titlePages.offeredTo(r, q, [{ links: [] }], site);
+        expect('pages of a title after ' + statuses[i], r.places.join() + ' ' + found.length, '/_before ' + (i === 0
+            ? 1 : 0));
+    }
+}
+
 // The command njs has no timers, and no service here is late.
 async function run(expect) {
     const before = [globalThis.setTimeout, globalThis.clearTimeout];
@@ -222,6 +242,7 @@ async function run(expect) {
     globalThis.clearTimeout = () => undefined;
     await testServices(expect);
     await testIndex(expect);
+    await testOffers(expect);
     globalThis.setTimeout = before[0];
     globalThis.clearTimeout = before[1];
 }

@@ -740,8 +740,11 @@ async function testReplies() {
     request.rawVariables.args = Buffer.from("au=O'Neill&issn=2901-0012");
     let page = '';
     request.return = function (status, text) { this.replied = status; page = text; };
+    globalThis.words_en.todoOther = 'Read the manual';  // the reason of the one target is none that has a text
     await staff.why(request);
+    delete globalThis.words_en.todoOther;
     expect('the page for staff', request.replied, 200);
+    expect('what to do about another reason', page.includes('Read the manual'), true);
     const listed = page.split('<pre dir="ltr">').slice(1).map(function (it) { return it.split('</pre>')[0]; });
     const sent = listed.map(function (it, i) {
         return (i === 0 ? '/_report ' : '/_report_there ') + it.split('&#39;').join("'").split('&amp;').join('&');
