@@ -14,7 +14,7 @@ const NAME = 'Free copy';
 // An address of RFC 3986 by TLS, at the usual port, without a user, whose host is a name of two parts or more. Browsers
 // read a name whose last part is a number as an IP address. In njs 0.7.9 the flag `i` lets U+017F be an `s`, and U+212A
 // a `k`, so that ASCII is a form of its own.
-const ASCII = /^[!-~]+$/;
+const NO_ASCII = /[^!-~]/;
 const LABEL = '[a-z\\d](?:[a-z\\d-]{0,61}[a-z\\d])?';
 const ADDRESS = texts.lazy('^https://((?:' + LABEL + '\\.)+(?:[a-z]{2,24}|xn--' + LABEL + '))(?::443)?'
     + '(?:[/?#][\\w.~:/?#\\[\\]@!$&\'()*+,;=%-]*)?$', 'i');
@@ -26,7 +26,7 @@ const VERSIONS = {
 // The host of an address that a reader may follow; '' if it is none.
 function hostOf(address) {
     if (typeof address !== 'string' || address.length > MOST_ADDRESS) return '';
-    if (!is(ASCII, address) || !is(ADDRESS(), address)) return '';
+    if (is(NO_ASCII, address) || !is(ADDRESS(), address)) return '';
     const host = ADDRESS().exec(address)[1].toLowerCase();
     const last = host.slice(host.lastIndexOf('.') + 1);
     return host.length > MOST_HOST || WITHIN.includes(' ' + last + ' ') ? '' : host;

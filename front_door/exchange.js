@@ -7,7 +7,7 @@ import texts from './text.js';
 
 const is = texts.is;
 const own = texts.own;
-const ASCII = /^[\x21-\x7e]*$/;
+const NO_ASCII = /[^\x21-\x7e]/;
 
 // The library of a request, by the name in the sites of openlink-library; '' for that of openlink.conf. An object that
 // nginx has loaded for a library has its name at the end: `targets__NAME`, with `_` for each hyphen.
@@ -95,7 +95,7 @@ function bytesToText(r) {
 }
 function asciiOf(bytes) {
     const text = bytes.toString();
-    if (is(ASCII, text)) return text;
+    if (!is(NO_ASCII, text)) return text;
     return bytes.toString('hex').replace(/../g, (hex) => {
         const byte = parseInt(hex, 16);
         return byte > 0x20 && byte < 0x7f ? String.fromCharCode(byte) : '%' + hex;

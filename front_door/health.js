@@ -169,6 +169,6 @@ async function machine(r) {
 }
 
 export default {
-    portsOf, textIn, answers, timeOf, ageOf, updateOf, limitOf, replyOf, health: exchange.guarded(health),
-    machine: exchange.guarded(machine)
+    portsOf, upstreamsOf, textIn, answers, timeOf, ageOf, updateOf, limitOf, replyOf, isDrained, machineReplyOf,
+    health: exchange.guarded(health), machine: exchange.guarded(machine)
 };

@@ -11,16 +11,16 @@ const MOST_CHARACTERS = 500;
 const PMC = 'https://pmc.ncbi.nlm.nih.gov/articles/PMC{}/';
 const ARXIV = '10.48550/arXiv.';
 const IDENTIFIERS = [
-    ['x.doi', 'info:doi/', /^(?:(?:(?:info|urn):doi[\/:]|doi[:=]?)\s*){0,3}(10\.[\d.]{4,20}\/\S+)$/i],
-    ['x.pmid', 'info:pmid/', /^(?:info:pmid[\/:]|(?:pmid|pubmed(?:\s?id)?)[:=#]?)\s*(\d{1,9})$/i],
+    ['x.doi', 'info:doi/', /^(?:(?:(?:info|urn):doi[\/:]|doi\s?[:=]?)\s*){0,3}(10\.[\d.]{4,20}\/\S+)$/i],
+    ['x.pmid', 'info:pmid/', /^(?:info:pmid[\/:]|(?:pmid|pubmed(?:\s?id)?)\s?[:=#]?)\s*(\d{1,9})$/i],
     ['x.pmid', 'info:pmid/', /^https?:\/\/(?:www\.)?pubmed\.gov\/(?:\?term=)?(\d+)\b/i],
     ['x.pmid', 'info:pmid/',
         /^(?:https?:)?\/\/(?:www\.|pubmed\.)?ncbi\.nlm\.nih\.gov\/(?:pubmed\/)?(?:\?term=)?(\d+)\b/i],
     ['x.oclc', 'info:oclcnum/',
-        /^(?:info:oclcnum[\/:]|oclc(?:num)?:|https?:\/\/\w*\.?worldcat\.org\/oclc\/)(?:\(\w+\))?(?:oc\w)?(\d+)$/i],
+        /^(?:info:oclcnum[\/:]|oclc(?:num)?:|https?:\/\/\w*\.?worldcat\.org\/oclc\/)(?:\(\w+\))?(?:oc[mn]|on)?(\d+)$/i],
     ['rft.issn', 'urn:ISSN:', /^(?:urn:)?issn[: ]*(\d{4}-?\d{3}[\dx])$/i],
     ['rft.isbn', 'urn:ISBN:', /^(?:urn:)?isbn(?:-1[03])?[: ]*([\d-]{9,17}[\dx])$/i],
-    ['pmc', PMC, /^(?:info:)?pmc(?:id)?[:=\/]?\s*(?:pmc)?\s*(\d{1,9})(?:\.\d{1,3})?$/i],
+    ['pmc', PMC, /^(?:info:)?pmc(?:id)?\s?[:=\/]?\s*(?:pmc)?\s*(\d{1,9})(?:\.\d{1,3})?$/i],
     ['pmc', PMC, /^(?:https?:)?\/\/(?:www\.|pmc\.)?ncbi\.nlm\.nih\.gov\/(?:pmc\/)?articles\/pmc(\d{1,9})(?!\d)/i],
     ['pmc', PMC, /^(?:https?:)?\/\/(?:www\.)?europepmc\.org\/(?:article\/pmc|articles)\/pmc(\d{1,9})(?!\d)/i]
 ];
@@ -92,7 +92,7 @@ function identifierIn(value, key) {
     text = trimmed(joined(text));
     if (text === '') return null;
     if (is(/^(?:info:)?pmid[\/:]http/i, text)) text = text.slice(text.indexOf('http'));
-    text = text.includes('org') ? text.replace(ADDRESS, 'doi:') : withWord(text, key);
+    text = text.toLowerCase().includes('org') ? text.replace(ADDRESS, 'doi:') : withWord(text, key);
     for (let i = 0; i < IDENTIFIERS.length; i++) {
         if (is(IDENTIFIERS[i][2], text)) return identifierOf(IDENTIFIERS[i], IDENTIFIERS[i][2].exec(text)[1]);
     }

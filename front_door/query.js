@@ -8,15 +8,15 @@ const MOST_PAIRS = 300;
 const MOST_BYTES = 12000;
 const MOST_VALUES = 20;  // of one key
 const MOST_REJOINED = 50;
-const ASCII = /^[\x21-\x7e]*$/;
-const UNRESERVED = /^[\w.~-]*$/;
+const NO_ASCII = /[^\x21-\x7e]/;
+const RESERVED = /[^\w.~-]/;
 const NO_ESCAPE = /^[\x21-\x24\x26-\x2a\x2c-\x7e]*$/;
 const HIGH = /%[89a-f]/i;
 const STRAY = /%(?![0-9a-f]{2})/i;
 const ANY = /^[- ]*a[- ]*n[- ]*y[- ]*$/i;
 const PREFIX = /^(?:info:[\w-]+[\/:]|urn:\w+:|(?:doi|pmid|oclc):|(?:https?:\/\/)?(?:dx\.|www\.)?doi\.org\/)+\s*$/i;
 
-function encode(text) { return is(UNRESERVED, text) ? text : encodeURIComponent(text); }
+function encode(text) { return is(RESERVED, text) ? encodeURIComponent(text) : text; }
 
 // The columns of a KBART table, and those that the update adds. An empty cell is undefined, so a request that could
 // write one would choose the link.
@@ -152,7 +152,7 @@ function nameOf(text) {
 }
 
 // A pair as most are: a key in small letters that is neither a column nor a number's, and a value without escapes.
-const USUAL = /^(?:rft\.)?(?!notes=|e?is[sb]n=)[a-z]+=[!-$&-~]*[!-$&-*,-~]$/;
+const USUAL = /^(?:rft\.)?(?!notes=|e?is[sb]n=)[a-z]+=[!-$&-~]*[!-$&-*,-~]$(?!\n)/;
 // Reads one pair and returns whether it has a value.
 Query.prototype.read = function (raw) {
     const at = raw.indexOf('=');
@@ -166,9 +166,11 @@ Query.prototype.read = function (raw) {
     const hasEscapes = !is(NO_ESCAPE, raw);
     const sent = hasEscapes ? this.decode(raw.slice(0, at)) : raw.slice(0, at);
     const key = nameOf(sent);
-    const value = hasEscapes ? this.decode(raw.slice(at + 1)) : raw.slice(at + 1);
+    const given = hasEscapes ? this.decode(raw.slice(at + 1)) : raw.slice(at + 1);
+    const value = texts.withoutLineEnds(given);
     if (isDropped(key, value)) return true;
-    const isKept = key === sent && (!hasEscapes || (this.decodedTexts === before && is(ASCII, raw)));
+    const isAsSent = key === sent && value === given;
+    const isKept = isAsSent && (!hasEscapes || (this.decodedTexts === before && !is(NO_ASCII, raw)));
     this.keep(key, value, isKept ? raw : encode(key) + '=' + encode(value));
     return true;
 };

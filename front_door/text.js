@@ -37,11 +37,17 @@ function targetOf(name) { return name.lastIndexOf('.') > 0 && is(PART, name) ? P
 
 // Text without control characters and noncharacters, which neither HTML nor a header field may hold.
 const CONTROLS = /[\u0000-\u001f\u007f-\u009f\u2028\u2029\ufdd0-\ufdef\ufffe\uffff]/g;
-const PLAIN = /^[!-~]+(?: [!-~]+)*$/;
+const PLAIN = /^[!-~]+(?: [!-~]+)*$(?!\n)/;
 function clean(value) {
     if (value === '' || (value.length < 300 && is(PLAIN, value))) return value;
     const text = is(CONTROLS, value) ? replaced(value, CONTROLS, ' ') : value;
     return (text.includes('  ') ? replaced(text, /\s+/g, ' ') : text).trim();
+}
+// In njs `$` is also before a last line end, so no value of a request ends with one.
+function withoutLineEnds(text) {
+    let end = text.length;
+    while (end > 0 && text.charAt(end - 1) === '\n') end--;
+    return end === text.length ? text : text.slice(0, end);
 }
 // By `split`, since a long address may have thousands of them.
 const ENTITIES = [['&', '&amp;'], ['<', '&lt;'], ['>', '&gt;'], ['"', '&quot;'], ["'", '&#39;']];
@@ -53,7 +59,7 @@ function escape(text) {
     }
     return all;
 }
-// In njs the flag `i` takes U+212A for a `k`, and `$` is also before a last line end.
+// In njs the flag `i` takes U+212A for a `k`.
 function isWeb(link) { return is(/^[Hh][Tt][Tt][Pp][Ss]?:\/\/./, link) && !is(/[^\x21-\x7e]/, link); }
 
-export default { own, is, isObject, lazy, padded, replaced, clean, escape, isWeb, targetOf };
+export default { own, is, isObject, lazy, padded, replaced, clean, withoutLineEnds, escape, isWeb, targetOf };

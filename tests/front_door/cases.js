@@ -172,7 +172,9 @@ const PAGES = [
     ['one that the request has', 'rft_val_fmt=x&rft.pages=101-118&rft.spage=102', ''],
     ['none', 'rft_val_fmt=x&rft.pages=n/a', ''],
     ['an electronic supplement', 'rft_val_fmt=x&rft.pages=123.e1-123.e5', 'rft.spage=123.e1'],
-    ['digits of Arabic', 'rft_val_fmt=x&rft.pages=%D9%A1%D9%A2-%D9%A1%D9%A5', 'rft.spage=12 rft.pages=12-15']
+    ['digits of Arabic', 'rft_val_fmt=x&rft.pages=%D9%A1%D9%A2-%D9%A1%D9%A5', 'rft.spage=12 rft.pages=12-15'],
+    ['digits of full width', 'rft_val_fmt=x&rft.pages=%EF%BC%91%EF%BC%92-15', 'rft.spage=12 rft.pages=12-15'],
+    ['a dash between them', 'rft_val_fmt=x&rft.pages=12%E2%80%9315', 'rft.spage=12']
 ];
 // What sources have in the fields of the first and the last page.
 const FIRST_PAGES = [

@@ -169,6 +169,19 @@ const OF_SOURCES = [
     ['Tides 2010, 2012', 'none'], ['Tides, 978-3-16-148410-0', 'none'], ['Windows 10: 24-hour trainer', 'none'],
     ['The years 1914-1918', 'none'], ['Tides, 2012-2013', 'none'], ['Tides 12', 'none'], ['Tides, 2nd edition', 'none']
 ];
+// The same of another century, and a month of each name before the volume.
+const MONTHS = ['January', 'February', 'March', 'April', 'May', 'June', 'July', 'August', 'September', 'October',
+    'November', 'December'];
+const OF_MONTHS = MONTHS.concat(MONTHS.map((name) => name.slice(0, 3)), MONTHS.map((name) => name.slice(0, 3) + '.'),
+    ['Sept', 'Sept.']).map((month) => ['Tides, 3 ' + month + ' 2012, vol. 12, no. 3', 'Tides|12|3||2012']);
+const OF_1999 = OF_SOURCES.filter((it) => it[1].endsWith('|2012') && !it[0].includes('1999'))
+    .map((it) => [it[0].replace('2012', '1999'), it[1].replace('2012', '1999')]);
+const OF_PAGES = ['i-v', 'v-x', 'l-lx', 'iv-ix', 'xxxviii-xlviii', 'xl-lxxviii', 'i--v', 'ii---iv', 'v - x']
+    .map((pages) => ['Tides 12(3):' + pages, 'Tides|12|3|' + pages + '|'])
+    .concat(['art. no. 45', 'art. no 45', 'art. number 45', 'art. id 45', 'art no 45', 'article number 45',
+        'article id 45', 'Article 45', 'art. 45', 'art 45', 'p45', 'pp45', 'p. 45', 'pg. 45', 's. 45'].map((pages) => {
+        return ['Tides, vol. 12, no. 3, ' + pages, 'Tides|12|3|45|'];
+    }));
 // In a title, a form counts that nothing else has.
 const OF_TITLES = [
     ['Ann Tidal Stud. 2012;12(3):45-67.', 'Ann Tidal Stud|12|3|45-67|2012'],
@@ -190,4 +203,4 @@ const OF_TITLES = [
     ['Tides 2010, 2012, 2014', 'none'], ['World War II, 1939-1945', 'none'], ['Chapters 3, 5 and 7', 'none']
 ];
 
-export default { OF_SOURCES, OF_TITLES };
+export default { OF_SOURCES: OF_SOURCES.concat(OF_1999, OF_MONTHS, OF_PAGES), OF_TITLES };

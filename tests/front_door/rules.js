@@ -3,6 +3,7 @@
 // case, its name alone, or with what it gives and what was expected; and a last line with the number of cases.
 import citation from './citation.js';
 import dates from './dates.js';
+import exchange from './exchange.js';
 import door from './find.js';
 import health from './health.js';
 import index from './index.js';
@@ -12,14 +13,20 @@ import numbers from './numbers.js';
 import openurl from './openurl.js';
 import plurals from './plurals.js';
 import program from './program.js';
+import querying from './query.js';
 import references from './references.js';
 import texts from './text.js';
 import staff from './why.js';
 import wording from './words.js';
 import cases from './cases.js';
+import menuParts from './menu_parts.js';
+import pageParts from './page_parts.js';
 import parts from './parts.js';
 import freeForms from './free_forms.js';
+import flowParts from './flow_parts.js';
 import folding from './fold.js';
+import frameParts from './frame_parts.js';
+import ruleCases from './rule_cases.js';
 import sample from './sample.js';
 import values from './values.js';
 
@@ -48,15 +55,95 @@ function other(text) {
 }
 
 function testCases() {
-    Object.keys(cases).forEach(function (rule) {
-        expect(rule + ' has three cases', cases[rule].length >= 3, true);
-        cases[rule].forEach(function (it) {
+    const all = Object.assign({}, cases, ruleCases.cases);
+    Object.keys(all).forEach(function (rule) {
+        expect(rule + ' has three cases', all[rule].length >= 3, true);
+        all[rule].forEach(function (it) {
             const added = it[2].split(' ').filter(Boolean).map(written);
             const kept = it.length > 3 ? it[3] : it[1];
             const expected = added.concat(kept === '' ? [] : [kept]).join('&');
             expect(rule + ': ' + it[0], openurl.requestOf(it[1]), expected);
             expect(rule + ': ' + it[0] + ', for any', openurl.anyOf(it[1]), other(expected));
         });
+    });
+}
+
+// What is known of a request when its rules have run, beside its text: the kind of title that it wants, and others.
+const ASKED = [
+    ['genre=article', 'j'], ['genre=journal', 'j'], ['genre=issue', 'j'], ['genre=preprint', 'j'], ['genre=book', 'b'],
+    ['genre=bookitem', 'b'], ['genre=report', 'b'], ['genre=document', 'b'], ['genre=dissertation', 'b'],
+    ['genre=+Book+', 'b'], ['rft.genre=book&rft_val_fmt=info:ofi/fmt:kev:mtx:journal', 'b'],
+    ['rft.genre=unknown&rft_val_fmt=info:ofi/fmt:kev:mtx:journal', 'j'],
+    ['rft_val_fmt=info:ofi/fmt:kev:mtx:journal&rft.btitle=Silt', 'j'], ['rft_val_fmt=info:ofi/fmt:kev:mtx:book', 'b'],
+    ['rft_val_fmt=info:ofi/fmt:kev:mtx:dissertation', 'b'], ['rft_val_fmt=info:ofi/fmt:kev:mtx:dc', ''],
+    ['btitle=Silt', 'b'], ['rft.btitle=Silt', 'b'], ['jtitle=Tides', 'j'], ['rft.jtitle=Tides', 'j'],
+    ['stitle=Tid', 'j'], ['rft.stitle=Tid', 'j'], ['btitle=Silt&jtitle=Tides', 'b'], ['title=Tides', ''],
+    ['isbn=9781234560102&title=Tides', ''], ['genre=toString', '']
+];
+function testKnown() {
+    ASKED.forEach((it) => { expect('the kind that is wanted by ' + it[0], openurl.kindAsked(openurl.queryOf(it[0])),
+        it[1]); });
+    expect('the first number of PMC', openurl.queryOf('rft_id=PMC12&rft_id=PMC34').pmc, '12');
+    expect('no number of PMC', openurl.queryOf('rft_id=pmid:12').pmc, '');
+    expect('a plus sign in a DOI', openurl.queryOf('rft_id=info:doi/10.5555/a%2Bb').has('x.doi_encoded'), false);
+    const isEmpty = (text) => openurl.queryOf(text).isEmpty();
+    expect('nothing left', [isEmpty(''), isEmpty('a&b='), isEmpty('x.doi=1'), isEmpty('title=10.5555/abc'),
+        isEmpty('a=1')]
+        .join(), 'true,true,true,false,false');
+    const looked = openurl.begun('genre=article');
+    looked.put('rft.issn', ['2901-0012']);  // as the index does
+    openurl.finish(looked);
+    expect('a number that was looked up', looked.first('x.issn'), '2901-0012');
+    const keys = (names) => names.map((name) => name + '=1').join('&');
+    const read = (text) => new querying.Query(text).pairs.map((pair) => pair.key).join(' ');
+    const named = ruleCases.names.filter((name) => name !== 'pid');
+    expect('keys in capitals', read(keys(named).toUpperCase()), read(keys(named)));
+    expect('all keys', read(keys(ruleCases.names)), ruleCases.names.join(' '));
+}
+
+// The query of a request, from the bytes of its address and of its form, in ASCII without a line end.
+const SENT = [
+    ['a=b', undefined, 'a=b'], ['', 'a=b', 'a=b'], ['a=b', 'c=d', 'a=b&c=d'], ['', '', ''],
+    ['a=b\n', undefined, 'a=b%0a'], ['', 'a=b\n', 'a=b%0a'], ['', 'a=b\r\n', 'a=b%0d%0a'], ['a=b c', undefined,
+    'a=b%20c'],
+    ['a=\u00e9', undefined, 'a=%c3%a9'], ['a=\u007f', undefined, 'a=%7f'], ['a=~!', undefined, 'a=~!']
+];
+function testSent() {
+    const argsOf = (method, args, body, type) => exchange.argsOf({ method, rawVariables: { args: Buffer.from(args) },
+        headersIn: { 'Content-Type': type }, requestBuffer: body === undefined ? undefined : Buffer.from(body) });
+    const form = 'application/x-www-form-urlencoded';
+    SENT.forEach((it) => {
+        expect('the query of ' + JSON.stringify(it.slice(0, 2)), argsOf('POST', it[0], it[1], form), it[2]);
+    });
+    const types = ['application/x-www-form-urlencoded; charset=UTF-8', 'Application/X-WWW-Form-URLencoded',
+        'text/plain', 'application/x-www-form-urlencodedx', 'multipart/form-data; a=application/x-www-form-urlencoded',
+        undefined];
+    expect('types of a form', types.map((type) => argsOf('POST', '', 'c=d', type)).join('|'), 'c=d|c=d||||');
+    expect('methods', ['POST', 'GET', 'HEAD'].map((method) => argsOf(method, 'a=b', 'c=d', form)).join('|'),
+        'a=b&c=d|a=b|a=b');
+    const named = ['lang=de', 'a=b&lang=de', 'lang=de&a=b', 'a=b&lang=pt-BR&c=d', 'xlang=de', 'lang=d',
+        'lang=de_AT', 'lang=DE'];
+    expect('without the language', named.map((args) => argsOf('GET', args, undefined, '')).join('|'),
+        '|a=b|a=b|a=b&c=d|xlang=de|lang=d|lang=de_AT|');
+}
+
+// A request that is too long loses the pairs whose values a rule has put under other keys, and those that a rule has
+// replaced, but not what came as `rft_id`; then pairs from its end.
+const LONG = [
+    ['sid=google', 'rfr_id=info:sid/google'], ['rft_id=info:pmid/7', 'x.pmid=7&rft_id=info:pmid/7'],
+    ['id=pmid:7', 'x.pmid=7&rft_id=info:pmid/7'],
+    ['rft_id=pmid:8&id=doi:10.5555/abc', 'x.pmid=8&rft_id=info:doi/10.5555/abc&x.doi=10.5555/abc&rft_id=pmid:8'],
+    ['url=https://e.org/10.5555/abc', 'x.doi=10.5555/abc&rft_id=info:doi/10.5555/abc'],
+    ['rft.issn=29010012', 'rft.issn=2901-0012&x.issn=2901-0012'], ['volume=3', 'rft.volume=3'], ['rft.volume=3',
+    'rft.volume=3']
+];
+function testLong() {
+    const filler = 'rft.aucorp=' + repeated('b', 70) + '&';
+    LONG.forEach((it) => {
+        const text = openurl.requestOf('rft_val_fmt=x&' + it[0] + '&' + repeated(filler, 200));
+        const sorted = (pairs) => pairs.map((pair) => decodeURIComponent(pair)).sort().join('&');
+        const kept = text.split('&').filter((pair) => pair !== 'rft_val_fmt=x' && !pair.startsWith('rft.aucorp='));
+        expect('of a long request, ' + it[0], sorted(kept), sorted(it[1].split('&')));
     });
 }
 
@@ -89,10 +176,11 @@ function testLimits() {
         tail.length <= 12000 && tail.length > 11900 && /^rft_val_fmt=x&rft\.volume=3&/.test(tail), true);
     expect('pairs are read up to 300', openurl.requestOf(repeated('a=1&', 400)).split('&').length, 301);
     expect('nothing', openurl.requestOf('') + '|' + openurl.anyOf(''), '|rft.issn=ANY');
-    const hostile = ['%', '=', '&=', 'a', '%E9=%E9', repeated('%E9', 4000), '=' + repeated('%', 4000)];
+    const hostile = ['rft.au=a\n', 'rft.issn=2901-0012\n', 'a=%0A\n', '%', '=', '&=', 'a', '%E9=%E9', repeated('%E9',
+        4000), '=' + repeated('%', 4000)];
     hostile.concat('title=' + repeated('%E9', 2600)).forEach(function (text) {
         const sent = openurl.requestOf(text);
-        expect('hostile: ' + text.slice(0, 20), /^[\x21-\x7e]*$/.test(sent) && sent.length <= 12000, true);
+        expect('hostile: ' + text.slice(0, 20), !/[^\x21-\x7e]/.test(sent) && sent.length <= 12000, true);
     });
 }
 
@@ -274,6 +362,11 @@ function testValues() {
     [31, 32, 33, 63, 64, 65, 96].forEach((length) => {
         const text = 'é'.repeat(length - 1);
         expect(`a text of ${length} characters`, texts.clean(text + '\u2028'), text);
+    });
+    values.ESCAPED.forEach((it) => { expect('in HTML, ' + it[0], texts.escape(it[0]), it[1]); });
+    values.CLEAN.forEach((it) => { expect('clean, ' + it[0].slice(0, 40), texts.clean(it[0]), it[1]); });
+    values.STANDARD.forEach((it) => {
+        expect('the number ' + it[0], numbers.standard(it[0]) + ' ' + numbers.isIssn(it[0]), it[1]);
     });
     values.CHECKED.forEach((it) => { expect('the last digit of ' + it[0], numbers.isRight(it[0]), it[1]); });
     const both = function (key, text, first, second) {
@@ -552,6 +645,48 @@ function testHealth() {
         expect('health, old, ' + it[0], reply.status + ' ' + reply.text.split('\n').slice(0, 2).join(','), it[1]);
     });
     testUpdates();
+    testMachine();
+}
+
+// The delivery of a machine and the one that it should have, whether it is drained, whether the processes of each site
+// answer, and the reply: what a balancer takes for a machine that readers may get is a status of 200, and 404 for one
+// that is drained.
+const EARLY = '20280101T000000Z';
+const LATE = '20280102T000000Z';
+const MISSING = 'the delivery ' + LATE + ' is missing: openlink-update --send brings it';
+const MACHINES = [
+    [EARLY, '', false, ['tt'], '200 ok|delivery ' + EARLY], ['', '', false, ['tt'], '200 ok|no delivery'],
+    [EARLY, EARLY, false, ['tt'], '200 ok|delivery ' + EARLY], [LATE, EARLY, false, ['tt'], '200 ok|delivery ' + LATE],
+    [EARLY, LATE, false, ['tt'], '503 ' + MISSING + '|delivery ' + EARLY],
+    ['', LATE, false, ['tt'], '503 ' + MISSING + '|no delivery'],
+    [LATE, LATE, true, ['tt'], '404 drained|delivery ' + LATE],
+    [EARLY, LATE, true, ['tt'], '503 ' + MISSING + '|delivery ' + EARLY],
+    [EARLY, '', false, ['tt', 'tf'], '200 some processes do not answer|delivery ' + EARLY],
+    [EARLY, '', true, ['tf'], '404 drained|delivery ' + EARLY],
+    [EARLY, '', false, ['tf', 'ff'], '503 no process of site1 answers|delivery ' + EARLY],
+    [EARLY, '', true, ['ff', 'tt', 'f'], '503 no process of site0, site2 answers|delivery ' + EARLY],
+    [EARLY, '', false, [], '503 no site has processes|delivery ' + EARLY],
+    [EARLY, LATE, false, ['f'], '503 no process of site0 answers|' + MISSING + '|delivery ' + EARLY]
+];
+// The text of the file `drain`, and whether the machine is drained on 1 January 2028 at noon.
+const DRAINS = [
+    [null, false], ['', true], ['\n', true], ['x', true], ['20280101T120001Z\n', true], ['20280102T000000Z', true],
+    ['20280101T120000Z\n', false], ['20280101T115959Z', false], ['20271231T120001Z', false], ['20200101T000000Z', false]
+];
+function testMachine() {
+    MACHINES.forEach((it) => {
+        const upstreams = it[3].map((all, i) => ({ name: 'site' + i, are: all.split('').map((one) => one === 't') }));
+        const reply = health.machineReplyOf(it[0], it[1], it[2], upstreams);
+        expect('a machine, ' + JSON.stringify(it.slice(0, 4)), reply.status + ' ' + reply.lines.join('|'), it[4]);
+    });
+    DRAINS.forEach((it) => {
+        expect('drained, ' + JSON.stringify(it[0]), health.isDrained(it[0], Date.UTC(2028, 0, 1, 12)), it[1]);
+    });
+    const site = '#upstream x {\nupstream openlink {\n    server 127.0.0.1:8081;\n'
+        + '    server 127.0.0.1:8082 backup;\n}\nupstream none {\n    server unix:/run/x;\n}\n'
+        + '  upstream  a-b.c{\n    server 127.0.0.1:8091;\n}\n';
+    expect('upstreams of a site', health.upstreamsOf('server 127.0.0.1:1;\n' + site)
+        .map((it) => it.name + ' ' + it.ports.join(' ')).join(', '), 'openlink 8081 8082, a-b.c 8091');
 }
 
 function testUpdates() {
@@ -605,8 +740,11 @@ async function testReplies() {
     request.rawVariables.args = Buffer.from("au=O'Neill&issn=2901-0012");
     let page = '';
     request.return = function (status, text) { this.replied = status; page = text; };
+    globalThis.words_en.todoOther = 'Read the manual';  // the reason of the one target is none that has a text
     await staff.why(request);
+    delete globalThis.words_en.todoOther;
     expect('the page for staff', request.replied, 200);
+    expect('what to do about another reason', page.includes('Read the manual'), true);
     const listed = page.split('<pre dir="ltr">').slice(1).map(function (it) { return it.split('</pre>')[0]; });
     const sent = listed.map(function (it, i) {
         return (i === 0 ? '/_report ' : '/_report_there ') + it.split('&#39;').join("'").split('&amp;').join('&');
@@ -665,6 +803,9 @@ function testLinesAtHalves() {
 }
 
 testCases();
+testKnown();
+testSent();
+testLong();
 testLines();
 testLinesAtHalves();
 testGoodForm();
@@ -677,11 +818,13 @@ testValues();
 testRis();
 testCitations();
 testHeaders();
-freeForms.all().forEach((it) => { expect(it[0], it[1], it[2]); });
+freeForms.all().concat(pageParts.all(), menuParts.all(), frameParts.all()).forEach((it) => {
+    expect(it[0], it[1], it[2]);
+});
 testWords();
 testPlurals();
 testCases();
 testCommands();
 testReasons();
 testHealth();
-testReplies().then(() => { console.log(String(count)); });
+testReplies().then(() => flowParts.run(expect)).then(() => { console.log(String(count)); });

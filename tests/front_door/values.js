@@ -21,7 +21,10 @@ const DATES = [
     ['08/2013', '2013-08'], ['8.2013', '2013-08'], ['8-2013', '2013-08'], ['13/2013', '2013'], ['00/2013', '2013'],
     ['mayor 2013', '2013'], ['Junek 2013', '2013'], ['Sept 2013', '2013-09'], ['Decem 2013', '2013'],
     ['xAug 2013', '2013'], ['2013 August', '2013-08'], ['Autumn 2013', '2013'], ['3013', ''], ['0999', ''],
-    ['02003', ''], ['+2003', '2003'], ['0x7d3', '']
+    ['02003', ''], ['+2003', '2003'], ['0x7d3', ''], ['19990801', '1999-08-01'], ['199908', '1999-08'],
+    ['25/12/1999', '1999-12-25'], ['08/1999', '1999-08'], ['1999\u5e748\u67081\u65e5', '1999-08-01'],
+    ['2b130801', ''], ['2013/8/12', '2013-08-12'], ['5/25/2013', '2013-05-25'], ['25/5/2013', '2013-05-25'],
+    ['x25/12/2013', '2013'], ['08/2013 x', '2013'], ['x08/2013', '2013']
 ].concat(MONTHS.map((name, i) => [name + ' 2013', '2013-' + two(i + 1)]),
     MONTHS.map((name, i) => [name.slice(0, 3).toLowerCase() + ' 2013', '2013-' + two(i + 1)]));
 // A date of that form, and its first and its last day.
@@ -53,6 +56,7 @@ const ISBNS = [
 const CHECKED = [
     ['0198534531', true], ['0198534532', false], ['0918534531', false], ['080442957X', true], ['080442957x', true],
     ['0804429570', false], ['9780198534532', true], ['9780198534533', false], ['9870198534532', false],
+    ['00000000000000', false],
     ['978019853453', false], ['00000000000', false], ['0000000000', true], ['', false]
 ];
 
@@ -67,7 +71,10 @@ const VOLUMES = [
     ['12 suplemento 1', '12|Suppl 1'], ['12 supplt 1', '12|Suppl 1'], ['12 supplementary 1', '12|Suppl 1'],
     ['12 suppl i', '12|Suppl i'], ['12 suppl ii', '12|Suppl ii'], ['12 suppl xviii', '12|Suppl xviii'],
     ['12 suppl xxviii', '12 suppl xxviii|'], ['12 pt abcd', '12|pt abcd'], ['12 pt abcde', '12 pt abcde|'],
-    ['12 part 2', '12|2'], ['12 pt2', '12|2']
+    ['12 part 2', '12|2'], ['12 pt2', '12|2'], ['12 fascicolo 3', '12|3'], ['12, n: 3', '12|3'], ['12, n 3', '12|3'],
+    ['12, h: 3', '12|3'], ['12 special no 2', '12|special no 2'], ['12 Spec. No', '12|Spec. No'],
+    ['12 Beiheft 2', '12|Beiheft 2'], ['12 Sonderh. 2', '12|Sonderh. 2'], ['12 (3/4 Suppl 1)', '12|3/4 Suppl 1'],
+    ['\u7b2c12\u5377\u7b2c3\u865f', '12|3'], ['12(A2012)', '12|A2012'], ['12(2O12)', '12(2O12)|']
 ];
 const FORTY = '1234567890123456789012345678901234567890';
 // What is under a key, and the first and the last page of the request.
@@ -81,7 +88,9 @@ const PAGES = [
     ['spage', '..........xii', '..........xii|'], ['spage', 'Seiten xii-xx', 'xii|xx'], ['spage', 'Seite xii', 'xii|'],
     ['spage', 'S. xii', 'xii|'], ['spage', 'pg xii', 'xii|'], ['spage', 'pgs xii-xx', 'xii|xx'],
     ['spage', 'pp xii-xx', 'xii|xx'], ['spage', 'p: xii', 'xii|'], ['spage', 'pages xii-xx', 'xii|xx'],
-    ['artnum', '7', '7|'], ['artnum', FORTY, FORTY + '|'], ['artnum', FORTY + '1', '|']
+    ['artnum', 'Number 45', '45|'], ['artnum', 'num. 45', '45|'], ['artnum', 'Nr 45', '45|'],
+    ['artnum', 'no: 45', '45|'], ['artnum', 'ID#45', '45|'], ['artnum', '4#5', '|'], ['artnum', '7', '7|'],
+    ['artnum', FORTY, FORTY + '|'], ['artnum', FORTY + '1', '|']
 ];
 
 // An address, and whether it is one of the web, in ASCII as headers of replies hold it.
@@ -92,4 +101,24 @@ const ADDRESSES = [
     ['javascript:https://a', false], ['', false]
 ];
 
-export default { DATES, DAYS, ISSNS, ISBNS, CHECKED, VOLUMES, PAGES, ADDRESSES };
+// A text, and the same in HTML and in an attribute of it.
+const ESCAPED = [
+    ['', ''], ['Silt', 'Silt'], ['a & b', 'a &amp; b'], ['&amp;', '&amp;amp;'], ['<b>', '&lt;b&gt;'], ['>', '&gt;'],
+    ['"', '&quot;'], ["'", '&#39;'], ["O'Neill", 'O&#39;Neill'], ['&&<<>>""\'\'',
+        '&amp;&amp;&lt;&lt;&gt;&gt;&quot;&quot;&#39;&#39;'], ['caf\u00e9', 'caf\u00e9']
+];
+// A text, and the same without control characters and noncharacters, line ends and more than one space.
+const CLEAN = [
+    ['', ''], ['a b', 'a b'], [' a ', 'a'], ['a  b', 'a b'], ['a\tb', 'a b'], ['a\r\nb', 'a b'], ['a\u0000b', 'a b'],
+    ['a\u001fb', 'a b'], ['a\u007fb', 'a b'], ['a\u0080b', 'a b'], ['a\u009fb', 'a b'], ['a\u2028b', 'a b'],
+    ['a\u2029b', 'a b'], ['a\ufdd0b', 'a b'], ['a\ufdefb', 'a b'], ['a\ufffeb', 'a b'], ['a\uffffb', 'a b'],
+    ['a\ufffdb', 'a\ufffdb'], ['a\ufdcfb', 'a\ufdcfb'], ['a\u2027b', 'a\u2027b'], ['caf\u00e9', 'caf\u00e9'],
+    ['\t', ''], ['a\n', 'a'], ['a b\n', 'a b'], ['a   b   c', 'a b c'], ['a '.repeat(200), 'a '.repeat(200).trim()]
+];
+// A number of a table, the same as the standards write it, and whether it is an ISSN.
+const STANDARD = [
+    ['2901-0012', '2901-0012 true'], ['0198534531', '9780198534532 false'], ['080442957X', '9780804429573 false'],
+    ['9781234560102', '9781234560102 false']
+];
+
+export default { ESCAPED, CLEAN, STANDARD, DATES, DAYS, ISSNS, ISBNS, CHECKED, VOLUMES, PAGES, ADDRESSES };

@@ -1,0 +1,250 @@
+// What a request becomes by the library's index and by the services of a look-up, without nginx: both are stand-ins.
+import completion from './completion.js';
+import index from './index.js';
+import languages from './languages.js';
+import openurl from './openurl.js';
+import titlePages from './title_pages.js';
+
+// The file of an index at a path that has these lines by their keys.
+function fileOf(path, titles) {
+    const lines = Object.keys(titles).filter((key) => path === '/index/keys/' + index.hashed(key, 16).slice(0, 3))
+        .map((key) => {
+            const name = '=~^'.includes(key.charAt(0)) ? key.charAt(0) + index.hashed(key, 16).slice(3) : key;
+            return titles[key].map((title) => name + '\t' + title).join('\n');
+        });
+    return lines.length === 0 ? '' : '\n' + lines.join('\n') + '\n';
+}
+// A request of nginx of a site whose index has these titles, and whose services reply with this.
+function requestWith(args, titles, variables) {
+    return {
+        uri: '/find', method: 'GET', headersIn: {}, headersOut: {}, variables: variables || {},
+        rawVariables: { args: Buffer.from(args) },
+        subrequest: function (path) {
+            const text = titles === null ? '' : path === '/index/format' ? '6\n' : fileOf(path, titles);
+            return Promise.resolve({ status: text === '' ? 404 : 200, responseBuffer: Buffer.from(text) });
+        }
+    };
+}
+const LOOKUP = { openlink_lookup: 'http://127.0.0.1:8078' };
+const MORE = { openlink_lookup: 'http://127.0.0.1:8078', openlink_lookup_more: 'on' };
+let paths = [];
+function replyWith(data) {
+    paths = [];
+    globalThis.ngx = { fetch: (address) => {
+        paths.push(address.slice(LOOKUP.openlink_lookup.length + 1));
+        return Promise.resolve({ status: data === null ? 404 : 200, text: () => JSON.stringify(data) });
+    } };
+}
+// The values that the keys of an expected text have, in its form: `KEY=VALUE`, with a line between two keys.
+function valuesOf(q, expected) {
+    return expected.split('|').map((pair) => pair.slice(0, pair.indexOf('='))).map((name) => {
+        const isWhole = name.startsWith('x.') || name.includes('_');
+        return name + '=' + q.all(isWhole ? name : 'rft.' + name).join('+');
+    }).join('|');
+}
+
+// The titles of an index by their keys.
+const TIDES = 'j\tTides\t2901-0012 2908-0142\ta 0';
+const SILT = 'b\tSilt\t0198534531\tb 0';
+const TITLES = {
+    '=tides': [TIDES], '2901-0012': [TIDES], '2908-0142': [TIDES], '=silt': [SILT], 9780198534532: [SILT],
+    '=both': ['j\tBoth\t2950-0013\t', 'b\tBoth\t9781234560102\t'], '=two': ['j\tTwo\t2960-0014\t',
+    'j\tTwo\t2970-0015\t'],
+    '=sea and coast': ['j\tSea and coast\t2980-0016\t'], '=kuste': ['j\tK\u00fcste\t2990-0017\t'],
+    '~tides studies': ['j\tTides studies: x\t2930-0018\t'], '~two': ['j\tTwo: x\t2920-0019\t'],
+    '=sued': ['j\tSued\t2910-0011\t'], '2950-0013': ['j\tBoth\t2950-0013\t'],
+    9781234560874: ['b\tSeries\t9781234560874 2940-0011\t']
+};
+
+// ---------------------------------------------------------------- Services
+const WORK = { title: ['Silt'], 'container-title': ['Tides'] };
+function work(type, more) { return { message: Object.assign({ type }, WORK, more) }; }
+const DOI = 'id=doi:10.5555/abc';
+const AUTHOR = [{ family: 'Li', given: 'Wei' }, { family: 'Berg' }];
+// A request, what Crossref replies, and what is known then.
+const CROSSREF = ['book', 'monograph', 'edited-book', 'reference-book', 'proceedings'].map((type) => {
+    return [DOI, work(type), 'genre=book|btitle=Silt|atitle=|jtitle='];
+}).concat(['book-chapter', 'book-section', 'reference-entry', 'proceedings-article'].map((type) => {
+    return [DOI, work(type), 'genre=bookitem|btitle=Tides|atitle=Silt|jtitle='];
+}), ['journal-article', 'journal-issue'].map((type) => [DOI, work(type),
+    'genre=article|btitle=|atitle=Silt|jtitle=Tides']), [
+    [DOI, work('posted-content'), 'genre=|btitle=|atitle=Silt|jtitle=Tides'],
+    [DOI, work('report', { issued: { 'date-parts': [[2003, 5, 1]] } }), 'date=2003-05-01|x.from=20030501'],
+    [DOI, work('', { issued: { 'date-parts': [[2003, 12]] } }), 'date=2003-12'],
+    [DOI, work('', { issued: { 'date-parts': [[2003]] } }), 'date=2003'],
+    [DOI, work('', { issued: { 'date-parts': [[null]] } }), 'date='],
+    [DOI, work('', { issued: { 'date-parts': [[3003]] } }), 'date='], [DOI, work('', { issued: 7 }), 'date='],
+    [DOI, work('', { author: AUTHOR, volume: '12', issue: '3', page: '45-67' }),
+        'aulast=Li|aufirst=Wei|volume=12|issue=3|pages=45-67|spage=45'],
+    [DOI, work('', { ISSN: ['2901-0012', '2908-0142'], ISBN: ['9781234560102'] }),
+        'issn=2901-0012+2908-0142|x.issn=2901-0012|isbn=9781234560102'],
+    // what a request says stays
+    [DOI + '&spage=7', work('', { page: '45-67' }), 'pages=|spage=7'],
+    [DOI + '&pages=7-9', work('', { page: '45-67' }), 'pages=7-9|spage=7'],
+    [DOI + '&epage=9', work('', { page: '45-67' }), 'pages='], [DOI + '&artnum=e7', work('', { page: '45-67' }),
+        'pages='],
+    [DOI + '&au=Berg', work('', { author: AUTHOR }), 'au=Berg|aulast=|aufirst='],
+    [DOI + '&aulast=Berg', work('', { author: AUTHOR }), 'aulast=Berg|aufirst='],
+    [DOI + '&auinit=B', work('', { author: AUTHOR }), 'aulast=|aufirst='],
+    [DOI + '&auinit1=B', work('', { author: AUTHOR }), 'aulast=|aufirst='],
+    [DOI + '&aucorp=Port', work('', { author: AUTHOR }), 'aulast=|aufirst='],
+    [DOI + '&date=2001', work('', { issued: { 'date-parts': [[2003]] } }), 'date=2001'],
+    [DOI + '&rft.year=2001', work('', { issued: { 'date-parts': [[2003]] } }), 'date=2001'],
+    [DOI + '&date=in+press', work('', { issued: { 'date-parts': [[2003]] } }), 'date=2003'],
+    [DOI + '&volume=1', work('', { volume: '12', issue: '3' }), 'volume=1|issue=3'],
+    [DOI + '&atitle=Sand', work('journal-article'), 'atitle=Sand|jtitle=Tides'],
+    [DOI + '&genre=book', work('journal-article'), 'genre=book'],
+    [DOI + '&eisbn=9781234560102', work('', { ISSN: ['2901-0012'] }), 'issn=']
+]);
+const SUMMARY = {
+    uid: '12', title: 'Silt.', fulljournalname: 'Tides', issn: '2901-0012', essn: '2908-0142', volume: '12', issue: '3',
+    pages: '45-67', pubdate: '2003 May 1', authors: [{ name: 'Li WX' }, { name: 'Berg O' }],
+    articleids: [{ idtype: 'pubmed', value: '12' }, { idtype: 'doi', value: '10.5555/abc' }, { idtype: 'pmid',
+        value: '12' }]
+};
+function summary(more) { return { result: { uids: ['12'], 12: Object.assign({}, SUMMARY, more) } }; }
+// The same of NCBI, and of DataCite.
+const NCBI = [
+    ['id=pmid:12', summary(),
+        'genre=article|atitle=Silt|jtitle=Tides|issn=2901-0012|eissn=2908-0142|volume=12|issue=3|spage=45'
+        + '|date=2003-05|aulast=Li|x.doi=10.5555/abc|x.pmid=12'],
+    ['rft_id=PMC7', summary(), 'atitle=Silt|x.pmid=12|x.doi=10.5555/abc'],
+    ['id=pmid:12', summary({ title: '' }), 'genre=|atitle='], ['id=pmid:12', summary({ title: 'Why?' }), 'atitle=Why?'],
+    ['id=pmid:12', summary({ authors: [{ name: 'Tide Group' }] }), 'aulast=Tide Group'],
+    ['id=pmid:12', summary({ authors: [{ name: 'de Wit J' }] }), 'aulast=de Wit'],
+    ['rft_id=PMC7', summary({ articleids: [{ idtype: 'pmid', value: 'x' }, { idtype: 'doi', value: '7' }] }),
+        'x.pmid=|x.doi='],
+    ['id=pmid:12', { result: { uids: ['13'] } }, 'atitle='], ['id=pmid:12', 7, 'atitle=']
+];
+function preprint(more) { return { data: { attributes: Object.assign({ titles: [{ title: 'Silt' }] }, more) } }; }
+const DATACITE = [
+    ['id=arXiv:2101.00001', preprint({ publicationYear: 2021, creators: [{ name: 'Li, Wei', familyName: 'Li',
+        givenName: 'Wei' }] }),
+        'genre=preprint|atitle=Silt|date=2021|aulast=Li|aufirst=Wei'],
+    ['id=arXiv:2101.00001', preprint({ creators: [{ name: 'Tide Group', givenName: 'x' }] }),
+        'aulast=Tide Group|aufirst=|date='],
+    ['id=arXiv:2101.00001', preprint({ publicationYear: 3021, titles: [] }), 'genre=|atitle=|date=']
+];
+// The same of a site that asks more, and whose index has these titles.
+const INDEXED = [
+    [DOI, work('journal-article', { ISSN: ['1000-0010'] }), 'x.issn=1000-0010|jtitle=Tides'],
+    [DOI, work('book'), 'rft_val_fmt=info:ofi/fmt:kev:mtx:book|x.isbn=9780198534532'],
+    [DOI, work('journal-article'), 'rft_val_fmt=info:ofi/fmt:kev:mtx:journal|x.issn=2901-0012'],
+    [DOI + '&jtitle=Nothing', work('journal-article'), 'jtitle=Nothing|atitle=Silt'],
+    [DOI + '&rft.title=Nothing', work('journal-article'), 'jtitle=|title=Nothing|atitle=Silt'],
+    [DOI + '&issn=1000-0010&jtitle=Nothing', work('journal-article', { ISSN: ['1000-0010', '2908-0142'] }),
+        'x.issn=1000-0010|eissn=2908-0142'],
+    [DOI + '&issn=1000-0010&eissn=1000-0029&jtitle=Nothing', work('journal-article', { ISSN: ['2908-0142'] }),
+        'x.issn=1000-0010|eissn=1000-0029'],
+    [DOI + '&issn=1000-0010&jtitle=Nothing', work('journal-article', { ISBN: ['9780198534532'] }), 'isbn='],
+    [DOI + '&jtitle=Nothing', work('journal-article', { 'container-title': ['Two'], title: [] }),
+        'issn=|jtitle=Nothing'],
+    ['rft_id=PMC7', summary({ articleids: [{ idtype: 'doi', value: 'pmid:7' }] }), 'x.doi=|x.issn=2901-0012']
+];
+// A request, the variables of the site, and the path of the proxy that is asked.
+const ASKED = [
+    [DOI, LOOKUP, 'doi?id=10.5555%2Fabc'], ['id=pmid:12', LOOKUP, 'pmid?id=12'], ['rft_id=PMC7', LOOKUP, 'pmc?id=7'],
+    ['id=arXiv:2101.00001', LOOKUP, 'arxiv?id=10.48550%2FarXiv.2101.00001'],
+    ['id=doi:10.48550/ARXIV.2101.00001', LOOKUP, 'arxiv?id=10.48550%2FARXIV.2101.00001'],
+    [DOI + '&id=pmid:12', LOOKUP, 'doi?id=10.5555%2Fabc'], ['id=pmid:12&rft_id=PMC7', LOOKUP, 'pmid?id=12'],
+    [DOI, {}, ''], [DOI + '&issn=2901-0012', LOOKUP, ''], [DOI + '&isbn=9781234560102', LOOKUP, ''],
+    [DOI + '&jtitle=Tides', LOOKUP, ''], [DOI + '&btitle=Silt', LOOKUP, ''], [DOI + '&title=Tides', LOOKUP, ''],
+    [DOI + '&stitle=Tid', LOOKUP, ''], [DOI + '&rft.title=Silt', LOOKUP, ''], [DOI + '&atitle=Silt', LOOKUP,
+        'doi?id=10.5555%2Fabc'],
+    ['rft_id=https://pubmed.gov/1234567890', LOOKUP, ''], ['issn=2901-0012', LOOKUP, ''], ['', LOOKUP, ''],
+    ['rft_id=info:oclcnum/7', LOOKUP, ''],
+    [DOI + '&jtitle=Tides', MORE, 'doi?id=10.5555%2Fabc'], ['id=pmid:12&jtitle=Tides', MORE, 'pmid?id=12'],
+    ['rft_id=PMC7&jtitle=Tides', MORE, 'pmc?id=7'], [DOI + '&issn=2901-0012', MORE, ''],
+    [DOI + '&jtitle=Tides', { openlink_lookup_more: 'on' }, '']
+];
+async function testServices(expect) {
+    const all = CROSSREF.concat(NCBI, DATACITE);
+    for (let i = 0; i < all.length; i++) {
+        replyWith(all[i][1]);
+        const q = await completion.queryOf(requestWith(all[i][0], null, LOOKUP));
+        expect('looked up, ' + all[i][0] + ' ' + i, valuesOf(q, all[i][2]), all[i][2]);
+    }
+    for (let i = 0; i < INDEXED.length; i++) {
+        replyWith(INDEXED[i][1]);
+        const q = await completion.queryOf(requestWith(INDEXED[i][0], TITLES, MORE));
+        expect('beside the index, ' + INDEXED[i][0] + ' ' + i, valuesOf(q, INDEXED[i][2]), INDEXED[i][2]);
+    }
+    for (let i = 0; i < ASKED.length; i++) {
+        replyWith(null);
+        await completion.queryOf(requestWith(ASKED[i][0], null, ASKED[i][1]));
+        expect('what is asked for ' + ASKED[i][0] + ' ' + i, paths.join(' '), ASKED[i][2]);
+    }
+}
+
+// ---------------------------------------------------------------- The index
+// A request, and what is known then. `known` is what is certain, and `meant` are the titles that it may mean.
+const COMPLETED = [
+    ['jtitle=Tides', 'issn=2901-0012|eissn=2908-0142|x.issn=2901-0012|known=number|meant='],
+    ['btitle=Silt', 'isbn=0198534531|x.isbn=9780198534532|known=number|meant='],
+    ['title=Silt', 'btitle=Silt|jtitle=|known=number'], ['title=Tides', 'jtitle=Tides|btitle=|known=number'],
+    ['jtitle=Both', 'issn=2950-0013|known=number'], ['btitle=Both', 'x.isbn=9781234560102|known=number'],
+    ['title=Both', 'issn=|x.isbn=|known=title|meant=Both Both'], ['jtitle=Two', 'issn=|known=title|meant=Two Two'],
+    ['jtitle=Two&title=Tides', 'issn=|meant=Two Two'], ['genre=book&jtitle=Both&btitle=Silt', 'x.isbn=9780198534532'],
+    ['issn=2901-0012&eissn=2950-0013', 'titles=Tides Both'], ['issn=2901-0012&eissn=2908-0142', 'titles=Tides'],
+    ['isbn=9781234560874', 'eissn=|issn=|further=2940-0011'], ['jtitle=S%C3%BCd', 'issn=|meant=Sued'],
+    ['jtitle=Silt', 'x.isbn=|known=title|meant=Silt'], ['jtitle=Nothing', 'known=title|meant='],
+    ['jtitle=Nothing&title=Tides', 'issn=2901-0012|known=number'],
+    ['issn=2901-0012', 'jtitle=Tides|eissn=2908-0142|known=number'], ['issn=2908-0142', 'eissn=2901-0012|jtitle=Tides'],
+    ['issn=2901-0012&rft.title=x', 'jtitle=|known=number'], ['isbn=9780198534532',
+        'btitle=Silt|x.isbn=9780198534532|known=number'],
+    ['issn=1000-0010', 'jtitle=|eissn=|known=number'], ['id=doi:10.5555/abc', 'known=identifier'], ['id=pmid:12',
+        'known=identifier'],
+    ['rft_id=info:oclcnum/7', 'known=identifier'], ['volume=3', 'known=nothing'], ['rft_id=PMC7', 'known=nothing'],
+    ['id=doi:10.1007/978-0-19-853453-2_3', 'x.isbn=9780198534532|btitle=Silt|known=number'],
+    ['id=doi:10.1007/9780198534533', 'x.isbn=|known=identifier'],
+    ['jtitle=Sea+und+coast', 'issn=|meant=Sea and coast|known=title'], ['jtitle=Sea+et+coast', 'meant=Sea and coast'],
+    ['jtitle=K%C3%BCste', 'issn=2990-0017'], ['jtitle=Kueste', 'meant='], ['jtitle=Tides+studies',
+        'meant=Tides studies: x'],
+    ['jtitle=Tides+studies:+y', 'meant=Tides studies: x'], ['jtitle=Tides:+y', 'meant=Tides']
+];
+async function testIndex(expect) {
+    const read = (q, expected) => expected.split('|').map((pair) => pair.slice(0, pair.indexOf('='))).map((name) => {
+        if (name === 'known') return 'known=' + q.knowledge;
+        if (name === 'titles') return 'titles=' + q.titles.map((it) => it.title).join(' ');
+        if (name === 'further') return 'further=' + q.further.map((it) => it.numbers.join(' ')).join();
+        if (name === 'meant') return 'meant=' + q.maybe.map((it) => it.title).join(' ');
+        return valuesOf(q, name + '=');
+    }).join('|');
+    for (let i = 0; i < COMPLETED.length; i++) {
+        const q = await completion.queryOf(requestWith(COMPLETED[i][0], TITLES));
+        expect('by the index, ' + COMPLETED[i][0], read(q, COMPLETED[i][1]), COMPLETED[i][1]);
+    }
+    const none = await completion.queryOf(requestWith('jtitle=Tides', null));
+    expect('no index', none.knowledge, 'unlisted');
+}
+
+// The page of a title is offered if nginx says that no new version is being put in use.
+async function testOffers(expect) {
+    const site = languages.siteIn({}, '');
+    const statuses = [204, 200, 404, 503];
+    for (let i = 0; i < statuses.length; i++) {
+        const title = { kind: 'j', rows: ['z 0'], pages: [{ target: 'z', url: 'https://z/' }] };
+        const q = Object.assign(openurl.queryOf('issn=2901-0012'), { titles: [title] });
+        const r = { places: [], subrequest: function (place) {
+            this.places.push(place);
+            return Promise.resolve({ status: statuses[i] });
+        } };
+        const found = await titlePages.offeredTo(r, q, [{ links: [] }], site);
+        expect('pages of a title after ' + statuses[i], r.places.join() + ' ' + found.length, '/_before ' + (i === 0
+            ? 1 : 0));
+    }
+}
+
+// The command njs has no timers, and no service here is late.
+async function run(expect) {
+    const before = [globalThis.setTimeout, globalThis.clearTimeout];
+    globalThis.setTimeout = () => 1;
+    globalThis.clearTimeout = () => undefined;
+    await testServices(expect);
+    await testIndex(expect);
+    await testOffers(expect);
+    globalThis.setTimeout = before[0];
+    globalThis.clearTimeout = before[1];
+}
+
+export default { run };
