@@ -140,6 +140,7 @@ class Cells(Case):
             ("https://{+host}/x", {"host"}, {"host"}, set()),
             ("https://www.{host}/{title_id}", {"host", "title_id"}, {"host"}, set()),
             ("https://{sub}.example.org/", {"sub"}, set(), set()),
+            ("https://www.{host}:8080/{title_id}", {"host", "title_id"}, {"host"}, set()),
         ):
             found = Templates.parse(f"# link https://no.example/{{no}}\nrule\nlink {template}\n".encode())
             self.expect(template, found, Templates(frozenset(names), frozenset(hosts), frozenset(fixed)))
@@ -165,6 +166,11 @@ class Cells(Case):
         self.expect("hosts", dict(found.hosts), {"one.org": 1, "two.org": 1})
         same = [Table(("a", "b"), [[f"http://one/{at}", "http://two"] for at in range(3)])] * 2
         self.expect("in most rows of all parts", link_hosts.links_of(same, both).most_common, ("http://two", 6))
+        twice = [Table(("a", "a"), [["http://one/x", "http://two"]])]
+        found = link_hosts.links_of(twice, both)
+        self.expect(
+            "two columns of one name", (dict(found.hosts), found.most_common), ({"one": 1}, ("http://one/x", 1))
+        )
         titles = link_hosts.first_titles(parts, both, {"one", "two"})
         self.expect("titles", titles, {"one": "T", "two": "U"})
 
