@@ -165,6 +165,38 @@ class Libraries(Case):
                 status = updates.run([library_updates.ALONE, "east"], False)
             self.expect("the status, and whether it is there", (status, left), (0, [False, False]))
 
+    def test_greatest_status(self) -> None:
+        """That of the fetch counts too, if there is one."""
+        for fetched, statuses, wanted in ((1, [0, 0], 1), (0, [3, 0], 3), (0, [0, 4, 1], 4), (4, [0, 1], 4)):
+            updates = library_updates.Updates(mock.Mock(), [])
+            parts = {"_options_of_sharing": lambda _: [], "_fetch": lambda: fetched}
+            with mock.patch.multiple(updates, _update=mock.Mock(side_effect=statuses * 2), **parts):
+                with mock.patch.object(library_updates, "raise_signals") as signals:
+                    names = [f"l{number}" for number in range(len(statuses))]
+                    found = updates.run(names, True), updates.run(names, False)
+            self.expect(f"{fetched} and {statuses}", found, (wanted, max(statuses)))
+            self.expect("signals end each run", signals.call_count, 2)
+
+    def test_report_of_an_update_that_is_killed(self) -> None:
+        """It says so until the update has ended."""
+        with tempfile.TemporaryDirectory() as folder:
+            path = Path(folder, "east/report")
+            path.parent.mkdir()
+            path.write_text("0\nall is new\n")
+            updates, found = (
+                library_updates.Updates(mock.Mock(path=lambda *parts: Path(folder, *parts)), []),
+                list[str](),
+            )
+
+            def run(_: list[str], lines: list[str]) -> tuple[int, str]:
+                found.append(path.read_text())
+                lines.append("nothing new\n")
+                return 1, "1"
+
+            with mock.patch.object(updates, "_child", run):
+                printed_by(lambda: updates._update("east", []))
+            self.expect("meanwhile, and then", (found, path.read_text()), (["KILL\n"], "1\nnothing new\n"))
+
     def test_interrupted(self) -> None:
         """A signal between two updates ends the run, and no other update begins."""
         updates, begun = library_updates.Updates(mock.Mock(), []), list[str]()
