@@ -254,6 +254,8 @@ class Runs(Case):
             (OSError(28, "No space left on device", "/l/versions"), (4, "/l/versions: No space left on device", False)),
             (OSError(5, "Input/output error"), (4, "/l: Input/output error", False)),
             (ValueError("no number"), (4, "ValueError: no number", False)),
+            (KeyError("press"), (4, "KeyError: 'press'", False)),
+            (RecursionError("too deep"), (4, "RecursionError: too deep", False)),
         ):
             with mock.patch.object(library_run, "_work", side_effect=fault), mock.patch.object(
                 library_run, "ignore_signals"
