@@ -100,6 +100,7 @@ class Work(LibraryCase):
     def test_time_of_an_update(self) -> None:
         """It is written after each update that ends, for the health page, and for all to read."""
         path = self.folder / "updated"
+        self.addCleanup(os.umask, os.umask(0o077))
         for words, is_written in ((("--dry-run",), False), (("--walls",), False), ((), True)):
             self.worked(*words)
             self.expect(f"after {words}", path.exists(), is_written)
@@ -128,6 +129,68 @@ class Work(LibraryCase):
         self.library.move_back(OLDEST)
         said = "Failure: there is no version before the one in use"
         self.expect("the oldest", self.worked("--back"), (said, "", []))
+
+
+class Versions(LibraryCase):
+    def test_names_of_one_second(self) -> None:
+        """Each version is after all others, however many are made in a second."""
+        stamps = list[str]()
+        for _ in range(3):
+            stamps.append(self.library.begin())
+            self.library.complete(stamps[-1])
+        self.expect("their order", [NEWER, *stamps], sorted({NEWER, *stamps}))
+        self.expect("the versions", self.library.versions()[-3:], stamps)
+
+    def test_links(self) -> None:
+        """A link leads to a version that is there, or to none."""
+        for text, wanted in (
+            ("none", None),
+            (f"versions/{OLD}", OLD),
+            ("versions/20260101T000000Z", "Failure"),
+            ("versions/20261322T000000Z", "Failure"),
+            (OLD, "Failure"),
+            (f"versions/../versions/{OLD}", "Failure"),
+            ("/etc", "Failure"),
+        ):
+            (self.folder / "before").unlink(missing_ok=True)
+            (self.folder / "before").symlink_to(text)
+            found = self.said(lambda: self.library.version_of("before"))[0]
+            said = f"Failure: {self.folder}/before is a link to {text}, which is no folder versions/STAMP"
+            self.expect(text, found, said if wanted == "Failure" else wanted)
+
+    def test_what_is_unfinished(self) -> None:
+        """Only what a run may have left is removed; a version that goes is none before it is gone."""
+        for name in (f"{NEWER}.new", "notes.new", f"{NEWER}.sent"):
+            (self.folder / "versions" / name).mkdir()
+        self.library.clear()
+        self.expect("what is left", self.versions(), [OLDEST, OLD, NEW, NEWER, f"{NEWER}.sent", "notes.new"])
+        with mock.patch("shutil.rmtree", side_effect=OSError(5, "Input/output error")):
+            with self.assertRaises(OSError):
+                self.library.remove(OLD)
+        self.expect("a version that is half gone", self.library.versions(), [OLDEST, NEW, NEWER])
+
+    def test_how_many_are_kept(self) -> None:
+        for most, wanted in ((5, [OLDEST, OLD, NEW, NEWER]), (3, [OLD, NEW, NEWER]), (2, [NEW, NEWER])):
+            self.library.remove_old(most)
+            self.expect(f"{most}", self.library.versions(), wanted)
+
+
+class Inputs(LibraryCase):
+    def test_folders(self) -> None:
+        """Beside its own, a library may use what libraries share, and what root allows it."""
+        allowed = self.folder / "input.folders"
+        allowed.write_text("/srv/tables\nrelative\n", encoding="utf-8")
+        allowed.chmod(0o644)
+        shared = [str(self.folder / "shared"), "/etc/openlink/shared"]
+        own = str(self.folder / "input")
+        for words, wanted, said in (
+            ((), [own, *shared, "/srv/tables"], "FOLDER/input.folders: line 2: not the absolute path of a folder\n"),
+            (("--input", "/other"), ["/other", *shared], ""),
+            (("--input", "/other", "--among", "/all"), ["/other", "/all/shared", shared[1]], ""),
+        ):
+            found = list[InputFolder]()
+            printed = self.said(lambda: found.append(library_run._input_of(self.options(*words), self.library)))[1]
+            self.expect(f"{words}", ([str(root.path) for root in found[0].folders()], printed), (wanted, said))
 
 
 class Fetches(LibraryCase):
