@@ -1,9 +1,11 @@
 """Parts of the desk that depend on what a version lacks, on the program, or on the language of a page."""
 from __future__ import annotations
 
+import dataclasses
 import json
 import tempfile
 from pathlib import Path
+from unittest import mock
 
 from desk.made_desk import NOW
 from desk.made_desk import record
@@ -50,6 +52,23 @@ class Lint(Case):
             Path(folder, "received/press.rules").write_text("rule\nlink https://e.org/\n", encoding="utf-8")
             said = ("table: TooLong at row 2", "openlink lint: no end after 600 seconds", "rule 1 is never reached")
             self.expect("with rules", lines.of(target), said)
+
+    def test_what_is_kept(self) -> None:
+        """The program is asked once for the same files, also where it says nothing, and again for others."""
+        target = Target("press", PARTS[:1], 3, "", "sum", (), ())
+        with tempfile.TemporaryDirectory() as folder:
+            Path(folder, "received").mkdir()
+            rules = Path(folder, "received/press.rules")
+            for text, lines in (("", ()), ("rule 1 is never reached\n", ("rule 1 is never reached",))):
+                rules.write_text(f"rule\nlink https://e.org/{len(text)}\n", encoding="utf-8")
+                asked = list[int]()
+                for table, wanted in (("sum", 1), ("sum", 1), ("other", 2)):
+                    with mock.patch.object(Program, "run", side_effect=[(int(text != ""), text)]) as run:
+                        found = lint_lines.LintLines(Path(folder), Program("none", folder))
+                        said = found.of(dataclasses.replace(target, sum=table))
+                        found.write(Path(folder))
+                    asked.append(run.call_count)
+                    self.expect(f"{text!r} of {table}", (said, sum(asked)), (lines, wanted))
 
 
 class Versions(Case):
