@@ -21,6 +21,7 @@ from openlink_update.counts import counter_reports
 from openlink_update.counts import log_counts
 from openlink_update.counts import log_files
 from openlink_update.counts import wanted_titles
+from openlink_update.exports import export_files
 from openlink_update.exports.site_names import SiteNames
 from openlink_update.input_files import InputFolder
 from openlink_update.outcome import Unreadable
@@ -261,6 +262,16 @@ class Files(Case):
             names = SiteNames(Path(folder, "targets.json"))
             said = f"{folder}/targets.json: No such file or directory"
             self.expect("what is said", (names.fault, names.label("press")), (said, "press"))
+
+    def test_parts_that_are_left(self) -> None:
+        """Of an export into a folder, parts that it no longer has go; other files of the folder stay."""
+        with tempfile.TemporaryDirectory() as folder:
+            for name in ("holdings-1.xml", "holdings-2.xml", "holdings-12.xml", "holdings-x.xml", "notes.txt"):
+                Path(folder, name).write_text("old", encoding="utf-8")
+            site = mock.Mock(base="https://links.example.org")
+            export_files._write_items(["<item/>\n"], site, SiteNames(None), Path(folder))
+            self.expect("what is there", sorted(os.listdir(folder)), ["holdings-1.xml", "holdings-x.xml", "notes.txt"])
+            self.expect("the part", "<item/>" in Path(folder, "holdings-1.xml").read_text(encoding="utf-8"))
 
     def test_a_disk_that_fails(self) -> None:
         with mock.patch.object(disk, "_LIBC") as libc, mock.patch("ctypes.get_errno", return_value=5):
