@@ -115,6 +115,9 @@ class Titles(Case):
             decades = tuple(Decade(1800 + 10 * it, 1) for it in range(count))
             shown = titles_page.titles_of(Collection(1, (), decades))
             self.expect(f"{count} decades", (len(shown.decades_chart.bars), len(shown.decades)), (wanted, count))
+            years = [it.text for it in shown.decades_chart.labels if len(it.text) == 4]
+            newest = [1800 + 10 * it for it in range(count)][-wanted:]
+            self.expect("the newest, each second one with its year", years, list(map(str, newest[::2])))
 
 
 class State(Case):

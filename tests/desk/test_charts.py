@@ -35,6 +35,8 @@ class Charts(Case):
         chart = charts.rows([Pair("one", 10, 5, "10 · 5"), Pair("two", 20, 0, "20")])
         self.expect("widths", [it.width for it in chart.bars], [chart.width / 2, chart.width / 4, chart.width])
         self.expect("the second is below", chart.bars[1].y, chart.bars[0].y + chart.bars[0].height)
+        heights = [it.height for it in chart.bars]
+        self.expect("one alone is as high as two", heights[2], heights[0] + heights[1])
         self.expect(
             "both ends",
             [(it.text, it.x) for it in chart.labels if it.text in ("one", "10 · 5")],

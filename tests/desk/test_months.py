@@ -96,13 +96,42 @@ class Months(MonthsCase):
             path = desk.logs / "openlink.log.2.gz"
             path.write_bytes(path.read_bytes()[:-30])
             (desk.logs / "openlink.log.3.gz").write_bytes(b"no gzip")
+            (desk.logs / "openlink.log.8.gz").write_bytes(gzip.compress(b"")[:10] + b"\xff" * 20)  # a block of no kind
             os.mkfifo(desk.logs / "openlink.log.4")
             (desk.logs / "openlink.log.5").mkdir()
-            (desk.logs / "openlink.log.6").symlink_to("/etc/passwd")
+            (desk.top / "other.log").write_text(line("2026-03"))
+            (desk.logs / "openlink.log.6").symlink_to(desk.top / "other.log")
             (desk.logs / "openlink.log.7").touch(0o600)
+            for number, path in enumerate((desk.top / "other.log", *desk.logs.glob("openlink.log.[378]*")), 1):
+                os.utime(path, (number, number))  # of one time, the second would count as the first
             desk.log("openlink.log", [line("2026-06")])
             found = self.requests(desk)
             self.expect("up to where it breaks off", (0 < found["2026-05"] <= 50_000, found["2026-06"]), (True, 1))
+            self.expect("months", sorted(found), ["2026-05", "2026-06"])
+
+    def test_files_of_one_time(self) -> None:
+        """A file that is being compressed counts once; files of two logs that were rotated at once both count."""
+        with MadeDesk() as desk:
+            desk.log("openlink.log.1", [line("2026-05")] * 3, 1)
+            (desk.logs / "openlink.log.1.gz").write_bytes(gzip.compress((desk.logs / "openlink.log.1").read_bytes()))
+            desk.log("openlink-wanted.log.1", ["2026-05 2901-0012 2019\n"] * 2, 1)
+            mark = int((desk.logs / "openlink.log.1").stat().st_mtime)
+            for path in desk.logs.iterdir():
+                os.utime(path, (mark, mark))
+            os.utime(desk.logs / "openlink.log.1", (mark + 0.25, mark + 0.25))  # some programs cut it to whole seconds
+            for name in ("at first", "and again"):
+                found = self.counted(desk)
+                numbers = found["2026-05", "requests", ""], found["2026-05", "asked in vain", "2901-0012"]
+                self.expect(name, numbers, (3, 2))
+
+    def test_order(self) -> None:
+        """Of each kind the greatest numbers come first, and of equal ones the names in their order."""
+        with MadeDesk() as desk:
+            desk.log("openlink.log", [line("2026-05", source) for source in "bcacbd"])
+            paths = [desk.logs / "openlink.log"]
+            rows = months.of(desk.before, logs.folders_of(paths)).rows
+            found = [(name, number) for _, kind, name, number in rows if kind == "source"]
+            self.expect("sources", found, [("b", 2), ("c", 2), ("a", 1), ("d", 1)])
 
     def test_no_other_file(self) -> None:
         """Names beside those of the library's logs are refused, as another library's."""
@@ -111,6 +140,9 @@ class Months(MonthsCase):
                 "openlink.log",
                 "openlink.law.log",
                 "openlink.log.1",
+                "openlink.log.2.gz",
+                "openlink.log-20261101",
+                "openlink.log-20261030.gz",
                 "error.log",
                 "openlink.log.x",
                 "openlink.log~",
@@ -124,7 +156,8 @@ class Months(MonthsCase):
                     open_ones.append(name)
                 except PermissionError:
                     pass
-            self.expect("its own", open_ones, ["openlink.log", "openlink.log.1"])
+            names = ["openlink.log", "openlink.log-20261030.gz", "openlink.log-20261101", "openlink.log.1"]
+            self.expect("its own", open_ones, [*names, "openlink.log.2.gz"])
             for parts in ((), ("..", "openlink.log"), ("openlink.log", "x"), ("openlink.log/../error.log",)):
                 self.assertRaises(OSError, folder.file, parts)
 

@@ -1,10 +1,14 @@
 """Parts of the desk that depend on what a version lacks, on the program, or on the language of a page."""
 from __future__ import annotations
 
+import dataclasses
 import json
 import tempfile
 from pathlib import Path
+from unittest import mock
 
+from desk.made_desk import NOW
+from desk.made_desk import record
 from fixtures.cases import Case
 from openlink_update.counts import log_counts
 from openlink_update.desk import lint_lines
@@ -12,14 +16,19 @@ from openlink_update.desk import logs
 from openlink_update.desk import site_files
 from openlink_update.desk import targets
 from openlink_update.desk import words_in
-from openlink_update.desk import year
 from openlink_update.desk.targets import Target
+from openlink_update.desk.week import week_of
+from openlink_update.desk.year import year_of
 from openlink_update.outcome import DEVICE
 from openlink_update.outcome import Failure
 from openlink_update.outcome import Refused
+from openlink_update.run_notes import ProbeResult
+from openlink_update.run_notes import TargetState
 from openlink_update.versions.program import Program
 
 PARTS = ("press", "press.2", "press.3")
+ENGLISH = words_in.languages_of(["en"])[0]
+ENDED = "The last update ended with status {}."
 
 
 class Saying(Program):
@@ -58,18 +67,22 @@ class Lint(Case):
         said = [line for lines in about.values() for line in lines] + others
         self.expect("places, and the others", lint_lines.beside(rules, said), (about, others))
 
-
-class Years(Case):
-    def test_labels(self) -> None:
-        """Below the first month and each January is its year. If they are too near each other, January has it alone."""
-        for months, wanted in (
-            (("2025-11", "2025-12", "2026-01"), ["11", "12", "01", "2026"]),
-            (("2025-10", "2025-11", "2025-12", "2026-01"), ["10", "2025", "11", "12", "01", "2026"]),
-            (("2026-02", "2026-03"), ["02", "2026", "03"]),
-        ):
-            found = year.year_of([(month, log_counts.REQUESTS, "", 7) for month in months])
-            labels = [it.text for it in found.last.chart.labels if it.anchor == "middle"] if found else []
-            self.expect(" ".join(months), labels, wanted)
+    def test_what_is_kept(self) -> None:
+        """The program is asked once for the same files, also where it says nothing, and again for others."""
+        target = Target("press", PARTS[:1], 3, "", "sum", (), ())
+        with tempfile.TemporaryDirectory() as folder:
+            Path(folder, "received").mkdir()
+            rules = Path(folder, "received/press.rules")
+            for text, lines in (("", ()), ("rule 1 is never reached\n", ("rule 1 is never reached",))):
+                rules.write_text(f"rule\nlink https://e.org/{len(text)}\n", encoding="utf-8")
+                asked = list[int]()
+                for table, wanted in (("sum", 1), ("sum", 1), ("other", 2)):
+                    with mock.patch.object(Program, "run", side_effect=[(int(text != ""), text)]) as run:
+                        found = lint_lines.LintLines(Path(folder), Program("none", folder))
+                        said = found.of(dataclasses.replace(target, sum=table))
+                        found.write(Path(folder))
+                    asked.append(run.call_count)
+                    self.expect(f"{text!r} of {table}", (said, sum(asked)), (lines, wanted))
 
 
 class Versions(Case):
@@ -82,6 +95,85 @@ class Versions(Case):
     def test_a_folder_of_logs_that_is_gone(self) -> None:
         folder = logs.LogFolder(Path("/nonexistent"), ["openlink.log"])
         self.expect("its files", list(logs.files_of(folder, "openlink.log")), [])
+
+
+class Weeks(Case):
+    def test_how_updates_ended(self) -> None:
+        """One that kept old files ended well; if none did, the days since the first one count."""
+        old = "No update has ended well for 13 days."
+        for name, records, wanted in (
+            ("old files", [record(1, "20261128T040000Z"), record(0, "20261101T040000Z")], []),
+            ("a bad one", [record(2, "20261128T040000Z"), record(1, "20261127T040000Z")], [ENDED.format(2)]),
+            ("none", [record(3, "20261128T040000Z"), record(4, "20261116T040000Z")], [ENDED.format(3), old]),
+        ):
+            self.expect(name, [it.text for it in week_of(records, (), NOW, ENGLISH).first], wanted)
+        lines = tuple(map(str, range(9)))
+        self.expect("its last lines", week_of([record(3, lines=lines)], (), NOW, ENGLISH).first[0].lines, lines[1:])
+
+    def test_order(self) -> None:
+        """What needs her is first; then the targets of the version, with its rows, and those that it does not have."""
+        states = (
+            TargetState("gone", "gone", 3),
+            TargetState("good", "changed", 5),
+            TargetState("bad", "kept", 2, lines=("bad: kept its old rules and table", "  why")),
+            TargetState("none", "left out", lines=("none: left out", "  why not")),
+        )
+        probes = (ProbeResult(1, "issn=1", "good", True), ProbeResult(2, "issn=2", "bad", False))
+        fetches = (
+            ("a.txt", "kept the old file: x"),
+            ("b.txt", "not fetched, and there is no old file: y"),
+            ("c.txt", "new"),
+        )
+        own = [Target(name, (name,), rows, "", "sum", (), ()) for name, rows in (("good", 7), ("bad", 9))]
+        week = week_of([record(1, targets=states, probes=probes, fetches=fetches)], own, NOW, ENGLISH)
+        self.expect(
+            "rows", [(it.name, it.rows) for it in week.rows], [("bad", 9), ("none", 0), ("good", 7), ("gone", 3)]
+        )
+        self.expect("probes", [it.number for it in week.probes], [2, 1])
+        first = [
+            ("bad", ("why",)),
+            ("none", ("why not",)),
+            ("", ("bad",)),
+            ("", ("kept the old file: x",)),
+            ("", ("not fetched, and there is no old file: y",)),
+        ]
+        self.expect("what needs her", [(it.target, it.lines) for it in week.first], first)
+
+
+class Years(Case):
+    def test_labels(self) -> None:
+        """Below the first month and each January is its year. If they are too near each other, January has it alone."""
+        for months, wanted in (
+            (("2025-11", "2025-12", "2026-01"), ["11", "12", "01", "2026"]),
+            (("2025-10", "2025-11", "2025-12", "2026-01"), ["10", "2025", "11", "12", "01", "2026"]),
+            (("2026-02", "2026-03"), ["02", "2026", "03"]),
+        ):
+            found = year_of([(month, log_counts.REQUESTS, "", 7) for month in months])
+            labels = [it.text for it in found.last.chart.labels if it.anchor == "middle"] if found else []
+            self.expect(" ".join(months), labels, wanted)
+
+    def test_years(self) -> None:
+        """The last twelve months; earlier years, the newest first; and a year is named once below the columns."""
+        months = [f"2024-{it:02}" for it in range(1, 13)] + [f"2025-{it:02}" for it in range(1, 13)]
+        for count, years, named in ((24, ["2024"], ["2025"]), (13, ["2024"], ["2025"]), (12, [], ["2025"])):
+            found = year_of([(month, "requests", "", 3) for month in [*months, "2026-01", "2026-02"][24 - count : 24]])
+            self.expect(f"{count} months", found and [it.name for it in found.years], years)
+            names = [it.text for it in found.last.chart.labels if it.text in ("2024", "2025")] if found else []
+            self.expect(f"{count} months: the years", names, named)
+        found = year_of([(month, "requests", "", 3) for month in [*months, "2026-01"]])
+        self.expect("two years", found and [it.name for it in found.years], ["2025", "2024"])
+        near = year_of([(month, "requests", "", 3) for month in ("2025-12", "2026-01", "2026-02")])
+        names = [it.text for it in near.last.chart.labels if it.text in ("2025", "2026")] if near else []
+        self.expect("January beside the first month", names, ["2026"])
+        self.expect("nothing was counted", year_of([]), None)
+
+    def test_names(self) -> None:
+        """The greatest first; of equal ones that with more of the second number, and then by name."""
+        rows = [("2026-01", "source", name, 2) for name in "dcba"] + [("2026-01", "source", "e", 3)]
+        rows.append(("2026-01", "source without full text", "c", 1))
+        found = year_of([*rows, ("2026-01", "requests", "", 11), ("2026-01", "without full text", "", 1)])
+        self.expect("sources", found and [it[0] for it in found.sources.rows], list("ecabd"))
+        self.expect("with full text", found and found.last.months[0].with_full_text, 10)
 
 
 class Texts(Case):

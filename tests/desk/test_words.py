@@ -29,6 +29,12 @@ class Words(Case):
         for language in languages:
             self.expect(language, faults_of(words_in.texts_of(language), language), [])
 
+    def test_languages_of_a_page(self) -> None:
+        """A page has the words of its language, and is written from right to left where that is."""
+        for t in words_in.languages_of(sorted(path.stem for path in words_in.FOLDER.glob("*.json"))):
+            self.expect(f"words of {t.tag}", {**t.words}, words_in.texts_of(t.tag))
+            self.expect(f"direction of {t.tag}", t.direction, "rtl" if t.tag in ("ar", "he") else "ltr")
+
     def test_spoilt_words(self) -> None:
         german = words_in.texts_of("de")
         for name, text in (("week", ""), ("made", "Erstellt am"), ("allWell", ENGLISH["allWell"]), ("none", "x")):

@@ -104,7 +104,17 @@ NUMBERS = {
     ("ISSN 2901-0012 (print)", "Online: 2908-0142"): ("2901-0012", "2908-0142"),
     ("ISSN", "2908-0142"): ("ISSN", "2908-0142"),
     ("ISSNs of 2901", "2908-0142"): ("ISSNs of 2901", "2908-0142"),
+    ("2901001 (print)", "2908-0142"): ("2901001 (print)", "2908-0142"),
+    ("2908-0142 / 2901-0012", "2908-0142"): ("2901-0012", "2908-0142"),
+    ("2901-0012 (print online), 2908-0142", ""): ("2901-0012", "2908-0142"),
+    ("", "2901-0012 (print online), 2908-0142"): ("2908-0142", "2901-0012"),
+    ("29010012", "29080142"): ("29010012", "29080142"),
 }
+# Words after a number that name its column.
+OF_PRINT = "print, p-ISSN, pISSN, paper, hardcover, cloth, pbk, hbk, Druck, imprimé, impreso"
+OF_ONLINE = "online, e-ISSN, eISSN, electronic, elektronisch, ebook, e-book, web, digital, en ligne, en línea"
+# What is no hyphen and looks like one: a soft hyphen, dashes, a bullet, a minus, and the forms of other scripts.
+DASHES = "\xad\u2010\u2011\u2012\u2013\u2014\u2015\u2043\u2212\ufe58\ufe63\uff0d"
 
 
 def table(*rows: str, head: str = HEAD) -> bytes:
@@ -147,6 +157,21 @@ class Cells(Case):
         ]
         self.expect("what is said", said(table(*(f"T\t{it}\t1995\t" for it in cells))), lines)
 
+    def test_words_of_columns(self) -> None:
+        """The first of two numbers goes to the column that a word after it names."""
+        two = ("2901-0012", "2908-0142")
+        for word in OF_PRINT.split(", "):
+            rows = rows_of(table(f"Tides\t\t{two[0]} ({word}), {two[1]}\t1995\t"))
+            self.expect(f"of print: {word}", tuple(rows[0][1:3]), two)
+        for word in OF_ONLINE.split(", "):
+            rows = rows_of(table(f"Tides\t{two[0]} ({word}), {two[1]}\t\t1995\t"))
+            self.expect(f"of online: {word}", tuple(rows[0][1:3]), two[::-1])
+
+    def test_dashes(self) -> None:
+        for dash in DASHES:
+            rows = rows_of(table(f"Tides\t2901{dash}0012\t\t1995\t"))
+            self.expect(f"a dash U+{ord(dash):04X}", [row[1] for row in rows], ["2901-0012"])
+
     def test_one_column(self) -> None:
         """A table with one column of identifiers gets the other, before cells that have no column."""
         head = "publication_title\tonline_identifier\tdate_first_issue_online"
@@ -180,6 +205,8 @@ class Cells(Case):
         other = f"{HEAD}\tdate_last_issue_online"
         data = table("A\t2901-0012\t\t3/4/1995\t\t13/4/1999", head=other)
         self.expect("another column says nothing", rows_of(data)[0][3], "1995")
+        mixed = table("A\t2901-0012\t\t3/4-1995\t", "B\t2908-0142\t\t13/4/1995\t")
+        self.expect("two separators", rows_of(mixed)[0][3], "1995")
         times = table("A\t2901-0012\t\t3/4/1995 12:00 AM\t", "B\t2908-0142\t\t4/13/1995 12:00:00 AM\t")
         self.expect("with times", [row[3] for row in rows_of(times)], ["1995-03-04", "1995-04-13"])
         cells_of = ("3/4/1995", "13/4/1995", "5/5/1995", "4/0/1995", "0/4/1995")
@@ -198,6 +225,11 @@ class Cells(Case):
         self.expect("in the middle", [row[1] for row in preparation.prepare([("file", middle)]).dropped], ["Total"])
         last = table("A\t2901-0012\t\t1995\t", "\t2908-0142")
         self.expect("a number alone", [row[1] for row in rows_of(last)], ["2901-0012", "2908-0142"])
+        every = table("A\t2901-0012\t\t1995\t", "All\t any ")
+        self.expect("the word for all requests", [row[1] for row in rows_of(every)], ["2901-0012", "any"])
+        quoted = table("A\t2901-0012\t\t1995\t", 'Source: "Press"')
+        line = "below the table, left out: 1 row, the first \"Source: 'Press'\""
+        self.expect("quotation marks in a quotation", said(quoted), [line])
 
 
 class Zips(Case):

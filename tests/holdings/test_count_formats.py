@@ -6,13 +6,21 @@ import csv
 import gzip
 import io
 import json
+import os
+import signal
 import subprocess
 import tempfile
 import zipfile
+from collections.abc import Callable
+from decimal import Decimal
 from pathlib import Path
 from xml.etree import ElementTree
 
 from fixtures.cases import Case
+from openlink_update.counts import costs
+from openlink_update.counts import counter_reports
+from openlink_update.counts import side_by_side
+from openlink_update.outcome import Unreadable
 
 LOG = """\
 2026-10-31T09:42:47+00:00 200 GET /find 0.017 found=1/3 targets=tidal-press,catalogue from=info:sid/google
@@ -204,6 +212,10 @@ class Formats(CountsCase):
         self.expect("the end", (status, said), (0, ""))
         wanted = {name: [columns.split("|"), *rows] for name, (columns, rows) in DATA.items()}
         self.expect("the sheets", sheets_of(data), wanted)
+        with zipfile.ZipFile(io.BytesIO(data)) as archive:
+            sheet = ElementTree.fromstring(archive.read("xl/worksheets/sheet1.xml"))
+        pane = {"ySplit": "1", "topLeftCell": "A2", "activePane": "bottomLeft", "state": "frozen"}
+        self.expect("the first row stays in sight", [it.attrib for it in sheet.iter(f"{_MAIN}pane")], [pane])
         again = self.counted("--format", "xlsx", *self.logs)[1]
         self.expect("the same bytes", data == again)
 
@@ -214,6 +226,19 @@ class Formats(CountsCase):
         for line in ("2026-10|requests||3", "2026-10|followed|tidal-press|3", "2026-11|followed title|catalogue -|1"):
             self.expect(line, line.replace("|", "\t") in lines)
         self.expect("asked in vain", "2026-10\tasked in vain\t3006-1962\t2" in lines)
+        empty = self.write("empty", "")
+        self.expect("an empty log", self.text(empty), (0, "month\tcounted\tname\tnumber\n", ""))
+        odd = self.write("odd", "odd\n")
+        self.expect("no line of a log", self.text(odd)[::2], (1, "openlink-counts: 1 of 1 lines have another form\n"))
+
+    def test_terminal(self) -> None:
+        """A spreadsheet is bytes that a terminal would run as commands."""
+        master, slave = os.openpty()
+        with open(master, "rb"), open(slave, "wb") as terminal:
+            words = ["update/counts", "--format", "xlsx", *self.logs]
+            done = subprocess.run(words, stdout=terminal, stderr=subprocess.PIPE, text=True)
+        said = "openlink-counts: a spreadsheet is not written to a terminal\n"
+        self.expect("it is said", (done.returncode, done.stderr), (2, said))
 
     def test_arguments(self) -> None:
         for words in (
@@ -221,7 +246,10 @@ class Formats(CountsCase):
             ["--format", "ods"],
             ["--format", "json", "--format", "json"],
             ["--cost", "a", "--cost", "b"],
+            ["--cost", ""],
+            ["--counter", "", self.logs[0]],
             ["--cost", "a", "--counter", "b"],
+            ["--format", "tsv", "--cost", "a", "--counter", "b"],
             ["--wanted", "--format", "json"],
             ["--index", "a"],
             [self.logs[0], "--format", "json"],
@@ -264,6 +292,78 @@ class Costs(CountsCase):
         self.expect("costs", lines[1:], ["2025\ta\t6\t1\t1\t6.00", "2026\ta\t6\t1\t2\t3.00"])
 
 
+class Sums(Case):
+    """Costs without a run of the command."""
+
+    def test_names_of_columns(self) -> None:
+        """The first line may have them, in any case; a later one may not."""
+        sums = {("a", "2026"): Decimal("1.50")}
+        for head in ("target\tyear\tsum", "Target\tYEAR\t Sum "):
+            self.expect(head, costs.costs_in(f"{head}\r\na\t2026\t1.50\r\n".encode()), sums)
+        self.expect(
+            "a later line", refused(costs.costs_in, "a\t2026\t1\ntarget\tyear\tsum\n"), "line 2: not a year: year"
+        )
+
+    def test_months(self) -> None:
+        """All months count that the logs have of a year, also those in which nobody followed a link."""
+        rows = [("2026-01", "requests", "", 5), ("2026-02", "followed", "a", 2), ("2025-12", "followed", "a", 1)]
+        table = costs.cost_table({("a", "2026"): Decimal(6)}, rows)
+        self.expect("two months", table.rows, [("2026", "a", Decimal(6), 2, 2, Decimal("3.00"))])
+
+
+class Titles(Case):
+    """Reports without a run of the command."""
+
+    def test_forms(self) -> None:
+        """The views of the report of titles, and months in both forms."""
+        for name in ("TR", "TR_B1", "TR_B2", "TR_B3", "TR_J1", "TR_J2", "TR_J3", "TR_J4"):
+            found = counter_reports.titles_in(REPORT.replace("Report_ID,TR", f"Report_ID,{name}").encode())
+            self.expect(name, [it.title for it in found][1:], ["Harbours"])
+        for name in ("TR_J5", "TR_B0", "TR_", "xTR", "DR"):
+            text = REPORT.replace("Report_ID,TR", f"Report_ID,{name}")
+            said = f"Report_ID: not a report of titles (TR): {name}"
+            self.expect(name, refused(counter_reports.titles_in, text), said)
+        names = "Jan Feb Mar Apr May Jun Jul Aug Sep Oct Nov Dec".split()
+        for number, name in enumerate(names, 1):
+            for cell in (f"{name}-2025", f"2025-{number:02}"):
+                found = counter_reports.titles_in(REPORT.replace("Oct-2026", cell).encode())
+                months = {month for month, _ in found[0].requests}
+                self.expect(cell, months, {f"2025-{number:02}", "2026-11"})
+        for cell in ("2025-00", "2025-13", "oct-2025", "Okt-2025", "Oct-25"):
+            found = counter_reports.titles_in(REPORT.replace("Oct-2026", cell).encode())
+            self.expect(cell, {month for month, _ in found[0].requests}, {"2026-11"})
+
+    def test_encodings(self) -> None:
+        """UTF-16 with its mark, whichever byte is first."""
+        plain = counter_reports.titles_in(REPORT.encode())
+        for encoding in ("utf-16-le", "utf-16-be"):
+            data = f"\ufeff{REPORT}".encode(encoding)
+            self.expect(encoding, (counter_reports.is_report(data), counter_reports.titles_in(data)), (True, plain))
+
+    def test_several_titles(self) -> None:
+        """Titles without a number are those of one name; what joins two titles is a number of either."""
+        rows = "One,,,Unique_Item_Requests,1\nTwo,,,Unique_Item_Requests,2\nOne,,,Unique_Item_Requests,4\n"
+        head = "Report_ID,TR\nRelease,5\n\nTitle,Print_ISSN,Online_ISSN,Metric_Type,Oct-2026\n"
+        found = counter_reports.titles_in((head + rows).encode())
+        self.expect("by their names", [(it.title, it.requests.total()) for it in found], [("One", 5), ("Two", 2)])
+        one = "A,2901-0012,,Unique_Item_Requests,1\n"
+        both = "A,2901-0012,2908-0142,Unique_Item_Requests,2\n"
+        other = "A,,2908-0142,Unique_Item_Requests,4\n"
+        for order in ((one, both, other), (other, both, one)):
+            reports = [counter_reports.titles_in((head + row).encode()) for row in order]
+            table = side_by_side.table_of(reports, [("2026-10", "followed title", "press 2908-0142", 8)])
+            self.expect(f"{order}", [row[3:] for row in table.rows], [(8, 7, 0)])
+
+
+def refused(read: Callable[[bytes], object], text: str) -> str:
+    """Why bytes are no file of their kind; '' if they are."""
+    try:
+        read(text.encode())
+    except Unreadable as fault:
+        return str(fault)
+    return ""
+
+
 class Reports(CountsCase):
     def test_beside(self) -> None:
         report = self.write("report.csv", REPORT)
@@ -302,6 +402,7 @@ class Reports(CountsCase):
         same = self.write("same.csv", REPORT)
         got = self.text("--counter", report, "--counter", same, *self.logs)
         self.expect("twice", got, (3, BESIDE, "openlink-counts: same.csv: the same report as report.csv\n"))
+        self.expect("once as a log", self.text("--counter", report, *self.logs, same), got)
 
     def test_hostile_titles(self) -> None:
         """No title breaks out of its cell."""
@@ -341,6 +442,14 @@ class Files(CountsCase):
         self.expect("the lines", "2026-10\trequests\t\t6000" in text.splitlines())
         path.write_bytes(LOG.encode())
         self.expect("no gzip at all", self.text(str(path))[0], 3)
+
+    def test_nobody_reads(self) -> None:
+        """As other commands before `head`, it ends without a word."""
+        reads, writes = os.pipe()
+        os.close(reads)
+        with open(writes, "wb") as pipe:
+            done = subprocess.run(["update/counts", *self.logs], stdout=pipe, stderr=subprocess.PIPE, text=True)
+        self.expect("its end", (done.returncode, done.stderr), (-signal.SIGPIPE, ""))
 
     def test_full_disk(self) -> None:
         with open("/dev/full", "wb") as full:

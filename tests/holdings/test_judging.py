@@ -219,6 +219,24 @@ class Judging(Case):
             os.unlink(f"{weeks.version}/allowed.tsv")
             self.expect("a version from before there were numbers", weeks.week("press", bad(5), words), [])
 
+    def test_words_that_are_new(self) -> None:
+        """How many cells words without a number allow was decided when they came into the list. A word that is new
+        changes nothing of that, also where the files stay the same."""
+        dates, column = "date_first_issue_online not a date", "unknown column"
+
+        def soon(count: int) -> bytes:
+            return table(*((*row[:3], "soon", *row[4:]) for row in rows(0, count)), *rows(count, 10))
+
+        with Weeks() as weeks:
+            for data, words, wanted in (
+                (soon(3), dates, [f"press\t{dates}\t3"]),
+                (soon(1), dates, [f"press\t{dates}\t3"]),
+                (soon(1), f"{dates}; {column}", [f"press\t{dates}\t3", f"press\t{column}\t0"]),
+                (soon(1), column, [f"press\t{column}\t0"]),
+            ):
+                weeks.week("press", data, words)
+                self.expect(words, weeks.read("allowed.tsv").decode().splitlines(), wanted)
+
     def test_lint(self) -> None:
         """Warnings of `lint`: by their words, or all of them by `rule`."""
         one = "rule\nwhen given shelf\nlink https://press.example.com/{title_id}\n"

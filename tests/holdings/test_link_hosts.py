@@ -1,7 +1,10 @@
 """A table that somebody else controls: links on other hosts, one address for all titles, many titles more."""
 from __future__ import annotations
 
+import datetime
 import os
+import tempfile
+from pathlib import Path
 from unittest import mock
 
 from fixtures import needs
@@ -10,9 +13,13 @@ from fixtures.made_titles import issn
 from fixtures.made_versions import DAY
 from fixtures.made_versions import Weeks
 from fixtures.made_versions import table
+from openlink_update.index.title_addresses import NO_OFFER
+from openlink_update.index.title_addresses import Offer
+from openlink_update.index.title_addresses import Proxy
 from openlink_update.tables import link_hosts
 from openlink_update.tables.link_hosts import Templates
 from openlink_update.tables.table import Table
+from openlink_update.versions.host_judge import HostJudge
 
 RULES = "rule\nwhen given title_url\nlink {+title_url}\n"
 EVIL = "login-press.evil.example"
@@ -118,6 +125,32 @@ class Hijacked(Case):
             self.expect("is not in use", weeks.maker.kept, ["press"])
             self.expect("nor allowed later", EVIL in weeks.read("hosts.tsv").decode(), False)
 
+    def test_least_rows(self) -> None:
+        """As many rows as the line of the target demands are enough, and half of those before."""
+        words, less = "gone up to 99%; least 4 rows", ["3 rows, and at least 4 must be there"]
+        half = ["less than half of the rows: 1, and 3 before; to allow it: less than half of the rows"]
+        with Weeks() as weeks:
+            weeks.week("press", table(*rows(0, 5)), rules=RULES)
+            self.expect("as many", weeks.week("press", table(*rows(0, 4)), words, rules=RULES), [])
+            self.expect("one less", weeks.week("press", table(*rows(0, 3)), words, rules=RULES), less)
+            self.expect("half", weeks.week("press", table(*rows(0, 2)), "gone up to 99%", rules=RULES), [])
+            weeks.week("press", table(*rows(0, 3)), rules=RULES)
+            self.expect("fewer", weeks.week("press", table(*rows(0, 1)), "gone up to 99%", rules=RULES), half)
+
+    def test_days(self) -> None:
+        """A host is remembered with the day on which it was allowed first."""
+        host = "new.example.com"
+        with Weeks() as weeks:
+            for day, last, words in (
+                (1, rows(39, 40), ""),
+                (8, rows(39, 40, host), f"hosts +{host}"),
+                (15, rows(39, 41), ""),
+            ):
+                weeks.deliver("press", table(*rows(0, 39), *last), words, RULES)
+                weeks.make(datetime.date(2026, 11, day))
+            wanted = f"press\t\t2026-11-01\npress\t{host}\t2026-11-08\npress\tpress.example.com\t2026-11-01\n"
+            self.expect("days", weeks.read("hosts.tsv").decode(), wanted)
+
     def test_rules(self) -> None:
         """Only cells that links have count, and hosts that the rules have as text are allowed."""
         fixed = "rule\nlink https://press.example.com/{title_id}\n"
@@ -127,6 +160,33 @@ class Hijacked(Case):
         with Weeks() as weeks:
             weeks.week("press", table(*rows(0, 40, "old.example.com")), rules=RULES + fixed)
             self.expect("a fixed host", weeks.week("press", table(*rows(0, 40)), rules=RULES + fixed), [])
+
+
+class Offers(Case):
+    def test_proxies(self) -> None:
+        """Addresses of titles' pages are offered behind the one proxy that rules have, if its address is https; none if
+        it is not known which one, or if there would be two."""
+        one, other = "https://proxy.example.org/login?url=", "https://other.example.org/login?qurl="
+        for links, behind, prefix, wanted in (
+            (["{+title_url}"], False, "", Proxy()),
+            ([f"{one}{{+title_url}}"], False, "", Proxy(one, False)),
+            ([f"{other}{{title_url}}"], False, "", Proxy(other, True)),
+            ([f"{one}{{+title_url}}".replace("https:", "http:")], False, "", None),
+            ([f"{one}{{+title_url}}", f"{other}{{title_url}}"], False, "", None),
+            (["{+title_url}"], True, one, Proxy(one, False)),
+            (["{+title_url}"], True, other, Proxy(other, True)),
+            ([f"{one}{{+title_url}}"], True, other, None),
+        ):
+            with tempfile.TemporaryDirectory() as folder:
+                for name in ("received", *(["rules"] if behind else [])):
+                    os.mkdir(f"{folder}/{name}")
+                    Path(folder, name, "press.rules").write_text("".join(f"rule\nlink {it}\n" for it in links))
+                undated = mock.Mock(kinds=lambda name: "j" if name == "press" else "")
+                judge = HostJudge(Path(folder), None, datetime.date(2026, 11, 29), undated)
+                judge._now["press"] = {"": "2026-11-22", "press.example.com": "2026-11-22"}
+                offer = Offer("j", frozenset({"press.example.com"}), wanted)
+                self.expect(f"{links}, {behind}", judge.offer("press", prefix), offer)
+                self.expect("a target with links for all", judge.offer("other", prefix), NO_OFFER)
 
 
 class Cells(Case):
@@ -140,6 +200,7 @@ class Cells(Case):
             ("https://{+host}/x", {"host"}, {"host"}, set()),
             ("https://www.{host}/{title_id}", {"host", "title_id"}, {"host"}, set()),
             ("https://{sub}.example.org/", {"sub"}, set(), set()),
+            ("https://www.{host}:8080/{title_id}", {"host", "title_id"}, {"host"}, set()),
         ):
             found = Templates.parse(f"# link https://no.example/{{no}}\nrule\nlink {template}\n".encode())
             self.expect(template, found, Templates(frozenset(names), frozenset(hosts), frozenset(fixed)))
@@ -165,6 +226,11 @@ class Cells(Case):
         self.expect("hosts", dict(found.hosts), {"one.org": 1, "two.org": 1})
         same = [Table(("a", "b"), [[f"http://one/{at}", "http://two"] for at in range(3)])] * 2
         self.expect("in most rows of all parts", link_hosts.links_of(same, both).most_common, ("http://two", 6))
+        twice = [Table(("a", "a"), [["http://one/x", "http://two"]])]
+        found = link_hosts.links_of(twice, both)
+        self.expect(
+            "two columns of one name", (dict(found.hosts), found.most_common), ({"one": 1}, ("http://one/x", 1))
+        )
         titles = link_hosts.first_titles(parts, both, {"one", "two"})
         self.expect("titles", titles, {"one": "T", "two": "U"})
 

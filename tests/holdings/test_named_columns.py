@@ -108,6 +108,10 @@ class Missing(Case):
             ["semicolons between cells: 1 row", "named by `columns`: 3 columns", 'no column "Verlag" to leave out'],
         )
         self.expect("the table", table(ALL, without), SERVED)
+        short = "Titel;ISSN, print;Verlag\nPiers;2915-0272;Press\n"
+        self.expect("the second file lacks it", table(ALL, GERMAN, short), f"{SERVED}Piers\t2915-0272\t\n")
+        head, _, row = SERVED.partition("\n")
+        self.expect("the first file lacks it", table(ALL, short, GERMAN), f"{head}\nPiers\t2915-0272\t\n{row}")
         self.expect("in one of two files", table(ALL, GERMAN, PLAIN.replace("|", "\t")).count("\n"), 3)
 
     def test_kinds(self) -> None:

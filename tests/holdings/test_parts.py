@@ -70,7 +70,9 @@ class Parts(Case):
         self.expect("bytes of letters", divided(letters, most_bytes=header + 2 * row), ["é", "b"])
         sizes = [(4, "a"), (5, "b"), (5, "c"), (6, "d")]  # in their order they would need three parts
         rows = [(issn(number), "", name) for number, (count, name) in enumerate(sizes) for _ in range(count)]
-        self.expect("two parts of ten rows", divided(rows, most_rows=10), ["aaaadddddd", "bbbbbccccc"])
+        both = ["aaaadddddd", "bbbbbccccc"]
+        self.expect("two parts of ten rows", divided(rows, most_rows=10), both)
+        self.expect("two parts of their bytes", divided(rows, most_bytes=header + 10 * row), both)
 
     @needs.program()
     def test_limits(self) -> None:

@@ -70,12 +70,24 @@ DATES = {
     "12112005": "2005",
     "31122005": "2005-12-31",
     "12/31/2004 12:00:00 AM": "2004-12-31",
+    "2005-03-01 9:30": "2005-03-01",
+    "2005-03-01T00:00:00.000Z": "2005-03-01",
+    "2005-03-01T00:00:00+01:00": "2005-03-01",
+    "2005-03-01T00:00:00-0500": "2005-03-01",
+    "1st March 2005": "2005-03-01",
+    "March 2nd, 2005": "2005-03-02",
+    "3rd March 2005": "2005-03-03",
+    "3-5 March 2005": "2005",
+    "15/12/1400": "1400-12-15",
+    "15/12/2099": "2099-12-15",
     "März 2005": "2005",
     # No year, or more than one: left for inspect to complain of.
     "19992004": "19992004",
     "1995-1998": "1995-1998",
     "200503": "200503",
     "01/02/95": "01/02/95",
+    "15/12/1399": "15/12/1399",
+    "15/12/2100": "15/12/2100",
     "Dec-04": "Dec-04",
     "01.02.95": "01.02.95",
     "95-02-01": "95-02-01",
@@ -209,6 +221,8 @@ class Preparation(Case):
                 ["file 2: semicolons between cells: 1 row"],
             ),
         )
+        known = "online_identifier;publication_title;title_id\n2922-0408;Harbours;h\n"
+        self.expect("which file a line is about", prepare(known, PLAIN)[1], ["file 1: semicolons between cells: 1 row"])
         twice = f"{COLUMNS}|notes|notes\n{ROW}|a|b\n"
         self.expect(
             "a column that each has twice",

@@ -6,6 +6,7 @@ import io
 import os
 import tempfile
 import zipfile
+import zlib
 from pathlib import Path
 from unittest import mock
 
@@ -17,8 +18,10 @@ from fixtures.spreadsheet_files import xlsx_members
 from openlink_update import disk
 from openlink_update.commands import counts
 from openlink_update.counts import counter_reports
+from openlink_update.counts import log_counts
 from openlink_update.counts import log_files
 from openlink_update.counts import wanted_titles
+from openlink_update.exports import export_files
 from openlink_update.exports.site_names import SiteNames
 from openlink_update.input_files import InputFolder
 from openlink_update.outcome import Unreadable
@@ -196,11 +199,48 @@ class Logs(Case):
             found = [(log.name, log.read(10)) for log in log_files.open_logs([])]
         self.expect("it is read", found, [("standard input", b"a\nb\n")])
 
+    def test_parts_of_a_log(self) -> None:
+        """A log is read in parts of the size that is asked for, and up to where it breaks off."""
+        short = io.BytesIO(b"0123456789")
+        log = log_files.LogFile("log", lambda size: short.read(min(size, 3)))
+        self.expect("parts", [log.read(4), log.read(4), log.read(4), log.read(4)], [b"0123", b"4567", b"89", b""])
+        for fault, said in (
+            (OSError(5, "Input/output error"), "Input/output error"),
+            (EOFError("the end"), "gzip: the end"),
+            (zlib.error("invalid stored block"), "gzip: invalid stored block"),
+        ):
+            log = log_files.LogFile("log", mock.Mock(side_effect=[b"ab", fault]))
+            self.expect(f"{fault!r}", (log.read(9), log.fault, log.read(9)), (b"ab", said, b""))
+
+    def test_numbers_of_titles(self) -> None:
+        """An ISSN, or an ISBN of thirteen digits with either beginning; no other text, and no ISBN of ten."""
+        good, bad = ("2943-081X", "9780306406157", "9791234567896"), (
+            "2943-081x",
+            "2943081X",
+            "0306406152",
+            "9771234567896",
+        )
+        for number in (*good, *bad):
+            line, followed = f"2026-11 {number} 2003\n".encode(), f"2026-11 target=press {number}\n".encode()
+            logged = log_counts.counts_of([io.BytesIO(line + followed)])
+            wanted = wanted_titles.wanted_in([io.BytesIO(line)])
+            found = [name for _, kind, name, _ in logged.rows() if kind in ("asked in vain", "followed title")]
+            self.expect(number, found, [f"press {number}", number] if number in good else [])
+            self.expect(f"{number}: asked in vain", list(wanted.pairs), [(number, "2003")] if number in good else [])
+
+    def test_order_of_titles_in_vain(self) -> None:
+        """Those with the most requests first, and of as many the lower number."""
+        lines = b"".join(b"2026-11 %b -\n" % it for it in (b"2915-0272", b"2908-0142", b"2901-0012", b"2915-0272"))
+        rows = wanted_titles.rows_of(wanted_titles.wanted_in([io.BytesIO(lines)]), Path("/nonexistent"))
+        self.expect("rows", [row[:2] for row in rows], [(2, "2915-0272"), (1, "2901-0012"), (1, "2908-0142")])
+
     def test_blank_lines(self) -> None:
         wanted = wanted_titles.wanted_in(
             [io.BytesIO(b"2026-11 2901-0012 2003\n  \n\n \t\n2026-11 2901-0012 2003\nx\n")]
         )
         self.expect("of titles in vain", (wanted.lines, wanted.unread, wanted.pairs.total()), (3, 1, 2))
+        logged = log_counts.counts_of([io.BytesIO(b"\n  \nodd\n\n2026-11 2901-0012 2003\n")])
+        self.expect("of a log", (logged.lines, logged.unread), (2, 1))
         report = (
             b"Report_Name,Title Master Report\nReport_ID,TR\nRelease,5\n\n"
             b"Title,Print_ISSN,Metric_Type,Nov-2026\nTides,2901-0012,Total_Item_Requests,3\n,,,\n\n"
@@ -239,6 +279,16 @@ class Files(Case):
             names = SiteNames(Path(folder, "targets.json"))
             said = f"{folder}/targets.json: No such file or directory"
             self.expect("what is said", (names.fault, names.label("press")), (said, "press"))
+
+    def test_parts_that_are_left(self) -> None:
+        """Of an export into a folder, parts that it no longer has go; other files of the folder stay."""
+        with tempfile.TemporaryDirectory() as folder:
+            for name in ("holdings-1.xml", "holdings-2.xml", "holdings-12.xml", "holdings-x.xml", "notes.txt"):
+                Path(folder, name).write_text("old", encoding="utf-8")
+            site = mock.Mock(base="https://links.example.org")
+            export_files._write_items(["<item/>\n"], site, SiteNames(None), Path(folder))
+            self.expect("what is there", sorted(os.listdir(folder)), ["holdings-1.xml", "holdings-x.xml", "notes.txt"])
+            self.expect("the part", "<item/>" in Path(folder, "holdings-1.xml").read_text(encoding="utf-8"))
 
     def test_a_disk_that_fails(self) -> None:
         with mock.patch.object(disk, "_LIBC") as libc, mock.patch("ctypes.get_errno", return_value=5):

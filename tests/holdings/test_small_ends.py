@@ -34,6 +34,7 @@ from openlink_update.received import archives
 from openlink_update.received import headers
 from openlink_update.rights import filters
 from openlink_update.rights import handover
+from openlink_update.root_folder import RootFolder
 from openlink_update.run_notes import ProbeResult
 from openlink_update.run_notes import TargetState
 from openlink_update.run_records import Recorder
@@ -41,8 +42,10 @@ from openlink_update.run_records import records_in
 from openlink_update.site import targets_file
 from openlink_update.site.front_door import Site
 from openlink_update.tables.table import Table
+from openlink_update.versions import making
 from openlink_update.versions import same_files
 from openlink_update.versions import served
+from openlink_update.versions import target_files
 from openlink_update.versions import target_list
 from openlink_update.versions.judging import Judge
 from openlink_update.versions.library import Library
@@ -165,6 +168,38 @@ class Libraries(Case):
                 status = updates.run([library_updates.ALONE, "east"], False)
             self.expect("the status, and whether it is there", (status, left), (0, [False, False]))
 
+    def test_greatest_status(self) -> None:
+        """That of the fetch counts too, if there is one."""
+        for fetched, statuses, wanted in ((1, [0, 0], 1), (0, [3, 0], 3), (0, [0, 4, 1], 4), (4, [0, 1], 4)):
+            updates = library_updates.Updates(mock.Mock(), [])
+            parts = {"_options_of_sharing": lambda _: [], "_fetch": lambda: fetched}
+            with mock.patch.multiple(updates, _update=mock.Mock(side_effect=statuses * 2), **parts):
+                with mock.patch.object(library_updates, "raise_signals") as signals:
+                    names = [f"l{number}" for number in range(len(statuses))]
+                    found = updates.run(names, True), updates.run(names, False)
+            self.expect(f"{fetched} and {statuses}", found, (wanted, max(statuses)))
+            self.expect("signals end each run", signals.call_count, 2)
+
+    def test_report_of_an_update_that_is_killed(self) -> None:
+        """It says so until the update has ended."""
+        with tempfile.TemporaryDirectory() as folder:
+            path = Path(folder, "east/report")
+            path.parent.mkdir()
+            path.write_text("0\nall is new\n")
+            updates, found = (
+                library_updates.Updates(mock.Mock(path=lambda *parts: Path(folder, *parts)), []),
+                list[str](),
+            )
+
+            def run(_: list[str], lines: list[str]) -> tuple[int, str]:
+                found.append(path.read_text())
+                lines.append("nothing new\n")
+                return 1, "1"
+
+            with mock.patch.object(updates, "_child", run):
+                printed_by(lambda: updates._update("east", []))
+            self.expect("meanwhile, and then", (found, path.read_text()), (["KILL\n"], "1\nnothing new\n"))
+
     def test_interrupted(self) -> None:
         """A signal between two updates ends the run, and no other update begins."""
         updates, begun = library_updates.Updates(mock.Mock(), []), list[str]()
@@ -222,6 +257,8 @@ class Runs(Case):
             (OSError(28, "No space left on device", "/l/versions"), (4, "/l/versions: No space left on device", False)),
             (OSError(5, "Input/output error"), (4, "/l: Input/output error", False)),
             (ValueError("no number"), (4, "ValueError: no number", False)),
+            (KeyError("press"), (4, "KeyError: 'press'", False)),
+            (RecursionError("too deep"), (4, "RecursionError: too deep", False)),
         ):
             with mock.patch.object(library_run, "_work", side_effect=fault), mock.patch.object(
                 library_run, "ignore_signals"
@@ -336,6 +373,62 @@ class Versions(FolderCase):
                 same_files.link(newer, older, [])
             self.expect(name, (other.samefile(one), other.read_bytes()), (is_one, after))
             other.unlink()
+
+    def test_same_bytes(self) -> None:
+        """Of two files neither may have more."""
+        for one, other, wanted in (
+            (b"", b"", True),
+            (b"ab", b"ab", True),
+            (b"ab", b"ac", False),
+            (b"ab", b"abc", False),
+            (b"abc", b"ab", False),
+            (b"", b"a", False),
+            (b"a" * making._PART, b"a" * making._PART, True),
+            (b"a" * making._PART, b"a" * making._PART + b"b", False),
+        ):
+            self.write("other", other)
+            found = making._has_bytes_of(self.write("one", one), RootFolder(self.folder), "other")
+            self.expect(f"{len(one)} and {len(other)} bytes", found, wanted)
+
+    def test_what_two_versions_have(self) -> None:
+        """They serve the same if each list, table and code has the same bytes, and so has what was received."""
+        lists = "registry allowed hosts undated abbreviations options slips slip_limits".split()
+        files = ["code/a.olk", "tables/a.txt", "received/a.rules", "received/a.txt"]
+        for name in (*(f"{it}.tsv" for it in lists), "index/format", *files):
+            for stamp in (OLD, NEW):
+                self.write(f"{stamp}/{name}", b"same\n")
+        one, other = self.folder / NEW, self.folder / OLD
+        self.expect("the same", making.is_same(one, other))
+        for name in (*(f"{it}.tsv" for it in lists), "index/format", *files):
+            for version in (one, other):
+                (version / name).write_bytes(b"other\n")
+                self.expect(f"another {name} of {version.name}", making.is_same(one, other), False)
+                (version / name).write_bytes(b"same\n")
+        for name in ("tables/a.2.txt", "code/b.olk", "received/a.txt.2"):
+            (one / name).touch()
+            self.expect(f"one more, {name}", making.is_same(one, other), False)
+            (one / name).unlink()
+        (other / "undated.tsv").unlink()
+        self.expect("a version of before", making.is_same(one, other), False)
+
+    def test_order_of_files(self) -> None:
+        """The files of a table in the order of the list, the tenth after the second, and none of another target."""
+        names = [
+            "a.txt.10",
+            "a.txt.2",
+            "a.txt",
+            "a.txt.filtered",
+            "a.txt.2.filtered",
+            "a.txt.x",
+            "a.b.txt",
+            "b.txt",
+            "xa.txt",
+        ]
+        for name in ("a.rules", *names):
+            self.write(f"received/{name}", name.encode())
+        self.expect("names", target_files.received_names(self.folder, "a"), ["a.txt", "a.txt.2", "a.txt.10"])
+        found = target_files.files_in(target_files.received_in(self.folder), "a")
+        self.expect("files", found and found.tables, (b"a.txt", b"a.txt.2", b"a.txt.10"))
 
     def test_tables_that_differ(self) -> None:
         tables = served.Tables(self.folder, DAY)

@@ -4,6 +4,7 @@ from __future__ import annotations
 
 import contextlib
 import io
+import json
 import tempfile
 import types
 from collections.abc import Callable
@@ -12,11 +13,13 @@ from pathlib import Path
 from unittest import mock
 
 from fixtures.cases import Case
+from openlink_update import run_notes
 from openlink_update import weekly_run
 from openlink_update.input_files import InputFolder
 from openlink_update.outcome import Failure
 from openlink_update.site import probes as site_probes
 from openlink_update.site.probes import Probe
+from openlink_update.site.probing import Difference
 from openlink_update.site.probing import Probes
 from openlink_update.versions.library import Library
 from openlink_update.versions.target_list import Target
@@ -154,6 +157,88 @@ class Trying(RunCase):
             self.expect(f"{wanted}", found, (wanted, ""))
 
 
+class NextVersions(RunCase):
+    """What is done with a version once it is made."""
+
+    def setUp(self) -> None:
+        super().setUp()
+        (self.folder / "versions" / OLD).mkdir(parents=True)
+        (self.folder / "versions" / OLD / "registry.tsv").touch()
+        self.library = self.run_of_week.library
+        self.library.move(OLD)
+        self.steps: list[str] = []
+
+    def made(self, word: str, is_trial: bool = False, fault: str = "") -> tuple[object, str]:
+        """The status of a run whose version is this, and what is said; or the failure."""
+
+        def use(attempt: weekly_run.Attempt) -> None:
+            self.steps.append(f"tried beside {attempt.old}, {attempt.tries_all}")
+            self.expect("a trial", attempt.is_trial, is_trial)
+            if fault:
+                raise Failure(fault)
+            if not is_trial:
+                attempt.put_in_use()
+
+        def remove() -> None:
+            self.steps.append(f"removed, {'unsettled' if self.library.is_unsettled() else 'settled'}")
+
+        self.library.clear()
+        run, self.steps = self.run_of_week, []
+        run.others = None
+        plan = weekly_run._Plan(InputFolder(self.folder), mock.Mock(), remove, is_trial, True)
+        with mock.patch.multiple(run, create=True, _made=lambda *_: word, try_and_use=use):
+            with mock.patch.object(weekly_run, "ignore_signals", lambda: self.steps.append("signals wait")):
+                with mock.patch.object(weekly_run, "names_in", return_value=["press"]):
+                    return self.said(lambda: run._next_version(plan))
+
+    def test_one_that_is_new(self) -> None:
+        """Files that were bad make the status 1. What a signal may end is over before anything is removed."""
+        for more, status in (("", 0), ("; old files of a kept", 1), ("; c left out", 1)):
+            old = self.library.current()
+            found, said = self.made(f"new{more}")
+            self.expect(f"its end{more}", (found, said), (status, f"{self.library.current()} is in use{more}\n"))
+            self.expect("it is another one", old == self.library.current(), False)
+            self.expect("steps", self.steps, [f"tried beside {old}, True", "signals wait", "removed, settled"])
+
+    def test_one_that_is_the_same(self) -> None:
+        for word, status, said in (
+            ("same", 0, "nothing new: {} stays in use\n"),
+            ("same; old files of a kept", 1, "nothing new: {} stays in use; old files of a kept\n"),
+            ("no walls of months or days", 0, "no walls of months or days: {} stays in use\n"),
+        ):
+            self.expect(word, self.made(word), (status, said.format(OLD)))
+            self.expect("steps", (self.steps, self.library.current()), ([], OLD))
+
+    def test_a_trial(self) -> None:
+        for more, status in (("", 0), ("; c left out", 1)):
+            said = f"a trial: nothing was put in use{more}\n"
+            self.expect(f"its end{more}", self.made(f"new{more}", is_trial=True), (status, said))
+            self.expect("steps", (self.steps, self.library.current()), ([f"tried beside {OLD}, True"], OLD))
+
+    def test_one_that_does_not_hold(self) -> None:
+        found = self.made("new", fault="1 of 2 probes differ at the ports")
+        self.expect("its end", found, ("Failure: 1 of 2 probes differ at the ports", ""))
+        self.expect("steps", (self.steps, self.library.current()), ([f"tried beside {OLD}, True"], OLD))
+
+    def test_order_of_use(self) -> None:
+        """Whatever ends the run meanwhile, the next one finds the way back; the site is read again last."""
+        steps: list[str] = []
+
+        def note(step: str) -> Callable[..., None]:
+            return lambda *_: steps.append(f"{step}: {self.library.version_of('before')}, {self.library.current()}")
+
+        (self.folder / "versions" / NEW).mkdir()
+        (self.folder / "versions" / NEW / "registry.tsv").write_text("press\tcode/press.olk\ttables/press.txt\n")
+        self.processes.restart_all.side_effect = note("restart")
+        self.processes.reload_site.side_effect = note("reload")
+        move = self.library.move
+        with mock.patch.object(self.library, "move", lambda stamp: (note("move")(), move(stamp))):
+            self.run_of_week.put_in_use(NEW, OLD)
+        wanted = [f"move: {OLD}, {OLD}", f"restart: {OLD}, {NEW}", f"reload: {OLD}, {NEW}"]
+        self.expect("steps", steps, wanted)
+        self.expect("targets", self.processes.restart_all.call_args.args, (["press"],))
+
+
 class GoingBack(RunCase):
     def setUp(self) -> None:
         super().setUp()
@@ -210,6 +295,17 @@ class GoingBack(RunCase):
 
 
 class Said(RunCase):
+    def test_notes_of_probes(self) -> None:
+        """The record has each probe, and whether it holds."""
+        (self.folder / "probes.tsv").write_text("a=1\tx y\n\na=2\tnone\n", encoding="utf-8")
+        probes, heard = Probes(InputFolder(self.folder), "probes.tsv"), list[object]()
+        run_notes.hear(lambda kind, text: heard.append((kind, *json.loads(text).values())))
+        try:
+            weekly_run._note_probes(probes, [Difference(probes.list[0], ["  other: x"])])
+        finally:
+            run_notes.hear(None)
+        self.expect("notes", heard, [("probe", 1, "a=1", "x y", False), ("probe", 3, "a=2", "", True)])
+
     def test_bad_files(self) -> None:
         for kept, left_out, wanted in (
             ([], [], ""),

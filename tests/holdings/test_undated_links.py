@@ -178,6 +178,17 @@ class Rows(Case):
             self.expect("what is known", (undated.kinds("press"), undated.lines("press", True)), ("", []))
             self.expect("what is left", os.listdir(folder), ["received"])
 
+    def test_both_kinds(self) -> None:
+        """What the version before knows of a target stays if its files do."""
+        with tempfile.TemporaryDirectory() as folder:
+            text = "press\tj\npress\tb\nother\tb\n"
+            Path(folder, "undated.tsv").write_text(text, encoding="utf-8")
+            undated = undated_links.UndatedLinks(Path(folder), Path(folder), Program("none", folder), DAY)
+            undated.keep_all()
+            kinds = [undated.kinds(name) for name in ("press", "other", "none")]
+            self.expect("kinds", (kinds, undated.text(["press", "other", "none"])), (["jb", "b", ""], text))
+            self.expect("nothing is new", [undated.lines(name, False) for name in ("press", "other")], [[], []])
+
     def test_characters(self) -> None:
         for count, wanted in ((100, "a" * 100), (101, "a" * 100 + "..")):
             undated = undated_links.UndatedLinks(Path("."), None, Program("none", "."), DAY)

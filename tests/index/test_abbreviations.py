@@ -20,6 +20,7 @@ from index.test_keys import PIECES
 from openlink_update.index import abbreviations
 from openlink_update.index import short_titles
 from openlink_update.index import title_rows
+from openlink_update.index.title_groups import Title
 from openlink_update.index.title_groups import Titles
 from openlink_update.input_files import InputFolder
 from openlink_update.tables.table import Table
@@ -243,6 +244,31 @@ class Pairs(Case):
             said = [fault.split(": ")[1] for fault in faults]
             wanted = ["10001 lines, and the first 10000 count"] if count > 10_000 else []
             self.expect(f"{count} lines", ((found or b"").count(b"\n"), said), (10_000, wanted))
+
+    def test_once(self) -> None:
+        """An abbreviation that a title has by its name and its number is one, and its own key is none."""
+        title = Title("Tides")
+        title.add("2901-0012 2908-0142", title_rows.PRINT, True, "press 0 1995")
+        pairs = {"tides": ["t", "tides"], "2901-0012": ["t", "td"], "2908-0142": ["td"]}
+        self.expect("its keys", abbreviations.keys_of(title, pairs), ["t", "td"])
+
+    def test_rows_of_a_title(self) -> None:
+        """A title is a journal if one of its rows is, and lacks targets that one of its parts lacks."""
+        one, other = Title("Tides"), Title("Tides")
+        one.add("2901-0012", title_rows.PRINT, True, "press 0 1995")
+        one.add("2901-0012", title_rows.ONLINE, False, "archive 0 1995")
+        self.expect("one", (one.is_journal, one.columns), (True, title_rows.PRINT | title_rows.ONLINE))
+        other.add("2908-0142", title_rows.ONLINE, False, "large 0 1995")
+        other.left_out = frozenset({"large"})
+        one.add_addresses("press https://press.example.com/1")
+        other.add_addresses("press https://press.example.com/2\tlarge https://large.example.com/1")
+        one.add_signs(["tidal press", "10.5555"])
+        other.add_signs(["10.5555", "large press"])
+        one.take(other)
+        self.expect("addresses", one.addresses, "press https://press.example.com/1\tlarge https://large.example.com/1")
+        self.expect("signs", one.signs, "tidal press\t10.5555\tlarge press")
+        self.expect("numbers", one.numbers(), ["2901-0012", "2908-0142"])
+        self.expect("both", (one.is_journal, one.coverage_text()), (True, "press 0 1995;archive 0 1995"))
 
     def test_index(self) -> None:
         """An abbreviation leads to the titles that have the name or the number; what no table has is said."""

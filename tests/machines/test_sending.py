@@ -176,12 +176,22 @@ class Deliveries(MachinesCase):
             found, said = self.said(lambda: self.delivery()._name([self.machine, other], versions))
         self.expect("the same versions", (found, said), ([other], "b: no end after 60 seconds\n"))
         self.expect("it keeps its name", path.read_text(encoding="utf-8"), f"{stamp}\n{versions}")
+        self.expect("who is told", [text.split(" openlink-update")[0] for text, _ in self.asked], ["ssh -q b"])
+        self.replies.clear()
+        with mock.patch.object(machines, "is_stamp", lambda text: text[:2] == "20"):
+            self.said(lambda: self.delivery()._name([self.machine, other], f"east {OLD}\n"))
+        wanted = f"20301231T000002Z\neast {OLD}\n"
+        self.expect("other versions have another name", path.read_text(encoding="utf-8"), wanted)
 
     def test_run(self) -> None:
         with mock.patch.object(machines, "_sendable", return_value=[]):
             self.replies["state"] = "key forced\n"
             status, said = self.said(self.delivery().run)
             self.expect("all have it", (status, said.partition(":")[2]), (0, " this machine, b\n"))
+            self.replies["state"] = "key free\n"
+            for words, is_told in (([], True), (["--send"], False)):
+                said = self.said(self.delivery(*words).run)[1]
+                self.expect(f"what is told of the key with {words}", "any command there" in said, is_told)
             self.replies["state"] = Failure("no connection")
             status, said = self.said(self.delivery().run)
             text = "b: no connection\nmissed by b, which get no readers until they have it\n"
@@ -192,13 +202,15 @@ class Deliveries(MachinesCase):
         alone = update_options.parse(["--library", str(self.folder)])
         self.expect("no machine", self.said(lambda: machines.deliver(alone, 3)), (3, ""))
         options = update_options.parse(["--library", str(self.folder), "--to", "b"])
-        with mock.patch.object(machines, "reset_signals"):
-            for end, status, wanted in ((0, 1, (1, "")), (1, 0, (1, "")), (Failure("no room"), 1, (3, LINE))):
+        ends = ((0, 1, (1, "")), (1, 0, (1, "")), (1, 4, (4, "")), (FULL, 1, (3, LINE)), (FULL, 4, (4, LINE)))
+        for end, status, wanted in ends:
+            with mock.patch.object(machines, "reset_signals") as reset:
                 with mock.patch.object(Delivery, "run", side_effect=[end]):
                     self.expect(f"{end} and {status}", self.said(lambda: machines.deliver(options, status)), wanted)
+            self.expect("signals end it from then on", reset.call_count, 1)
 
 
-LINE = "nothing was sent: no room\n"
+FULL, LINE = Failure("no room"), "nothing was sent: no room\n"
 
 
 class Probes(MachinesCase):
@@ -232,3 +244,8 @@ class Probes(MachinesCase):
         self.expect(
             "with one alone", found, [(".", NEW, self.folder / "input"), ("east", NEW, self.folder / "east/input")]
         )
+        (self.folder / "input").rmdir()
+        self.expect("without its input", [it.name for it in machines._sendable(options)], ["east"])
+        other = update_options.parse(["--library", str(self.folder), "--to", "b", "--input", "/other"])
+        found = [(it.name, it.input) for it in machines._sendable(other)]
+        self.expect("with an input elsewhere", found, [(".", Path("/other")), ("east", self.folder / "east/input")])

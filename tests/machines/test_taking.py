@@ -2,6 +2,8 @@
 is of a delivery, and otherwise changes nothing."""
 from __future__ import annotations
 
+import dataclasses
+import datetime
 import os
 import pathlib
 import shutil
@@ -18,6 +20,7 @@ from openlink_update import update_options
 from openlink_update.machines import machines
 from openlink_update.machines import taking
 from openlink_update.outcome import Failure
+from openlink_update.versions.library import STAMP as STAMPS
 
 STAMP = "20261122T000000Z"
 RSYNC = "rsync --server -tre.iLsfxCIvu --timeout=60 --delete --mkpath"
@@ -52,6 +55,9 @@ ATTACKS = (
     f"{RSYNC} . ./versions/",
     f"{RSYNC} . ./versions/{STAMP}/",
     f"{RSYNC} . ./versions/../made.sent/",
+    f"{RSYNC} . east/versions/made.sent/",
+    f"{RSYNC} . east/versions/99991231T235958Z.sent/",
+    f"{RSYNC} . east/versions/.probes",
     f"{RSYNC} . shared/../made/",
     f"{RSYNC} . ssh/input/",
     f"{RSYNC} ./input/ ./input/",
@@ -152,6 +158,25 @@ class Taking(Case):
         request = f"{RSYNC} . ./input/"
         wanted = f"{self.folder.resolve()}\n{request.partition(' ')[2]}\n"
         self.expect("its folder, and its arguments", self.taken(request, commands=commands), (0, wanted, ""))
+
+    def test_drain(self) -> None:
+        """It ends twenty minutes after the last request, or at once; an empty file is the operator's, and stays."""
+        options, path = update_options.parse(["--library", str(self.folder), "--take", "x"]), self.folder / "drain"
+
+        def asked(word: str) -> str | None:
+            taking.take(dataclasses.replace(options, take=[word]))
+            return path.read_text(encoding="utf-8") if path.exists() else None
+
+        self.expect("before", asked("end-drain"), None)
+        for before in (None, f"{STAMP}\n"):
+            if before is not None:
+                path.write_text(before, encoding="utf-8")
+            end = datetime.datetime.strptime(f"{asked('drain')}".strip(), STAMPS).replace(tzinfo=datetime.timezone.utc)
+            minutes = (end - datetime.datetime.now(datetime.timezone.utc)).total_seconds() / 60
+            self.expect(f"after {before}: {minutes} minutes", 19 < minutes <= 20)
+            self.expect("at its end", asked("end-drain"), None)
+        path.touch()
+        self.expect("the operator's", (asked("drain"), asked("end-drain")), ("", ""))
 
     def test_state(self) -> None:
         """The versions in use, and whether the key may do more."""

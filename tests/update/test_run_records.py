@@ -6,6 +6,7 @@ import json
 import os
 from pathlib import Path
 from typing import Any
+from unittest import mock
 
 from fixtures import needs
 from fixtures.cases import Case
@@ -147,6 +148,46 @@ class RunRecords(Case):
             self.expect("their length", max(map(len, texts)) <= 502, True)
             size = max(len(text.encode()) for _, text in heard)
             self.expect("a note is shorter than a message", size < 2**15, True)
+
+    def test_what_a_record_has(self) -> None:
+        """States that there are, and probes that are said to hold; a target with few lines has just these."""
+        states = [{"name": "a", "state": "odd"}, {"name": "b", "state": "left out", "lines": ["one", 7, "two"]}]
+        probes = [{"number": 1, "query": "q", "holds": it} for it in (True, False, "yes", 1, None)]
+        heard: list[tuple[str, str]] = []
+        run_notes.hear(lambda kind, text: heard.append((kind, text)))
+        run_notes.note_target(run_notes.TargetState("c", run_notes.NEW, lines=("x", "y")))
+        run_notes.hear(None)
+        notes = [("target", json.dumps(it)) for it in states] + [("probe", json.dumps(it)) for it in probes]
+        with Library() as library:
+            record = made(Path(library.library), *notes, *heard)
+        self.expect(
+            "targets", [(it.name, it.lines) for it in record.targets], [("b", ("one", "two")), ("c", ("x", "y"))]
+        )
+        self.expect("probes", [it.holds for it in record.probes], [True, False, False, False, False])
+
+    def test_how_it_is_written(self) -> None:
+        """It is on the disk before it has its name, which is that of the next second if one has it; and the user who
+        writes the desk reads it, whatever the umask is."""
+        steps: list[tuple[str, str]] = []
+        rename = os.rename
+
+        def renamed(old: Path, new: Path) -> None:
+            steps.append(("rename", new.name))
+            rename(old, new)
+
+        self.addCleanup(os.umask, os.umask(0o077))
+        with Library() as library, mock.patch.object(run_records, "_now", return_value="20251231T235959Z"):
+            with mock.patch.object(run_records, "sync", lambda path: steps.append(("sync", path.name))):
+                with mock.patch.object(os, "rename", renamed):
+                    made(Path(library.library))
+                    first, steps[:] = [*steps], []
+                    made(Path(library.library))
+            paths = sorted(Path(library.library, "runs").iterdir())
+            names = ["20251231T235959Z.update.json", "20260101T000000Z.update.json"]
+            for name, found in zip(names, (first, steps)):
+                self.expect(name, found, [("sync", f"{name}.new"), ("rename", name), ("sync", "runs")])
+            self.expect("their names", [path.name for path in paths], names)
+            self.expect("their modes", [path.stat().st_mode & 0o777 for path in paths], [0o644] * 2)
 
     def test_many_notes(self) -> None:
         """A run that says too much has a record of bounded size."""

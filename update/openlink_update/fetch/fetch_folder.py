@@ -182,9 +182,10 @@ class State:
             return None
 
     def is_due(self, source: Source) -> bool:
+        """Whether its days are over, or it is not known when they began; a day that is yet to come says nothing."""
         days = self.days_since_check(source)
         is_known = self._entry(source).source == source.text() and self._folder.exists(source.file)
-        return days is None or not is_known or days >= source.every
+        return days is None or not is_known or not 0 <= days < source.every
 
     def conditions(self, source: Source) -> list[str]:
         """The headers by which the server says that nothing has changed: none if the file did not come from this
