@@ -611,8 +611,8 @@ const OTHER_ENCODINGS = [
     'ctx_enc=info:ofi/enc:UTF-8', 'rft_val_fmt=x&rft.atitle=' + encodeURIComponent(it[1])]);
 // Names that begin or end as those of others do.
 const NEARLY_KNOWN = [
-    'ISO-8859-10', 'latin-10', 'windows-12525', '12501', 'cp12511', 'ISO-8859-20', 'latin20', 'ISO-8859-155', 'latin-90',
-    'ISO-8859-50', 'KOI8-RU', 'x-KOI8-R', 'UTF-80', 'x-UTF-8', 'ASCII-8'
+    'ISO-8859-10', 'latin-10', 'windows-12525', '12501', 'cp12511', 'ISO-8859-20', 'latin20', 'ISO-8859-155',
+    'latin-90', 'ISO-8859-50', 'KOI8-RU', 'x-KOI8-R', 'UTF-80', 'x-UTF-8', 'ASCII-8'
 ].map((it) => [it, 'ctx_enc=info:ofi/enc:' + it + '&rft_val_fmt=x&rft.atitle=%A4', '',
     'ctx_enc=info:ofi/enc:' + it + '&rft_val_fmt=x']);
 const UNKNOWN_ENCODINGS = NEARLY_KNOWN.concat([
