@@ -1,0 +1,124 @@
+"""Edits of different functions are tried in one check: which can be, and what is known of each afterwards. A crate with
+a stand-in for the toolchain, which finds a function not proved if it has the word `wrong`."""
+from __future__ import annotations
+
+import json
+import os
+import subprocess
+import sys
+import tempfile
+from pathlib import Path
+
+from fixtures import TOP
+from fixtures.cases import Case
+
+CODE = """//! Numbers.
+
+const MOST: u64 = 9;
+
+fn low(n: u64) -> u64
+    ensures { result ≡ n }
+{
+    n + 0
+}
+
+fn high(
+    n: u64,
+) -> u64
+    ensures { result ≡ n }
+{
+    let low = low(n);
+    low + 0
+}
+
+fn apart() -> u64 {
+    7
+}
+"""
+LAWS = """//! Laws.
+
+pub fn numbers_stay()
+    ensures { (n : ℕ) → n ≡ n }
+{}
+"""
+EDITS = {
+    "low": ("src/code.rt", "    n + 0", "    n + wrong"),
+    "low_again": ("src/code.rt", "    n + 0", "    wrong"),
+    "high": ("src/code.rt", "    low + 0", "    low + wrong"),
+    "harmless": ("src/code.rt", "    7", "    6 + 1"),
+    "law": ("src/laws.rt", "n ≡ n", "wrong"),
+    "constant": ("src/code.rt", "MOST: u64 = 9", "MOST: u64 = 8"),
+    "contract": ("src/code.rt", "fn apart() -> u64", "fn apart() -> u32"),
+}
+# What it says of each function: one that has the word, one that calls such a one, and others.
+RT = """#!/usr/bin/env python3
+import sys
+code, laws = (open(f"src/{name}.rt", encoding="utf-8").read() for name in ("code", "laws"))
+print(code, laws, file=open(sys.argv[0] + ".log", "a", encoding="utf-8"))
+is_low = "wrong" in code.split("fn high")[0]
+if "low + wrong" in code:
+    print("note: src/code.rt:12:1: it is not proved that what the function ensures holds")
+if is_low:
+    print("note: src/code.rt:8:5: it is not proved that what the function ensures holds; `search` gave up")
+    print("fn a::code::low: no proof: `search` did not prove `returns`")
+    print("fn a::code::high: no proof: it calls `a::code::low`, which is not proved")
+if "wrong" in laws:
+    print("./proofs/laws/numbers_stay/Answers.antt:1:1: error: `returns`: expected type `wrong`")
+print("logic=not-proved" if "wrong" in code + laws else "logic=proved")
+"""
+TRY = """import json, sys
+sys.dont_write_bytecode = True
+sys.path[:0] = ["edits", "tools/prove"]
+import together
+found = {name: together.function_of("a", f"edits/a/{name}.edit") for name in sys.argv[1:]}
+lines = {name: it and [it.name, it.first, it.last, it.is_law] for name, it in found.items()}
+print(json.dumps([lines, together.refused_of("copy", "a", sys.argv[1:])]))"""
+
+
+def write_repository(folder: str) -> None:
+    files = {"crates/a/src/code.rt": CODE, "crates/a/src/laws.rt": LAWS, "bin/rt": RT}
+    for name, (path, old, new) in EDITS.items():
+        files[f"edits/a/{name}.edit"] = f"file: {path}\nold: {old}\nnew: {new}\n"
+    for name in ("together.py", "stored.py", "statements.py"):
+        files[f"edits/{name}"] = Path(TOP, "edits", name).read_text(encoding="utf-8")
+    for name, text in {**files, "copy/crates/a/src/code.rt": CODE, "copy/crates/a/src/laws.rt": LAWS}.items():
+        Path(folder, name).parent.mkdir(parents=True, exist_ok=True)
+        Path(folder, name).write_text(text, encoding="utf-8")
+    Path(folder, "bin/rt").chmod(0o755)
+
+
+class Together(Case):
+    def tried(self, folder: str, *names: str) -> tuple[dict[str, list[object]], dict[str, str], int]:
+        """The functions of edits, those that are refused, and how many checks that took."""
+        log = Path(folder, "bin/rt.log")
+        log.unlink(missing_ok=True)
+        env = {**os.environ, "PATH": f"{folder}/bin:{os.environ['PATH']}"}
+        done = subprocess.run(
+            [sys.executable, "-c", TRY, *names], cwd=folder, env=env, stdout=subprocess.PIPE, text=True, check=True
+        )
+        functions, refused = json.loads(done.stdout.splitlines()[-1])
+        return functions, refused, log.read_text(encoding="utf-8").count("//! Laws.") if log.exists() else 0
+
+    def test_edits(self) -> None:
+        with tempfile.TemporaryDirectory() as folder:
+            write_repository(folder)
+            functions, refused, checks = self.tried(folder, *EDITS)
+            after = Path(folder, "copy/crates/a/src/code.rt").read_text(encoding="utf-8")
+            alone = self.tried(folder, "low", "constant")
+            harmless = self.tried(folder, "low", "harmless")
+        wanted = {
+            "low": ["low", 5, 9, False],
+            "low_again": ["low", 5, 9, False],
+            "high": ["high", 11, 18, False],
+            "harmless": ["apart", 20, 22, False],
+            "law": ["numbers_stay", 3, 5, True],
+            "constant": None,
+            "contract": None,
+        }
+        self.expect("the function of each", functions, wanted)
+        places = {"low": "src/code.rt", "low_again": "src/code.rt", "high": "src/code.rt"}
+        self.expect("what is refused", refused, {**places, "law": "proofs/laws/numbers_stay/Answers.antt"})
+        self.expect("a function that calls one of these waits", checks, 3)
+        self.expect("the copy is as before", after, CODE)
+        self.expect("one alone is not tried", alone[1:], ({}, 0))
+        self.expect("one that is proved", harmless[1:], ({"low": "src/code.rt"}, 1))
