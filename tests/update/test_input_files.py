@@ -13,6 +13,7 @@ from pathlib import Path
 from unittest import mock
 
 from fixtures.cases import Case
+from fixtures.patience import wait_until
 from openlink_update import allowed_folders
 from openlink_update.input_files import InputFolder, cells_in
 from openlink_update.outcome import Failure
@@ -202,9 +203,15 @@ class Reading(InputFiles):
                 (self.path / "folder").unlink()
                 (self.path / "kept").rename(self.path / "folder")
 
+        found = set[object]()
+
+        def has_met_both() -> bool:
+            found.update(outcome(lambda: self.folder.read("folder/file")) for _ in range(2000))
+            return {b"data", "Unusable"} <= found
+
         swapping = threading.Thread(target=swap)
         swapping.start()
-        found = [outcome(lambda: self.folder.read("folder/file")) for _ in range(2000)]
+        wait_until(has_met_both)
         stop.set()
         swapping.join()
         self.expect("what is read", {it for it in found if isinstance(it, bytes)}, {b"data"})
