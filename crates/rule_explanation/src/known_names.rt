@@ -47,7 +47,8 @@ impl KnownNames {
         lists: &ListNames,
         table: &Table,
     ) -> Result<KnownNames, AllocError>
-        ensures { IfOk result (AreKnown lists.now table.now.header) }
+        ensures known { IfOk result (AreKnown lists.now table.now.header) }
+        ensures names { IfOk result (λ found. found.names ≡ names) }
     {
         let texts = names.as_slice();
         let mut known = Vec::new(alloc);

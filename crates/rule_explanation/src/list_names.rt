@@ -4,7 +4,7 @@ ghost use Rattle.std.specs.Prelude.{◌≡◌, ◌||◌, IfOk, OnOk};
 ghost use Rattle.std.specs.Str.{bytes_eq};
 ghost use Rattle.text_model.specs.Texts.{Text, texts_of};
 ghost use Rattle.environment_model.specs.Environment.{is_among};
-ghost use Rattle.rule_explanation.specs.Private.ListNames.{has};
+ghost use Rattle.rule_explanation.specs.Private.ListNames.{has, keys_of};
 
 use kbart_rows::Keys;
 use std::alloc::{AllocError, Global};
@@ -17,9 +17,10 @@ pub(crate) struct ListNames {
 }
 
 impl ListNames {
-    /// These names.
+    /// These names, under these keys.
     pub(crate) fn new(alloc: Global, keys: Keys, names: &[&str]) -> Result<ListNames, AllocError>
-        ensures { IfOk result (λ found. (name : Text) → has found name ≡ is_among name (texts_of names.now)) }
+        ensures names { IfOk result (λ found. (name : Text) → has found name ≡ is_among name (texts_of names.now)) }
+        ensures keys { IfOk result (λ found. keys_of found ≡ keys) }
     {
         let mut found = ListNames {
             names: HashSet::with_hasher(alloc, keys),
@@ -38,7 +39,9 @@ impl ListNames {
     }
 
     fn add(&mut self, alloc: Global, name: &str) -> Result<(), AllocError>
-        ensures { OnOk result ((other : Text) → has self.new other ≡ (has self.old other || bytes_eq name.now other)) }
+        ensures names { OnOk result
+            ((other : Text) → has self.new other ≡ (has self.old other || bytes_eq name.now other)) }
+        ensures keys { OnOk result (keys_of self.new ≡ keys_of self.old) }
     {
         self.names.insert(String::from_str(alloc, name)?)?;
         Ok(())

@@ -21,7 +21,7 @@ pub(crate) struct RulesRequest<'a> {
     pub(crate) rules: &'a Rules,
     pub(crate) table: &'a Table,
     request: &'a Request,
-    /// The names of the lists of the rules.
+    /// The names of the lists of the rules. These and those of the guards are under the keys of the table.
     lists: ListNames,
     /// What the names of the guards are.
     names: KnownNames,
@@ -35,7 +35,7 @@ impl<'a> Model for RulesRequest<'a> {
     ghost use Rattle.environment_model.specs.Lists.{is_list};
     ghost use Rattle.row_laws.specs.Shadowing.{requested};
     ghost use Rattle.rule_explanation.specs.Private.KnownNames.{AreKnown};
-    ghost use Rattle.rule_explanation.specs.Private.ListNames.{has};
+    ghost use Rattle.rule_explanation.specs.Private.ListNames.{has, keys_of};
     ghost use Rattle.rule_explanation.specs.Private.Seen.{RulesRequestValue};
 
     ghost Value = { RulesRequestValue };
@@ -44,7 +44,8 @@ impl<'a> Model for RulesRequest<'a> {
 
     ghost invariant = { λ r. (r.values.entries ≡ requested r.rules.now.lists r.request.now.pairs)
         × AreKnown r.lists r.table.now.header r.names
-        × ((name : Text) → has r.lists name ≡ is_list r.rules.now.lists name) };
+        × ((name : Text) → has r.lists name ≡ is_list r.rules.now.lists name)
+        × (keys_of r.lists ≡ r.table.now.keys) × (r.names.names.keys ≡ r.table.now.keys) };
 }
 
 impl<'a> RulesRequest<'a> {

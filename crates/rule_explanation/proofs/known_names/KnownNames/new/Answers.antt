@@ -15,8 +15,8 @@ loop-name-preserved c =
     ∙ ap (λ (last : _). map (λ name. known (string_bytes name)) (take i texts) ++ last ∷ []) here
     ∙ sym (map_more (λ name. known (string_bytes name)) texts i c.name-item.result c.loop-name-test.true)
 
-pub returns : goal.returns
-returns c =
+pub returns-clause-known : goal.returns-clause-known
+returns-clause-known c =
     let known = known_as c.args.lists.now c.args.table.now.header in
     let texts = c.as_slice-texts.result.now in
     c.loop-name.invariant ∙ ap (λ (names : _). map (λ name. known (string_bytes name)) names) (take_all c.loop-name.name-index texts c.loop-name-test.false)

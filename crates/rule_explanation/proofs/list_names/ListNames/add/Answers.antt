@@ -11,8 +11,8 @@ either true false = refl
 either false true = refl
 either false false = refl
 
-pub returns : goal.returns
-returns c = λ other.
+pub returns-clause-names : goal.returns-clause-names
+returns-clause-names c = λ other.
     let known = has c.args.self.now other in
     let name = c.args.name.now in
     hash_set_updates_text (string_bytes c.in_ok-from_str.field-0) c.args.self.now.names c.insert.new.self true c.in_ok-insert.ensures.updates other
