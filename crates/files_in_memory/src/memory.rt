@@ -1,6 +1,6 @@
 //! Files in memory.
 
-ghost use Rattle.std.specs.Prelude.{◌≡◌, ℕ, List, Some, IfErr, IfNone, IfSome, OnErr, OnOk};
+ghost use Rattle.std.specs.Prelude.{◌≡◌, ◌≢◌, ℕ, List, Some, IfErr, IfNone, IfSome, OnErr, OnOk};
 ghost use Rattle.files.specs.Found.{Absent, File};
 ghost use Rattle.files.specs.Changes.{ChangesOnly, Unchanged};
 ghost use Rattle.files.specs.Modes.{ChangesModeOnly, HasSameModes, IsMode};
@@ -62,6 +62,7 @@ impl Memory {
     /// Gives what is at the path this mode. Nothing is changed if nothing is there.
     pub fn set_mode_at(&mut self, path: &str, mode: u32) -> Result<(), AllocError>
         ensures mode { OnOk result (IsMode (modes_of self.new path.now) mode) }
+        ensures there { OnOk result (disk_of self.old path.now ≢ Absent → modes_of self.new path.now ≡ Some mode) }
         ensures modes { ChangesModeOnly path.now (modes_of self.old) (modes_of self.new) }
         ensures err { OnErr result (HasSameModes (modes_of self.old) (modes_of self.new)) }
         ensures same { Unchanged (disk_of self.old) (disk_of self.new) }
