@@ -84,18 +84,21 @@ module _ {System : Type 0} (told : Told System) (old new : System) (output notes
   Notes (Serve service) = Unit {0}
   Notes command = notes.gets_nothing
 
-  abbrev pub Runs : Command → Option Fault → Type 0
-  Runs command end = Ends command end × Leaves command × Notes command
+  -- what each command leaves of the ports: only `serve` binds one, as `Serves` says
+  abbrev pub LeavesPorts : Command → Type 0
+  LeavesPorts (Serve service) = Unit {0}
+  LeavesPorts command = told.ports new ≡ told.ports old
 
-  -- how the program ends: the arguments name no command, or this is how their command ends
+  abbrev pub Runs : Command → Option Fault → Type 0
+  Runs command end = Ends command end × Leaves command × Notes command × LeavesPorts command
+
+  -- how the program ends: the arguments name no command, and nothing is done, or this is how their command ends
   pub data EndsWith (given : List Text) : Option Fault → Type 0 where
-    no_command : AreNoArguments given → Unchanged (told.at (told.files old)) (told.at (told.files new)) → output.gets_nothing → notes.gets_nothing
-        → EndsWith given (Some Usage)
+    no_command : AreNoArguments given → new ≡ old → output.gets_nothing → notes.gets_nothing → EndsWith given (Some Usage)
     runs : (command : Command) (end : Option Fault) → AreArgumentsOf given command → Runs command end → EndsWith given end
 
 -- how the process ends with these arguments: memory runs out before a command runs, or this is how the program ends, with these notes on standard error
 pub data HasEnded {System E : Type 0} (told : Told System) (old new : System) (output : Output) (notes : E → Output) (given : List Text)
     : Option Fault → Type 0 where
-  no_memory : Unchanged (told.at (told.files old)) (told.at (told.files new)) → output.gets_nothing
-      → HasEnded told old new output notes given (Some out_of_memory)
+  no_memory : new ≡ old → output.gets_nothing → HasEnded told old new output notes given (Some out_of_memory)
   ended : (noted : E) (end : Option Fault) → EndsWith told old new output (notes noted) given end → HasEnded told old new output notes given end

@@ -13,4 +13,4 @@ returns-in-Ok-argument_texts-clause-ends g c =
 
 pub returns-in-Ok-clause-ends : goal.returns-in-Ok-clause-ends
 returns-in-Ok-clause-ends g c =
-    rw c.in-Ok.is (Some out_of_memory, c.report.ensures.status, no_memory (λ path. refl) (refl {a = c.args.output.now}))
+    rw c.in-Ok.is (Some out_of_memory, c.report.ensures.status, no_memory (refl {a = c.args.rt.now}) (refl {a = c.args.output.now}))

@@ -6,4 +6,4 @@ pub returns-in-Some : goal.returns-in-Some
 returns-in-Some g c = runs _ _ c.in-Some.ensures.some c.run_command.ensures
 
 pub returns-in-None : goal.returns-in-None
-returns-in-None g c = no_command c.in-None.ensures.none (λ path. refl) (refl {a = c.args.output.now}) (refl {a = c.args.errors.now})
+returns-in-None g c = no_command c.in-None.ensures.none (refl {a = c.args.rt.now}) (refl {a = c.args.output.now}) (refl {a = c.args.errors.now})
