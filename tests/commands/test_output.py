@@ -45,3 +45,9 @@ class Output(ProgramCase):
     def test_a_device_that_is_full(self):
         self.program.expect("a full output", run_into(self.program, "/dev/full", 17, 1, HELLO), (4, b"", DEVICE))
         self.program.expect("full errors", run_into(self.program, "/dev/full", 17, 2, []), (2, b"", b""))
+
+    def test_a_service_ends_if_its_output_fails(self):
+        """It waits for no connection if nobody can read where it listens."""
+        self.program.write("registry", "")
+        given = run_into(self.program, "/dev/full", 17, 1, ["serve", "registry", "0", "1"])
+        self.program.expect("a service with a full output", given, (4, b"", DEVICE))
