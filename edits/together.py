@@ -23,14 +23,17 @@ WAITS = re.compile(r"it calls .*which (?:is|are) not proved")
 # A name in a proof that the edit took away says nothing of a contract.
 NAMES = re.compile(r"has no field|is not in scope|has no `|was not admitted")
 EMPTY = "{}"
+# The type of an `impl` block.
+IMPLEMENTED = re.compile(r"(?:unsafe )?impl(?:<[^{]*?>)? (?:[^{]*? for )?&?(\w+)")
 
 
 @dataclasses.dataclass(frozen=True)
 class Function:
-    """The function that an edit changes: its file in the crate, its name, its first and last line, and whether the
-    edit changes the contract."""
+    """The function that an edit changes: its file in the crate, the type of its `impl` block or '', its name, its first
+    and last line, and whether the edit changes the contract."""
 
     path: str
+    of: str
     name: str
     first: int
     last: int
@@ -45,23 +48,34 @@ class Function:
         if path == self.path:
             return self.first <= line <= self.last
         module = "/".join(["proofs", *self._modules(), ""])
-        return path.startswith(module) and self.name in path[len(module) :].split("/")
+        return path.startswith(module) and self._is_here(path[len(module) :].split("/")[: 2 if self.of else 1])
+
+    def _is_here(self, names: list[str]) -> bool:
+        """Whether these names, of a block and a function, are its own."""
+        # The implementation of a trait for `Fault` has a name such as `FaultFromAllocError`.
+        *block, name = names
+        is_block = len(block) == 1 and block[0].startswith(self.of) if self.of else not block
+        return is_block and name == self.name
 
     def is_named(self, name: str) -> bool:
         """Whether the toolchain may mean this function by a name such as `crate::module::Type::name`."""
         _, *names = name.split("::")
         modules = self._modules()
-        return names[-1:] == [self.name] and names[: len(modules)] == modules
+        return names[: len(modules)] == modules and self._is_here(names[len(modules) :] or [""])
 
 
-def functions_in(text: str) -> list[tuple[int, int, int, str]]:
+def functions_in(text: str) -> list[tuple[int, int, int, str, str]]:
     """The functions of a source: the lines, counted from 0, of the beginning, of the end of the contract and after the
-    body, and the name."""
-    lines, found = text.split("\n"), []
+    body, the type of the `impl` block, and the name."""
+    lines, found, of = text.split("\n"), [], ""
     for at, line in enumerate(lines):
+        if block := IMPLEMENTED.match(line):
+            of = block[1]
+        elif line == "}":
+            of = ""
         if begins := FUNCTION.match(line):
             head, end = head_from(lines, at, begins[1])
-            found.append((at, at + len(head), end, begins[0].split()[-1]))
+            found.append((at, at + len(head), end, of, begins[0].split()[-1]))
     return found
 
 
@@ -77,10 +91,10 @@ def function_of(crate: str, path: str) -> Function | None:
         found = functions_in(edit.before[file])
     except ValueError:
         return None
-    for first, body, end, name in found:
+    for first, body, end, of, name in found:
         is_law = old[end - 1].strip().endswith(EMPTY)
         if changed <= {*range(first + 1 if is_law else body, end)}:
-            return Function(file, name, first + 1, end, is_law)
+            return Function(file, of, name, first + 1, end, is_law)
     return None
 
 

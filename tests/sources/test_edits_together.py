@@ -41,6 +41,7 @@ pub fn numbers_stay()
     ensures { (n : ℕ) → n ≡ n }
 {}
 """
+ONE_EACH = ("True, False, False", "False, True, False", "False, False, True")
 EDITS = {
     "low": ("src/code.rt", "    n + 0", "    n + wrong"),
     "low_again": ("src/code.rt", "    n + 0", "    wrong"),
@@ -66,6 +67,16 @@ if "wrong" in laws:
     print("./proofs/laws/numbers_stay/Answers.antt:1:1: error: `returns`: expected type `wrong`")
 print("logic=not-proved" if "wrong" in code + laws else "logic=proved")
 """
+# Whether functions of two types, and one of none, are meant by a name and are at a path.
+MEANT = """import sys
+sys.dont_write_bytecode = True
+sys.path[:0] = ["edits", "tools/prove"]
+from together import Function
+for of in "", "Low", "High":
+    new = Function("src/code/inner.rt", of, "new", 1, 2, False)
+    print([new.is_named(f"a::code::inner::{it}new") for it in ("", "Low::", "HighFromLow::")],
+          [new.is_at(f"proofs/code/inner/{it}new/Answers.antt", 1) for it in ("", "Low/", "HighFromLow/")],
+          new.is_named("a::code::new"), new.is_at("src/code/inner.rt", 2), new.is_at("src/code/inner.rt", 3))"""
 TRY = """import json, sys
 sys.dont_write_bytecode = True
 sys.path[:0] = ["edits", "tools/prove"]
@@ -85,6 +96,15 @@ def write_repository(folder: str) -> None:
         Path(folder, name).parent.mkdir(parents=True, exist_ok=True)
         Path(folder, name).write_text(text, encoding="utf-8")
     Path(folder, "bin/rt").chmod(0o755)
+
+
+class Names(Case):
+    def test_types(self) -> None:
+        with tempfile.TemporaryDirectory() as folder:
+            write_repository(folder)
+            done = subprocess.run([sys.executable, "-c", MEANT], cwd=folder, capture_output=True, text=True, check=True)
+        of_none, of_low, of_high = (f"[{it}] [{it}] False True False" for it in ONE_EACH)
+        self.expect("names and paths", done.stdout.splitlines(), [of_none, of_low, of_high])
 
 
 class Together(Case):
