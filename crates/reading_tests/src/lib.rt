@@ -27,6 +27,8 @@ mod request_volumes;
 #[cfg(test)]
 mod requests;
 #[cfg(test)]
+mod retractions;
+#[cfg(test)]
 mod shared;
 #[cfg(test)]
 mod utf8;
