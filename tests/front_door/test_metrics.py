@@ -26,6 +26,10 @@ ODD = (
     "# EOF",
     "openlink_x NaNx",
     "\x00",
+    "x openlink_x 1",
+    "openlink_x 1 x",
+    "# HELP openlink_x <b>",
+    "# TYPE other_name gauge",
 )
 
 
@@ -59,6 +63,9 @@ class Metrics(SiteCase):
         typed = [it.split()[2] for it in lines if it.startswith("# TYPE")]
         helped = [it.split()[2] for it in lines if it.startswith("# HELP")]
         self.expect("each is described once", (typed, len(set(typed))), (helped, len(helped)))
+        self.expect("lines of the desk that have another form", sorted({*lines} & {*ODD}), [])
+        counters = [it.split()[2] for it in lines if it.startswith("# TYPE") and it.endswith(" counter")]
+        self.expect("counters", counters, ["openlink_nginx_requests_total"])
         return {name: float(value) for name, value in (it.rsplit(" ", 1) for it in lines if it[:1] != "#")}
 
     def test_same_as_health(self) -> None:
@@ -84,9 +91,11 @@ class Metrics(SiteCase):
         self.site.wait_for(self.site.ports[0])
 
     def test_nginx_and_desk(self) -> None:
-        first, second = self.metrics(), self.metrics()
-        name = "openlink_nginx_requests_total"
-        self.expect("requests", 0 < first[name] < second[name], True)
+        first = self.metrics()
+        request = "GET /none HTTP/1.1\r\nHost: a\r\n{}\r\n".format
+        self.site.send((request("") * 4 + request("Connection: close\r\n")).encode())
+        second, name = self.metrics(), "openlink_nginx_requests_total"
+        self.expect("five requests of one connection, and this one", second[name] - first[name], 6)
         self.expect("connections", first["openlink_nginx_connections"] >= 1, True)
         self.expect(
             "the desk's", (first["openlink_run_status"], first['openlink_target_rows{target="a.b-c_D"}']), (1, 1234567)
