@@ -73,6 +73,7 @@ class Lists(TitlesCase):
     def test_form_of_a_request(self) -> None:
         filled = self.site.get(f"/cite?issn=2901-0012&{ARTICLE}&au=O%27Neill&id=doi:10.5555/a%22b")
         self.tidy("the form of a request", filled.text)
+        self.expect("the bookmarklet is for the empty form alone", 'class="bookmarklet"' in filled.text, False)
         fields = re.findall(r'<input id="(\w+)" .* value="([^"]*)"', filled.text)
         values = {name: html.unescape(value) for name, value in fields}
         self.expect(
@@ -178,6 +179,8 @@ class Lists(TitlesCase):
             ("books?q=harbours", ["A History of Harbours"]),
             ("journals?q=harbours", []),
             ("books?q=978-1-234-56472-8", ["Charts of the Inner Sea"]),
+            ("journals?q=978-1-234-56472-8", []),
+            ("books?q=2908-0142", []),
             ("journals?q=ouv+%C3%A9t+oceano", [studies]),
             ("journals?q=etudes+ou", [studies]),
             ("journals?q=of", [annals, "Journal of Lighthouse History", "Review of Coastal Law"]),

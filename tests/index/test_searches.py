@@ -152,6 +152,9 @@ class Searches(Case):
         for text, expected in cases:
             found = searched(self.made.folder, text)
             self.expect(f"the order of {text}", (found[0], found[1:5]), (expected, [1, 1, len(expected), False]))
+        found = searched(self.made.folder, "shared 7")
+        self.expect("a title with a number", found[0][:4], ["Shared 7", "Shared 70", "Shared 71", "Shared 72"])
+        self.expect("how many, by its word alone", found[1:5], [1, 2, 80, False])
         first = ["The Zulu", "Zulu", "Zulu Reports", "Zulus of Today", "Annals of Zulu"]
         self.expect("a title after the places that a search looks at", searched(self.made.folder, "zulu")[0][:5], first)
         self.expect(
@@ -184,6 +187,7 @@ class Searches(Case):
             )
             self.expect(f"pages of {text}", [len(found[0]) for found in pages], [50] * 5)
             self.expect(f"titles of {text}", len({title for found in pages[:4] for title in found[0]}), 200)
+        self.expect("a word twice", searched(self.made.folder, "zulu Zulu")[1:5], [1, 40, MANY + 7, False])
         self.expect(
             "words that only titles after those have",
             searched(self.made.folder, "alpha omega")[:5],
