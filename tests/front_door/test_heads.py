@@ -153,7 +153,7 @@ class Heads(TitlesCase):
         self.expect("the heading", bool(re.search(r"<h1[^>]*>Full text from .*tidal-press", text, re.S)))
 
 
-# Prints how many files of the index are read for links to a target, and for titles that it has.
+# Prints how many files of the index are read for links to a target, and for titles that it has or has pages of.
 READS = """import heads from 'heads.js';
 const count = (targets, links, titles) => {
     let reads = 0;
@@ -161,9 +161,10 @@ const count = (targets, links, titles) => {
     return heads.add(r, { targets, heads: {}, language: 'en', main: 'en' }, links, titles).then(() => reads);
 };
 const link = [{ target: 'press' }];
-const title = [{ rows: ['press 1 1990'], pages: [{ target: 'press' }] }];
+const title = [{ rows: ['press 1 1990'], pages: [] }];
+const page = [{ rows: [], pages: [{ target: 'press' }] }];
 Promise.all([{ press: {} }, { other: {} }, undefined].map((targets) => Promise.all([
-    count(targets, link, []), count(targets, [], title), count(targets, [], [])
+    count(targets, link, []), count(targets, [], title), count(targets, [], page), count(targets, [], [])
 ]))).then((found) => { console.log(JSON.stringify(found)); });
 """
 
@@ -178,6 +179,6 @@ class Reading(Case):
             words = ["njs", "-p", str(Path("front_door").resolve()), str(script)]
             done = subprocess.run(words, capture_output=True, text=True, check=True)
         named, others, without = json.loads(done.stdout)
-        self.expect("a site that names the target", named, [0, 0, 0])
-        self.expect("one that names others", others, [1, 1, 0])
-        self.expect("one that names none", without[:2], [1, 1])
+        self.expect("a site that names the target", named, [0, 0, 0, 0])
+        self.expect("one that names others", others, [1, 1, 1, 0])
+        self.expect("one that names none", without[:3], [1, 1, 1])
