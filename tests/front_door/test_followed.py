@@ -82,11 +82,12 @@ def links_in(page: str) -> list[str]:
 
 
 class WhatTheProgramGets(SiteCase):
-    """A target with a rule that shows the key `target` of a request."""
+    """A target with rules that show the keys `target` and `first` of a request."""
 
     @classmethod
     def new_site(cls) -> Site:
-        rules = "rule\nwhen given target\nlink {0}?{{target}}\n\nrule\nlink {0}none\n".format(ECHO)
+        shown = "".join(f"rule\nwhen given {key}\nlink {ECHO}?{{{key}}}\n\n" for key in ("target", "first"))
+        rules = f"{shown}rule\nlink {ECHO}none\n"
         with unittest.mock.patch.dict(nginx_site.FOR_EVERY_REQUEST, {"echo": rules}):
             return super().new_site()
 
@@ -99,6 +100,14 @@ class WhatTheProgramGets(SiteCase):
             reply = self.site.get(f"/go?target=echo&{start}{query}&target={TARGET_KEY}")
             got = reply.status, reply.headers["Location"]
             self.expect(f"{start}: no key of the program", got, (302, f"{ECHO}none"))
+
+    def test_first(self) -> None:
+        query = "rft.genre=article&issn=3006-1962&atitle=x&first=1"
+        self.expect("a key of another page", f"{ECHO}?1" in self.site.get(f"/find.json?{query}").text)
+        for path in ("/go?", "/go?target=echo&"):
+            reply = self.site.get(f"{path}{query}")
+            found = [f"{ECHO}{it}" in f"{reply.headers['Location']} {reply.text}" for it in ("?1", "none")]
+            self.expect(f"{path}: no key of the program", found, [False, True])
 
 
 class Followed(SiteCase):

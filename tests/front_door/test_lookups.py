@@ -592,8 +592,9 @@ class Copies(SiteWithLookups):
         reply = self.site.get(f"/go?first=1&id=doi:10.5555/accepted&{ARTICLE}")
         self.expect("/go", (reply.status, reply.headers["Location"][:26]), (302, "https://press.example.com/"))
         self.expect("it asks for nothing", self.services.asked["copy:10.5555/accepted"], before)
-        reply = self.site.get("/go?first=1&id=doi:10.5555/good&issn=2901-0012&date=1850&volume=1")
-        self.expect("no full text but the copy", (reply.status, FREE in reply.text), (200, True))
+        for key in ("first=1", "target=nobody"):
+            reply = self.site.get(f"/go?{key}&id=doi:10.5555/good&issn=2901-0012&date=1850&volume=1")
+            self.expect(f"{key}: no full text but the copy", (reply.status, FREE in reply.text), (200, True))
         before = sum(self.services.asked.values())
         for place in ("/cite", "/find.ris"):
             self.site.get(f"{place}?id=doi:10.5555/copied&{ARTICLE}")
