@@ -201,6 +201,7 @@ class Starts(Container):
         self.expect("nothing is started", self.calls(), [])
 
     def test_the_number_of_workers_is_that_of_the_environment(self) -> None:
+        self.machine.make("run/openlink-wanted.log", "before\n", 0o640)
         self.begin(OPENLINK_WORKERS="3")
         self.wait_for("nginx is not started", lambda: any(it.startswith("nginx") for it in self.calls()))
         self.expect(
@@ -220,12 +221,16 @@ class Starts(Container):
         for name in ("wanted", "followed"):
             log = os.stat(f"{self.machine.folder}/run/openlink-{name}.log")
             self.expect(f"nobody else reads the log {name}", log.st_mode & 0o777, 0o640)
+        text = self.read(f"{self.machine.folder}/run/openlink-wanted.log")
+        self.expect("what was in it before a restart of the container", text, "before\n")
 
     def test_a_registry_that_cannot_be_loaded_is_refused(self) -> None:
-        self.machine.make("resolve.status", "3")
-        process = self.begin()
-        self.expect("the status", process.wait(timeout=patience(20)), 3)
-        self.expect("nothing is started", self.calls(), [TRIAL])
+        for status in (2, 3):
+            self.machine.make("calls", "")
+            self.machine.make("resolve.status", f"{status}")
+            process = self.begin()
+            self.expect(f"status {status}", process.wait(timeout=patience(20)), status)
+            self.expect(f"status {status}: nothing is started", self.calls(), [TRIAL])
         self.machine.make("resolve.status", "0")
         self.begun()
 
@@ -271,6 +276,7 @@ class Ends(Container):
             "the other one", (self.pid(second), self.calls(f"{second} listens")), (others, [f"{second} listens"])
         )
         self.expect("the registry is not tried again", self.calls(TRIAL), [TRIAL])
+        self.expect("the pauses before it", self.sleeps(), 2)
 
     def test_a_process_that_dies_without_a_version_stays_in_its_folder(self) -> None:
         self.begun()
