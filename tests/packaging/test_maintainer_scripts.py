@@ -3,6 +3,7 @@
 from __future__ import annotations
 
 import os
+import shutil
 
 from fixtures.cases import Case
 from packaging.standins import Machine
@@ -121,6 +122,8 @@ class Arguments(Scripts):
         self.expect("purge of another root", self.run_script("postrm", "purge", DPKG_ROOT=self.machine.folder)[1], line)
         self.expect("remove", self.run_script("postrm", "remove")[1], "")
         self.data_stays()
+        shutil.rmtree(f"{self.machine.folder}/etc/openlink")
+        self.expect("purge without data", self.run_script("postrm", "purge"), (0, "", [RELOAD]))
 
 
 class Upgrades(Scripts):
