@@ -354,6 +354,9 @@ class Objects(Case):
     def test_base(self) -> None:
         self.expect("the base", Set(base_of(f"{FOLDER}/base")).faults(), [])
         self.expect("labels of the base", text_of(f"{FOLDER}/base/targets.json"), text_of("front_door/targets.json"))
+        check = ["update/update.d/targets_file.py", f"{FOLDER}/second/targets.json"]
+        done = subprocess.run(check, capture_output=True, text=True, check=False)
+        self.expect("labels of the second", (done.returncode, done.stdout), (0, "ok\n"))
         for edit, wanted in MISTAKES:
             folder = edited(*edit)
             try:
