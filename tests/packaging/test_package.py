@@ -101,6 +101,9 @@ class Package(Case):
         self.expect("Depends", self.field("Depends"), f"libc6 (>= 2.{max(versions)}), python3 (>= 3.10)")
         self.expect("Recommends", self.field("Recommends"), "nginx, libnginx-mod-http-js, curl")
         self.expect("Architecture", self.field("Architecture"), "amd64")
+        with open(self.file, "rb") as file:
+            packed = file.read()
+        self.expect("what every dpkg unpacks", [b"control.tar.gz" in packed, b"data.tar.gz" in packed], [True, True])
         self.expect("Maintainer", self.field("Maintainer"), "Jane Smith <jane@library.example.org>")
         said = subprocess.run([needs.PROGRAM, "--version"], check=True, capture_output=True, text=True).stdout
         self.expect("Version", f"openlink {self.field('Version')}\n", said)

@@ -8,6 +8,7 @@ import os
 import shutil
 import stat
 import subprocess
+import tarfile
 import tempfile
 from pathlib import Path
 
@@ -153,6 +154,11 @@ class Files(Sources):
         packed = self.folder / "packed"
         packed.mkdir()
         subprocess.run(["tar", "-C", packed, "-xzf", self.folder / f"one/{NAME}.tar.gz"], check=True)
+        with tarfile.open(self.folder / f"one/{NAME}.tar.gz") as archive:
+            members = archive.getmembers()
+        names = [it.name.split("/") for it in members]
+        self.expect("its order", names, sorted(names))
+        self.expect("its owners", {(it.uid, it.gid, it.uname, it.gname) for it in members}, {(0, 0, "", "")})
         self.expect("the tar file", sorted(names_below(packed / NAME) ^ wanted), [])
         self.expect("the program", (self.tree / "bin/openlink").read_text(encoding="utf-8"), TEXT)
         self.expect("links", [*releases.faults_of_links(self.tree)], [])
@@ -174,7 +180,7 @@ class Files(Sources):
         page = gzip.decompress((self.files / "usr/share/man/man1/openlink.1.gz").read_bytes())
         self.expect("a page", page, (TOP / "docs/man/openlink.1").read_bytes())
         sums = (self.control / "md5sums").read_text(encoding="utf-8").splitlines()
-        self.expect("its sums", {it.partition("  ")[2] for it in sums}, wanted - {*LINKS})
+        self.expect("its sums", [it.partition("  ")[2] for it in sums], sorted(wanted - {*LINKS}))
         words = ["md5sum", "--quiet", "-c", self.control / "md5sums"]
         self.expect("they are right", subprocess.run(words, cwd=self.files, capture_output=True).returncode, 0)
 
@@ -195,6 +201,9 @@ class Files(Sources):
         lines += ["needs x86-64-v2 and the C library of GNU, 2.34 or newer"]
         lines += [f"program {releases.sum_of(self.top / PROGRAM)}"]
         self.expect("VERSION", (self.tree / "VERSION").read_text(encoding="utf-8").splitlines(), lines)
+        sums = (self.tree / "SHA256SUMS").read_text(encoding="utf-8").splitlines()
+        named = [it.partition("  ")[2] for it in sums]
+        self.expect("the order of the sums", named, sorted(named))
         readme = " ".join((self.tree / "README").read_text(encoding="utf-8").split())
         self.expect("README", [it for it in SAID if it not in readme], [])
         changes = gzip.decompress((self.files / "usr/share/doc/openlink/changelog.gz").read_bytes()).decode()
