@@ -58,6 +58,7 @@ class Metrics(SiteCase):
         self.expect(
             "the page", (reply.status, reply.headers["Content-Type"]), (200, "text/plain; version=0.0.4; charset=utf-8")
         )
+        self.expect("the end of its last line", reply.text[-1:], "\n")
         lines = reply.text.splitlines()
         self.expect("lines of another form", [it for it in lines if it[:1] != "#" and not LINE.fullmatch(it)], [])
         typed = [it.split()[2] for it in lines if it.startswith("# TYPE")]
@@ -95,6 +96,9 @@ class Metrics(SiteCase):
         request = "GET /none HTTP/1.1\r\nHost: a\r\n{}\r\n".format
         self.site.send((request("") * 4 + request("Connection: close\r\n")).encode())
         second, name = self.metrics(), "openlink_nginx_requests_total"
+        plain = [it.removeprefix("openlink_") for it in first if "{" not in it]
+        times = ["version_timestamp_seconds", "update_timestamp_seconds"]
+        self.expect("the order", plain, [*times, "nginx_connections", "nginx_requests_total", "run_status"])
         self.expect("five requests of one connection, and this one", second[name] - first[name], 6)
         self.expect("connections", first["openlink_nginx_connections"] >= 1, True)
         self.expect(
