@@ -232,6 +232,8 @@ class Titles(TitlesCase):
         self.put_in_use("empty")
         reply = self.site.get("/find?jtitle=Annals+of+Tidal+Studies&id=pmid:7")
         self.expect("no index", ("an ISSN or ISBN is missing." in reply.text, UNKNOWN in reply.text), (True, False))
+        for path, status in (("/journals", 200), ("/journals/a/1", 404), ("/journals?q=tidal", 200)):
+            self.expect(f"no index: {path}", self.site.get(path).status, status)
 
     def test_numbers(self) -> None:
         """A number gives its title, and the other numbers of the title their links."""
@@ -317,7 +319,10 @@ class Titles(TitlesCase):
             numbers,
             [["rft.isbn=9781234565497"], ["rft.isbn=9781234566265"], ["rft.isbn=9781234567033"], ["rft.issn=ANY"]],
         )
-        self.expect("their names", re.findall(r"<h2>(Query \d)</h2>", page.text), [f"Query {i}" for i in (1, 2, 3, 4)])
+        what = ["titles in the tables of the targets", *["the title by its other numbers"] * 2]
+        what.append("the targets that answer every request")
+        found = re.findall(r"<h2>(Query \d)</h2>\n<p>This query finds (.*?)\.</p>", page.text)
+        self.expect("what each finds", found, [(f"Query {number}", it) for number, it in enumerate(what, 1)])
         row = re.findall(r'<tr><th scope="row"><a href="#target-catalogue">.*?</tr>', page.text)[0]
         self.expect(
             "their reasons",
