@@ -21,7 +21,7 @@ function requestWith(args, titles, variables) {
         rawVariables: { args: Buffer.from(args) },
         subrequest: function (path) {
             const text = titles === null ? '' : path === '/index/format' ? '6\n' : fileOf(path, titles);
-            return Promise.resolve({ status: text === '' ? 404 : 200, responseBuffer: Buffer.from(text) });
+            return Promise.resolve({ status: text === '' ? 404 : 200, responseBuffer: Buffer.from(text || '<p>No\n') });
         }
     };
 }

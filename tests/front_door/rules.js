@@ -552,8 +552,8 @@ function testWords() {
 // The commands of the page for staff. The registry's paths are relative to its folder.
 function testCommands() {
     const registry = staff.registryOf('a\tcode/a.olk\ttables/a.txt\r\n\nb part\tcode/a.olk\t/t/it\'s.txt\n'
-        + 'c\tx\nconstructor\tc.d/e\tf\n');
-    expect('a registry', Object.keys(registry).join(), 'a,b part,constructor');
+        + 'c\tx\nconstructor\tc.d/e\tf\ng.h\tcode/g.h.olk\tg\ni\tx\ty\tz\n');
+    expect('a registry', Object.keys(registry).join(), 'a,b part,constructor,g.h');
     const received = function (path) { return path === '/r/received/a.rules'; };
     const command = function (targets, name, query) {
         return staff.commandOf(name, registry[name], languages.siteIn(targets, ''), received) + ' '
@@ -566,6 +566,7 @@ function testCommands() {
         "openlink explain '/srv/r/rules/a.rules' '/t/it'\\''s.txt' 'a=b'");
     expect('code in another folder', command({ folder: '/r' }, 'constructor', ''),
         "openlink explain '/r/rules/e.rules' '/r/f' ''");
+    expect('a dot in a name', command({ folder: '/r' }, 'g.h', ''), "openlink explain '/r/rules/g.h.rules' '/r/g' ''");
     const named = function (rules) {
         return command({ folder: '/r', targets: { a: { rules } } }, 'a', '').split("'")[1];
     };
@@ -598,13 +599,14 @@ function testReasons() {
     expect('no report', program.reasonsOf(['', '']).length, 0);
 }
 
-// A reply to a subrequest of nginx, which has tried two processes. The status 'cut' is that of a reply that a process
+// A reply to a subrequest of nginx, which has tried three processes. The status 'cut' is that of a reply that a process
 // has not written to its end: 200, with less text than its head says.
+function lengthOf(text) { return { 'Content-Length': String(text.length) }; }
 function replyWith(status) {
     const text = 'a\thttp://a/\n';
     const bytes = Buffer.from(status === 'cut' ? text.slice(0, -1) : text);
-    return { status: status === 'cut' ? 200 : status, headersOut: { 'Content-Length': String(text.length) },
-        responseBuffer: bytes, variables: { upstream_addr: '127.0.0.1:1, 127.0.0.1:2' } };
+    return { status: status === 'cut' ? 200 : status, headersOut: lengthOf(text),
+        responseBuffer: bytes, variables: { upstream_addr: '127.0.0.1:3, 127.0.0.1:1, 127.0.0.1:2' } };
 }
 
 // A request of nginx whose subrequests get these statuses; -1 throws.
@@ -758,6 +760,89 @@ async function testReplies() {
     expect('an exception in the log', broken.variables.openlink_found, 'exception:no_reply');
 }
 
+// The page for staff where no target has a row, and where all have one. What is folded is open if nothing else is
+// there.
+async function testFolded() {
+    const pages = ['no row', 'no link'].map((reason) => {
+        const request = requestWith('/why?', []);
+        const report = `a\t${reason}\n`;
+        request.subrequest = (place) => Promise.resolve(place.startsWith('/index/') ? { status: 204 }
+            : Object.assign(replyWith(200), { responseBuffer: Buffer.from(report), headersOut: lengthOf(report) }));
+        request.return = function (status, text) { this.page = text; };
+        return staff.why(request).then(() => request.page.split('<details open>\n<summary>').length - 1
+            + ' ' + request.page.includes('<details>\n<summary>'));
+    });
+    const found = await Promise.all(pages);
+    expect('no row, and no other than rows', found.join(), '2 false,0 false');
+}
+// An index before format 4: its pages have an empty first line, and its letters the beginnings of their pages.
+async function testOldIndex() {
+    const files = {
+        '/index/list/j/0': '\nAtlas\t1\nBasins\t2\n', '/index/list/j/letters': '\n60\t1\na\t0\t2\t60\tat ba\n'
+    };
+    const r = { subrequest: (path) => {
+        return Promise.resolve({ status: files[path] ? 200 : 204, responseBuffer: Buffer.from(files[path] || '') });
+    } };
+    const page = await index.partsOfPage(r, 'j', 0);
+    expect('an older page', [0, 1, 2].map((place) => index.lineOfPage(page, place)).join('|'), 'Atlas\t1|Basins\t2|');
+    const letters = await index.lettersOf(r, 'j');
+    const starts = await index.startsOf(r, 'j', letters.letters[0]);
+    expect('its beginnings', starts, 'at ba');
+}
+// The page of an error has the link of the DOI if the resolver has failed, and not if the request is wrong.
+async function testFaults() {
+    const requests = [503, 400].map((status) => requestWith('/find?', [status]));
+    for (let i = 0; i < requests.length; i++) {
+        requests[i].rawVariables.args = Buffer.from('id=doi:10.5555/abc');
+        requests[i].return = function (status, text) { this.page = status + ' ' + text.includes('https://doi.org/'); };
+        await door.find(requests[i]);
+    }
+    expect('the DOI on the page of an error', requests.map((it) => it.page).join(), '503 true,400 false');
+    const asked = await program.askAll(requestWith('/find?', [200, 400, 503]), '/_menu', ['a', 'b', 'c']);
+    expect('the greatest status of several', asked.status, 503);
+    await expectReply('a refused report', door.report, requestWith('/report.txt', [400]), '400 <h1>, requested 1');
+    await expectReply('no page with data', door.fault, requestWith('/find.jsonx', []), '503 <h1>, requested 0');
+    globalThis.targets = Object.defineProperty({}, 'words', { get: () => { throw new Error('words'); } });
+    await expectReply('words that are the cause', door.find, requestWith('/find?', []), '503 <h1>, requested 0');
+    delete globalThis.targets;
+}
+// Rows and editions of links. The process that has the menus does not reply to the report, and another one does.
+async function testLinks() {
+    const q = openurl.queryOf('isbn=9781234560102');
+    q.titles = [{ rows: ['a 0 1990', 'a 1 2000', 'b 0'], pages: [] }];
+    q.further = ['9781234560102', '9781234560874'].map((it) => ({ first: 'rft.isbn=' + it, numbers: [it] }));
+    const replies = ['a\thttps://a/\n', 'b\thttps://b/\n', 'c\thttps://c/\n', ''];
+    const r = { variables: {}, subrequest: (place) => {
+        const text = place.startsWith('/_menu') ? replies.shift() : place === '/_report' ? 'a\tlink 1\n' : '';
+        const reply = { responseBuffer: Buffer.from(text), headersOut: lengthOf(text) };
+        return Promise.resolve(Object.assign(replyWith(place === '/_report_there' ? 502 : 200), reply));
+    } };
+    const found = await program.menusOf(r, q);
+    const shown = found.links.map((it) => [it.target, it.row && it.row.first, it.edition].join(' '));
+    expect('rows and editions', shown.join(), 'a 2000 ,b  ,c  9781234560874');
+}
+// A library's own targets.json, whose name has no hyphen, and the folder that its site says if that file does not.
+function testLibrary() {
+    const request = requestWith('/find', []);
+    Object.assign(request.variables, { openlink_library: 'a-b-c', openlink_folder: '/srv/site' });
+    const folder = () => exchange.siteOf(request).folder;
+    expect('without a file', folder(), '/srv/site');
+    globalThis.targets__a_b_c = { folder: '/srv/own' };
+    expect('the file of a library', folder(), '/srv/own');
+    delete globalThis.targets__a_b_c;
+}
+// Titles of the index: each is there once, of each kind; a number in two forms is one.
+function testTitles() {
+    const title = (kind, sent) => index.titleOf(kind, ['Atlas', sent, '']);
+    const all = ['b 1', 'j 1', 'b 2', 'b 1'].map((it) => title(it.charAt(0), '123456010' + it.slice(2)));
+    expect('distinct titles', index.distinct(all).map((it) => it.kind + it.numbers).join(),
+        'b1234560101,j1234560101,b1234560102');
+    const related = index.titleOf('j', ['C', '1', '', '<2901-0012 A > B', '>2908-0142 D']).related;
+    expect('an earlier title with a sign', related.map((it) => it.isLater + it.number + it.title).join(),
+        'false2901-0012A > B,true2908-0142D');
+    expect('a number in two forms', title('b', '1234560106 9781234560102').standard.join(), '9781234560102');
+}
+
 // The lines of a file of the index that begin so, against a search through all of them. The lines have up to 13,000
 // bytes, some keys have several, and the texts after the keys have characters of two and three bytes, as the keys may.
 const ARABIC = '0123456789';
@@ -826,5 +911,8 @@ testPlurals();
 testCases();
 testCommands();
 testReasons();
+testLibrary();
+testTitles();
 testHealth();
-testReplies().then(() => flowParts.run(expect)).then(() => { console.log(String(count)); });
+testReplies().then(testFolded).then(testFaults).then(testLinks)
+    .then(testOldIndex).then(() => flowParts.run(expect)).then(() => { console.log(String(count)); });
