@@ -130,6 +130,14 @@ class Offered(TitlesCase):
             self.expect(f"the page of {query}", addresses_in(main_of(reply), "The page of this title"), found)
             self.tidy(query, reply.text)
 
+    def test_label_of_its_rules(self) -> None:
+        """A target that targets.json does not name has the label of its head, also if no link needs one."""
+        path = Path(self.site.version(), "index", "heads")
+        self.addCleanup(path.unlink)
+        path.write_bytes(b"piers\tFull text\t=Pier Press\n")
+        found = [page["label"] for page in self.data("issn=2901-0039")["pages"]]
+        self.expect("the label", found, ["The journal at Pier Press"])
+
     def test_other_addresses(self) -> None:
         """An address without TLS is not offered, whatever the index has."""
         folder = Path(self.site.version(), "index", "keys")
