@@ -67,7 +67,9 @@ class Lists(TitlesCase):
         """Each page for readers ends with links to the form and to the lists."""
         links = [("/find", "Find by citation"), ("/journals", "Journals A to Z"), ("/books", "Books A to Z")]
         for target in ("/find", f"/find?{ARTICLE}", "/journals?q=tid", "/none"):
-            footer = self.site.get(target).text.partition("<footer>")[2]
+            text = self.site.get(target).text
+            self.expect(f"{target}: no link to nginx's own address", '"/fault' in text, False)
+            footer = text.partition("<footer>")[2]
             self.expect(f"the end of {target}", re.findall(r'<a href="([^"]*)">([^<]*)</a>', footer)[:3], links)
 
     def test_form_of_a_request(self) -> None:
@@ -95,6 +97,8 @@ class Lists(TitlesCase):
     def test_ris(self) -> None:
         authors = "rft.au=Smith,+Jane&rft.au=Li,+Wei"
         reply = self.site.get(f"/find.ris?issn=2901-0012&{ARTICLE}&epage=118&{authors}&id=doi:10.5555/a")
+        named = reply.headers["Content-Disposition"]
+        self.expect("a file to keep", named, 'attachment; filename="citation.ris"')
         self.expect(
             "RIS",
             (reply.headers["Content-Type"], reply.text.split("\r\n")),
