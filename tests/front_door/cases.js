@@ -410,6 +410,7 @@ const LATEX = [
         'rft.aulast=D\u00edaz rft.aufirst=Ji\u0159\u00ed', 'rft_val_fmt=x'],
     ['braces in braces', 'rft_val_fmt=x&rft.au=%7B%7BErd%7B%5CH%7Bo%7D%7Ds%7D%7D', 'rft.au=Erd\u0151s',
         'rft_val_fmt=x'],
+    ['a longer command', 'rft_val_fmt=x&rft.atitle=The+%5Comega+meson', ''],
     ['an ampersand', 'rft_val_fmt=x&rft.jtitle=Harbour+%5C%26+Coast', 'rft.jtitle=Harbour+&+Coast', 'rft_val_fmt=x'],
     ['a font', 'rft_val_fmt=x&rft.atitle=%5Cemph%7BZostera%7D+and+%7B%5Cit+Ruppia%7D', 'rft.atitle=Zostera+and+Ruppia',
         'rft_val_fmt=x'],
