@@ -8,7 +8,7 @@ from openlink_update.tables.link_hosts import Templates, texts_before_addresses
 _PAGE = "title_url"
 # What a column has in small letters if an address in it may be one of these: quicker than to look at each cell.
 _SESSION_SIGNS = ("sess", "cftoken", "sid=", "/(s(")
-_PROXY_SIGNS = ("proxy", "idm.oclc.org", "//0-", "openathens", "url=http")
+_PROXY_SIGNS = ("proxy", "idm.oclc.org", "//0-", "openathens", "url=http", "target=http")
 _SESSION = re.compile(
     r"[;?&](?:jsessionid|phpsessid|(?:asp)?sessionid\w*|session[_-]?id|sessid|cftoken)=[\w.!%-]{6,}"
     r"|[;?&]sid=[0-9a-f-]{20,}|/\(S\(\w{20,}\)\)",
