@@ -114,7 +114,7 @@ class Cells(Case):
         """The letters of a word that are compared, and those of a title in capitals."""
         for one, other, wanted in (("Tidewater", "Tides", True), ("Tidewater", "Tidal", False)):
             self.expect(f"{one}, {other}", titles._is_same(one, other), wanted)
-        for text, wanted in (("HARBOUR 12", True), ("HARBOUR 1", False)):
+        for text, wanted in (("HARBOUR 12", True), ("HARBOUR 1", False), ("HARBOURS12", False)):
             self.expect(text, titles._in_capitals(text), wanted)
 
     def test_first_rows(self) -> None:

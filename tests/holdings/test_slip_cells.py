@@ -28,6 +28,7 @@ DAMAGED, OTHERS = "damaged letters in titles", "numbers known under other titles
 EMBARGOES, COVERAGE = "embargoes in notes", "coverage in notes"
 ABSTRACTS = "abstracts alone"
 CAPITALS = "titles in capitals"
+VOLUMES = tuple(f"num_{end}_{part}_online" for part in ("vol", "issue") for end in ("first", "last"))
 
 
 def material(*rows: tuple[str, ...], rules: str = "rule\nlink {+title_url}\n", proxy: str = "") -> Material:
@@ -142,10 +143,16 @@ class Cells(Case):
             ("https://a.org/t.do;JSESSIONID=8A1F0C2D99?id=1", True),
             ("https://a.org/t?PHPSESSID=abcdef0123", True),
             ("https://a.org/t?id=1&session_id=abcdef0123", True),
+            ("https://a.org/t?id=1&session-id=abcdef", True),
+            ("https://a.org/t?id=1&session-id=abcde", False),
             ("https://a.org/t?ASPSESSIONIDAQQRS=abcdef0123", True),
             ("https://a.org/cf?CFID=1&CFTOKEN=12345678", True),
             ("https://a.org/(S(abcdefghijklmnopqrstuvwx))/t", True),
             ("https://a.org/t?sid=3b8a9c1e-7f20-4d1b-9a55-0c1d2e3f4a5b", True),
+            ("https://a.org/(S(abcdefghijklmnopqrst))/t", True),
+            ("https://a.org/(S(abcdefghijklmnopqrs))/t", False),
+            ("https://a.org/t?sid=0123456789abcdef0123", True),
+            ("https://a.org/t?sid=0123456789abcdef012", False),
             ("https://a.org/t?sid=google", False),
             ("https://a.org/sessions/1", False),
             ("https://a.org/t?session=spring", False),
@@ -160,6 +167,9 @@ class Cells(Case):
         now = material(("T", "0028-0836", page, "", "", other), rules="rule\nlink {+title_url}{title_id}\n")
         found = FIND[SESSIONS](Pair(now, None, DAY, lambda numbers: {}))
         self.expect("the row", found and (found.count, found.rows, found.example), (1, 1, page))
+        rows = ("T", "0028-0836", "https://a.org/1", "", "", other), ("U", "2434-561X", page)
+        found = FIND[SESSIONS](Pair(material(*rows, rules="rule\nlink {+title_url}{title_id}\n"), None, DAY, dict))
+        self.expect("the first of two rows", found and (found.count, found.example), (2, other))
         now.forget()
         self.expect("its columns are forgotten", (now._columns, now._small_texts), ({}, {}))
 
@@ -176,6 +186,12 @@ class Cells(Case):
             ("https://0-www.a.org.library.example.edu/1", True),
             ("https://go.openathens.net/redirector/example.edu?url=https%3A%2F%2Fa.org", True),
             ("https://access.example.edu/login?url=https://a.org/1", True),
+            ("https://access.example.edu/login?url=https%3A%2F%2Fa.org%2F1", True),
+            ("https://access.example.edu/login?target=https://a.org/1", True),
+            ("https://proxy.example.edu/login?target=https://a.org/1", True),
+            ("https://www-a-org.proxy.openathens.net/1", True),
+            ("https://www.2010-2020.org/find?url=https://a.org/1", False),
+            ("https://reader@a.org/login?url=https://a.org/1", False),
             ("https://a.org/login?url=https://a.org/1", False),
             ("https://a.org/proxy-statements/1", False),
             ("https://a.org/find?url=https://b.org/1", False),
@@ -192,6 +208,7 @@ class Cells(Case):
             ("rules", own, f"rule\nlink {own}{{+title_url}}\n", "", 0),
             ("a line", own, "rule\nlink {+title_url}\n", own, 0),
             ("in capitals", own.replace("proxy.example.org", "Proxy.Example.ORG"), "rule\nlink {+title_url}\n", own, 0),
+            ("a link of the rules", other, "rule\nlink https://ezproxy.example.edu/menu/{title_id}\n", "", 0),
             ("neither", other, f"rule\nlink {own}{{+title_url}}\n", own, 1),
             ("its redirector", athens.format("example.org"), "", athens.format("example.org"), 0),
             ("the redirector of another", athens.format("example.edu"), "", athens.format("example.org"), 1),
@@ -206,6 +223,7 @@ class Cells(Case):
             ("Caf\xc3\xa9", True),
             ("Women\u00e2\u20ac\u2122s Studies", True),
             ("Tides \ufffd Currents", True),
+            ("Tides ï¿½ Currents", True),
             ("ÐœÐ¾Ñ€Ðµ", True),
             ("Études «À côté»", False),
             ("EDUCAÇÃO, NAÇÃO", False),
@@ -225,18 +243,70 @@ class Cells(Case):
             ("Sperrfrist: 1 Jahr", 1, 0),
             ("embargo P1Y", 1, 0),
             ("Full text delayed one year", 1, 0),
+            ("Sperrfrist von zwei Jahren", 1, 0),
+            ("Embargo de 2 años", 1, 0),
+            ("Barrière mobile : 2 ans", 1, 0),
+            ("Barriere mobile : 2 ans", 1, 0),
+            ("embargo R1Y", 1, 0),
+            ("No fee. Embargo: 12 months", 1, 0),
+            ("Keine Sperrfrist seit 3 Jahren", 0, 0),
+            ("No delayed access for 12 months", 0, 0),
             ("No embargo", 0, 0),
             ("Ohne Embargo seit 2 Jahren", 0, 0),
             ("embargo lifted", 0, 0),
             ("Coverage: 1995-2003", 0, 1),
             ("1995 to present", 0, 1),
             ("1987 –", 0, 1),
+            ("1450—1499", 0, 1),
+            ("1995 bis 2003", 0, 1),
+            ("1995 bis heute, nur mit dem Passwort der Bibliothek", 0, 1),
+            ("1300-1399", 0, 0),
             ("Founded in 1995", 0, 0),
             ("ISSN 1995-2003x", 0, 0),
             ("", 0, 0),
         ):
             found = material(("T", "0028-0836", "https://a.org/1", "", text))
             self.expect(text, (count_of(EMBARGOES, found), count_of(COVERAGE, found)), (embargoes, coverage))
+
+    def test_coverage_that_is_known(self) -> None:
+        """Notes are not counted of books, and of journals with a date or a volume."""
+        columns = ("date_first_issue_online", "date_last_issue_online", *VOLUMES)
+        for number, column, wanted in (
+            ("0028-0836", "", 1),
+            ("9780306406157", "", 0),
+            *(("0028-0836", column, 0) for column in columns),
+        ):
+            header = ("publication_title", "print_identifier", "notes", column)
+            now = Material(Table(header, [["T", number, "1995-2003", "1995"]]), [], [], 1, b"", "", "")
+            self.expect(f"{number} {column}", count_of(COVERAGE, now), wanted)
+
+    def test_first_dates(self) -> None:
+        """Of three journals none has one; of those whose embargo opens the last years none needs one."""
+        header = ("publication_title", "print_identifier", "embargo_info", "date_first_issue_online")
+
+        def of(width: int, count: int, embargo: str = "") -> Material:
+            rows = [[f"T {at}", issn(at), embargo, ""][:width] for at in range(count)]
+            return Material(Table(header[:width], rows), [], [], count, b"", "", "")
+
+        for name, now, before, wanted in (
+            ("three", of(4, 3), None, 3),
+            ("two", of(4, 2), None, 0),
+            ("the last years", of(4, 3, "R5Y"), None, 0),
+            ("the last years, in small letters", of(4, 3, "r5y"), None, 0),
+            ("all but the last years", of(4, 3, "P1Y"), None, 3),
+            ("no column", of(3, 3), None, 0),
+            ("no column, as before", of(3, 3), of(3, 3), 0),
+            ("no column any more", of(3, 3), of(4, 3), 3),
+        ):
+            self.expect(name, count_of("no first date in any row", now, before), wanted)
+
+    def test_first_volumes(self) -> None:
+        """The example is of the first column that has no numbers."""
+        rows = [["T", "0028-0836", "none", "some"]] * 3
+        table = Table(("publication_title", "print_identifier", *VOLUMES[:2]), rows)
+        now = Material(table, [], [], 3, b"", "", "")
+        found = FIND["volumes or issues that are no number"](Pair(now, None, DAY, dict))
+        self.expect("the rows", found and (found.count, found.example), (3, f"{VOLUMES[0]} none, T"))
 
     def test_abstracts(self) -> None:
         """They are named in any case, and are alone if no row has another text and no rule knows them."""
@@ -263,13 +333,67 @@ class Cells(Case):
             ("Annals of Tidal Studies", "Journal of Harbour Engineering", True),
             ("Coastal Erosion Management", "Coastal Birds Photography", True),
             ("学報", "Glaciers", False),
+            ("Sea Ice", "Sun Ray", False),
+            ("Tides", "", False),
+            ("", "Tides", False),
         ):
             now = material((title, "0028-0836", "https://a.org/1"))
             before = material((other, "0028-0836", "https://a.org/1"))
             self.expect(f"{title}, {other}", count_of(OTHERS, now, before), int(is_other))
             self.expect(f"{title}, {other} elsewhere", count_of(OTHERS, now, None, {"0028-0836": other}), int(is_other))
+        now, before = (
+            material(*((title, number, "https://a.org/1") for title, number in zip(found, ("2434-561X", "0028-0836"))))
+            for found in (("Tides", "Glaciers"), ("Piers", "Deltas"))
+        )
+        found = FIND[OTHERS](Pair(now, before, DAY, dict))
+        self.expect("the first", found and found.example, "2434-561X, Tides, and Piers elsewhere")
         several = material(("Tides", "0028-0836", "https://a.org/1"), ("Glaciers", "0028-0836", "https://a.org/2"))
         self.expect("one of several", count_of(OTHERS, material(("Tides", "0028-0836", "https://a.org/1")), several), 0)
+
+
+class Rows(Case):
+    """Rows that are no titles."""
+
+    def test_totals_and_footnotes(self) -> None:
+        """How rows without a number begin, or an address of mail in them."""
+        for text, is_slip in (
+            ("Grand total", True),
+            ("Totally Tides", False),
+            ("Sum: 12", True),
+            ("Summe 12", True),
+            ("Summer Sports", False),
+            ("Insgesamt 12", True),
+            ("Number of titles: 12", True),
+            ("12 journals", True),
+            ("Titles: 12", True),
+            ("Titles of Honour", False),
+            ("© Press", True),
+            ("(c) 2026 Press", True),
+            ("Source: Press", True),
+            ("Source of Light", False),
+            ("Last updated 2026-11-01", True),
+            ("Updated 2026-11-01", True),
+            ("Stand: 1.11.2026", True),
+            ("Standard Methods", False),
+            ("* in print alone", True),
+            ("Questions to help@press.example.com", True),
+            ("Tides @ Piers", False),
+            ("", False),
+        ):
+            now = Material(Table(HEADER, []), [["no identifier", text, "", ""]], [], 4, None, "", "")
+            found = FIND["rows of a total or a footnote"](Pair(now, None, DAY, dict))
+            wanted = (1, 4, text) if is_slip else None
+            self.expect(text, found and (found.count, found.rows, found.example), wanted)
+
+    def test_no_line_end(self) -> None:
+        """In a first table a last line that lacks cells, and not one of a single cell; later, any."""
+        for line, is_first, is_later in (("T\t0028", True, True), ("T\t0028\t", False, True), ("T", False, True)):
+            now, ended = (
+                Material(Table(HEADER[:3], [["T", "0028-0836", ""]]), [], [], 1, None, "", end) for end in (line, "")
+            )
+            for name, before, wanted in (("first", None, is_first), ("later", ended, is_later), ("again", now, False)):
+                found = FIND["no line end after the last row"](Pair(now, before, DAY, dict))
+                self.expect(f"{line!r}, {name}", found is not None, wanted)
 
 
 class Rules(Case):
@@ -278,13 +402,14 @@ class Rules(Case):
     def test_guards(self) -> None:
         """The guards that cells decide, by how many rows of three each rule can hold on."""
         rows = material(
-            ("A", "0028-0836", "https://a.org", "fulltext", "", "a"),
+            ("A", "0028-0836", "https://a.org", "fulltext", 'of "Tides"', "a"),
             ("B", "2434-561X", "", "abstracts", "", "b"),
             ("C", "0-306-40615-2", "", "", "", ""),
         )
         for text, wanted in (
             ('when coverage_depth is "fulltext"', 1),
             ('when coverage_depth is "Full \\"text\\""', 0),
+            ('when notes is "of \\"Tides\\""', 1),
             ("when given title_url", 1),
             ("when has title_id", 2),
             ("when lacks title_url", 2),
@@ -295,8 +420,10 @@ class Rules(Case):
             ("when lacks embargo_info", 3),
             ('when rft_id holds "doi"', 3),
         ):
-            rules = guards.rules_of(f"# rule\nlist rft.x\nrule\n{text}\nlink https://a.org/{{title_id}}\n".encode())
-            self.expect(text, guards.Forms(rules, HEADER, rows).count(rules), wanted)
+            file = f"# rule\nlist rft.x\nrule\n{text}\nlink https://a.org/{{title_id}}\n"
+            for end in ("\n", "\r\n"):
+                rules = guards.rules_of(file.replace("\n", end).encode())
+                self.expect(f"{text}, {end!r}", guards.Forms(rules, HEADER, rows).count(rules), wanted)
 
     def test_texts(self) -> None:
         """Texts that rules do not know: by the version before, and in a first table by their spelling."""
@@ -309,6 +436,7 @@ class Rules(Case):
             ("another spelling", of("fulltext", "Full Text"), of("fulltext", "fulltext"), 1),
             ("a word", of("Yes", "Yes"), of("fulltext", "fulltext"), 2),
             ("one of KBART's", of("fulltext", "abstracts"), of("fulltext", "fulltext"), 0),
+            ("another of KBART's", of("fulltext", "selected articles"), of("fulltext", "fulltext"), 0),
             ("one that was there", of("fulltext", "Yes"), of("fulltext", "Yes"), 0),
             ("an empty cell", of("fulltext", ""), of("fulltext", "fulltext"), 0),
             ("a first table, another spelling", of("fulltext", "Full-Text"), None, 1),
@@ -322,6 +450,33 @@ class Rules(Case):
             return material(*rows, rules=names)
 
         self.expect("a column of names", count_of(TEXTS, titles(0, 90), titles(0, 80)), 0)
+        again = material(*((f"T {at}", "0028-0836", "", "", "", f"T{at}") for at in range(60)), rules=names)
+        self.expect("another spelling that was there", count_of(TEXTS, again, again), 0)
+
+    def test_texts_of_the_standard(self) -> None:
+        """KBART lists these texts of three columns, so no table is out of order that begins to have them."""
+        for column, texts in (
+            ("publication_type", ("serial", "monograph")),
+            ("access_type", ("F", "P")),
+            ("coverage_depth", ("fulltext", "selected articles", "abstracts")),
+        ):
+            rules = f'rule\nwhen {column} is "x"\nlink https://a.org/\n'.encode()
+            for text, wanted in (*((it, 0) for it in texts), (f"{texts[0]}s", 1)):
+                before, now = (
+                    Material(Table(("publication_title", column), [["T", cell]]), [], [], 1, rules, "", "")
+                    for cell in ("x", text)
+                )
+                self.expect(f"{column} {text}", count_of(TEXTS, now, before), wanted)
+
+    def test_first_text(self) -> None:
+        """The example is of the first row, whichever column has it."""
+        rules = 'rule\nwhen coverage_depth is "fulltext"\nwhen notes is "free"\nlink https://a.org/\n'
+        before = material(("A", "0028-0836", "", "fulltext", "free"), rules=rules)
+        now = material(
+            ("A", "0028-0836", "", "fulltext", "Free"), ("B", "2434-561X", "", "Full Text", "free"), rules=rules
+        )
+        found = FIND[TEXTS](Pair(now, before, DAY, dict))
+        self.expect("the rows", found and (found.count, found.example), (2, "notes Free, A"))
 
     def test_no_row(self) -> None:
         """Rules that hold on no row: because of the table, because of a new rule, in a first table."""
@@ -341,10 +496,22 @@ class Rules(Case):
             ("none", full, full, 0),
             ("one that had none before", of("Full", address="https://a.org"), of("Full", address="https://a.org"), 0),
             ("a new rule", of("fulltext", "abstracts", word="Fulltext"), of("fulltext", "abstracts"), 2),
+            (
+                "a new rule beside one that has all rows",
+                of("fulltext", word="Fulltext", address="https://a.org"),
+                of("fulltext", address="https://a.org"),
+                1,
+            ),
             ("a first table with one", of("Full", address="https://a.org"), None, 0),
             ("a first table with none", of("Full", "Full"), None, 2),
         ):
             self.expect(name, count_of(NO_ROW, now, before), wanted)
+        found = FIND[NO_ROW](Pair(of("Full"), full, DAY, dict))
+        self.expect("of the rows before", found and (found.count, found.rows), (3, 3))
+        other = material(
+            ("T", "0028-0836", "https://a.org", "Full"), rules=rules.format("fulltext").replace("a.", "b.")
+        )
+        self.expect("a new link", count_of(NO_ROW, other, of("Full", address="https://a.org")), 1)
 
 
 class Lines(Case):
@@ -433,6 +600,14 @@ class FirstTables(Case):
         for words, old, wanted in (("before too", before, 0), ("in small letters before", other, 2)):
             self.expect(words, count_of(CAPITALS, now, old), wanted)
 
+    def test_capitals_of_most(self) -> None:
+        """Half of the titles are not most of them, and a name in a word is none."""
+        for count, text, wanted in ((3, "TIDAL STUDIES", 0), (4, "TIDAL STUDIES", 4), (6, "OCEANOGRAPHY", 0)):
+            rows = [[text, issn(at)] for at in range(count)]
+            rows += [["Piers", issn(at)] for at in range(count, 6)]
+            now = Material(Table(("publication_title", "print_identifier"), rows), [], [], 6, None, "", "")
+            self.expect(f"{count} times {text}", count_of(CAPITALS, now), wanted)
+
     def test_same_number(self) -> None:
         """Two titles may share a number that most rows have, and three not."""
         header = ("publication_title", "print_identifier")
@@ -441,6 +616,26 @@ class FirstTables(Case):
             now = Material(Table(header, rows), [], [], 100, None, "", "")
             found = odd_cells.same_number(Pair(now, None, DAY, lambda numbers: {}))
             self.expect(f"{titles} titles", found is not None, titles == 3)
+        for number, wanted in (("0028-0836", 12), ("ANY", 0), ("any", 0)):
+            rows = [[f"T{at}", number] for at in range(12)]
+            now = Material(Table(header, rows), [], [], 12, None, "", "")
+            self.expect(number, count_of("the same number in most rows", now), wanted)
+
+        for count, wanted in ((6, 0), (7, 7)):
+            rows = [[f"T{at}", "0028-0836" if at < count else issn(at)] for at in range(12)]
+            now = Material(Table(header, rows), [], [], 12, None, "", "")
+            self.expect(f"{count} of 12", count_of("the same number in most rows", now), wanted)
+
+    def test_numbers_that_are_gone(self) -> None:
+        """Of numbers and volumes; counted are the rows of the table before that had one, of all its rows."""
+        for column in ("print_identifier", "online_identifier", *VOLUMES):
+            before, now = (
+                Material(Table(("publication_title", column), [["T", it] for it in cells]), [], [], 9, None, "", "")
+                for cells in (("", "12", "13"), ("", ""))
+            )
+            found = FIND["no numbers left in a column"](Pair(now, before, DAY, dict))
+            wanted = (2, 3, f"{column}, 12 before")
+            self.expect(column, found and (found.count, found.rows, found.example), wanted)
 
 
 class OtherTables(Case):

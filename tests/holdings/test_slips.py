@@ -26,6 +26,7 @@ from openlink_update.slips import slip_judge
 from openlink_update.slips.material import Found
 from openlink_update.slips.material import Material
 from openlink_update.slips.material import Pair
+from openlink_update.slips.other_titles import OtherTitles
 from openlink_update.tables import preparation
 from openlink_update.versions import making
 
@@ -56,7 +57,7 @@ link https://press.example.com/free/{title_id}
 ROWS = 100
 PLAIN = "Harbours Currents Lagoons Estuaries Glaciers Deltas Marshes Canyons Meadows Orchards".split()
 OTHER = "Painting Sculpture Opera Ballet Theatre Poetry Ceramics Weaving Drawing Printing".split()
-MANY = "in most of the rows"
+OTHERS = "numbers known under other titles"
 
 Rows = list[list[str]]
 Plant = Callable[[Rows, int], Rows]
@@ -436,6 +437,43 @@ class Versions(Case):
             )
 
 
+class Judged(Case):
+    """Which tables keep out of use what they have."""
+
+    def test_new_targets(self) -> None:
+        """What the first table of a target may be right with is allowed from then on; each other slip keeps it out."""
+        usual = {
+            "no first date in any row",
+            "volumes or issues that are no number",
+            "titles in capitals",
+            "abstracts alone",
+            "embargoes in notes",
+            "coverage in notes",
+        }
+        count = 0
+        for case in CASES:
+            if case.words in ("rules that hold on no row", "no numbers left in a column", OTHERS):
+                continue  # these compare with another table
+            rows = ROWS if case.words == "titles in capitals" else case.many
+            judge = slip_judge.SlipJudge(None, DAY, OtherTitles(tuple))
+            judge.find("press", material_of(data_of(case.plant(good(), rows)), RULES.encode()), None)
+            self.expect(f"{case.words}: found", case.words in judge.counts("press"))
+            reasons = [reason for reason in judge.reasons("press", (), {}) if reason.startswith(case.words)]
+            self.expect(f"{case.words}: kept out", len(reasons), int(case.words not in usual))
+            count += case.words in usual
+        self.expect("all usual ones", count, len(usual))
+
+    def test_few_other_titles(self) -> None:
+        """A fifth of the numbers may have other titles, and nothing is said of them."""
+        before = material_of(data_of(good()), RULES.encode())
+        for count, wanted in ((20, 0), (21, 1)):
+            rows = put("publication_title", "Volcanic Zebras")(good(), count)
+            judge = slip_judge.SlipJudge(None, DAY, OtherTitles(tuple))
+            judge.find("press", material_of(data_of(rows), RULES.encode()), before)
+            for name, lines in (("lines", judge.lines("press")), ("reasons", judge.reasons("press", (), {}))):
+                self.expect(f"{count} rows: {name}", len([line for line in lines if line.startswith(OTHERS)]), wanted)
+
+
 class LineEnds(Case):
     """A file that was cut within a line, and the least number of rows."""
 
@@ -479,6 +517,9 @@ class LineEnds(Case):
             (b"a\tb\nc\td", "c\td"),
             ("a\nü".encode("utf-16"), "ü"),
             ("a\nü\n".encode("utf-16"), ""),
+            ("\ufeffa\nü".encode("utf-16-be"), "ü"),
+            ("\ufeffa\nü\n".encode("utf-16-be"), ""),
+            (b"a\tb\r\nc\td\r\n\x1a", ""),
             (shapes.zipped({"one": "a|b\nc|d"}), "c\td"),
             (shapes.zipped({"one": "a|b\nc|d\n"}), ""),
             (b"PK\x03\x04 damaged", ""),
