@@ -51,6 +51,28 @@ SLIPS = [
         'target "a": label: "e" is none of the languages',
     ),
 ]
+NO_LOGO = ["words: logo is no file name that ends with .svg, .png, .jpg, .gif or .webp"]
+NO_REPORTS = ["words: problemLink is no address of http, https or mailto with {} for the request"]
+NO_ADDRESS = ["link 1: url is no address of http or https"]
+# A name of `words`, values of it, and what is said of each.
+VALUES: list[tuple[str, list[object], list[str]]] = [
+    ("logo", ["logo.svg", "a_b-1.png", "1.jpg", "x.gif", "X.webp", {"en": "a.svg", "de": "b.svg"}], []),
+    ("logo", ["", ".svg", "a.jpeg", "a.SVG", "a.b.svg", "lögo.svg", "a.svg\n", "a/b.svg", {"en": "a"}], NO_LOGO),
+    (
+        "problemLink",
+        ["https://e.org/?a={}", "HTTP://e.org/{}/b", "mailto:a@e.org?body={}", {"en": "http://e.org/{}"}],
+        [],
+    ),
+    (
+        "problemLink",
+        ["https://e.org/", "https://e.org/ {}", "https://e.org/{} b", "https://é.org/{}", "e.org/{}"],
+        NO_REPORTS,
+    ),
+    ("problemLink", ["ftp://e.org/{}", "see https://e.org/{}", {"en": "https://e.org/"}], NO_REPORTS),
+    ("links", [[{"label": "x", "url": url}] for url in ("https://e.org/", "HTTP://e.org", {"en": "http://e.org"})], []),
+    ("links", [[{"label": "x", "url": url}] for url in ("https://", "https://é.org/", "http://e.org/ b")], NO_ADDRESS),
+    ("links", [[{"label": "x", "url": url}] for url in ("", "mailto:a@e.org", {"en": "e.org"})], NO_ADDRESS),
+]
 SLIPS_OF_WORDS = [
     (b'{"heading": "x"', "line 1, column"),
     (b"[]", "not an object"),
@@ -94,6 +116,48 @@ class TargetsFile(Case):
             self.expect(
                 f"targets.json: {fault}", any(fault in found for found in targets.faults_of(data, {"en", "de"}))
             )
+
+    def test_values(self) -> None:
+        """Right and wrong logos, addresses, languages, names of targets and groups."""
+        for name, values, wanted in VALUES:
+            for value in values:
+                data = json.dumps({"languages": ["en", "de"], "groups": [{"name": "A"}], "words": {name: value}})
+                self.expect(f"{name}: {value}", targets.faults_of(data.encode()), wanted)
+        for language, is_right in (
+            ("en", True),
+            ("zh-Hans", True),
+            ("pt-BR", True),
+            ("de-1996", True),
+            ("en-", False),
+            ("en_GB", False),
+            ("1996", False),
+            ("", False),
+        ):
+            data = json.dumps({"languages": [language], "groups": [{"name": "A"}]}).encode()
+            wanted = [] if is_right else [f"languages: {json.dumps(language)} is no tag of a language"]
+            self.expect(f"the language {language!r}", targets.faults_of(data), wanted)
+        groups = [{"name": "A", "onlyWithout": "B"}, {"name": "B"}]
+        names: dict[str, dict[str, str]] = {"a.b_C-1": {}, "b": {"group": "B"}, "c": {"group": "A", "rules": "c.rules"}}
+        data = json.dumps({"groups": groups, "targets": names, "folder": "/srv/openlink"}).encode()
+        self.expect("a group that a later one hides", targets.faults_of(data), [])
+        data = json.dumps({"groups": [{"name": "A", "onlyWithout": {"en": "A"}}]}).encode()
+        self.expect("its name by language", "group 1: onlyWithout is not a text" in targets.faults_of(data))
+
+    def test_own_files_of_words(self) -> None:
+        """Those beside the file count as loaded where no site names it, and are checked; other files there are not."""
+        with tempfile.TemporaryDirectory() as folder:
+            path = Path(folder, "targets.json")
+            path.write_text('{"languages": ["en", "eo"], "groups": [{"name": "A"}]}', encoding="utf-8")
+            words = Path(folder, "words")
+            words.mkdir()
+            (words / "notes.txt").write_text("x", encoding="utf-8")
+            missing = f"{path}: languages: no words/eo.json is loaded"
+            self.expect("without its file", targets.faults_in(path), [missing])
+            english = Path("front_door/words/en.json").read_text(encoding="utf-8")
+            (words / "eo.json").write_text(english, encoding="utf-8")
+            found = targets.faults_in(path)
+            self.expect("with it", [line for line in found if not line.startswith(f"{words}/eo.json: words: ")], [])
+            self.expect("it is in English", f"{words}/eo.json: words: heading is in English: Find this item" in found)
 
     def test_slips_of_words(self) -> None:
         for data, fault in SLIPS_OF_WORDS:

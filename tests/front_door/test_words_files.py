@@ -31,6 +31,8 @@ SAME = {
 SLIPS = [
     ("fr", "heading", None, "no heading"),
     ("fr", "heading", "", "heading is empty"),
+    ("fr", "heading", " ", "heading is empty"),
+    ("fr", "heading", "Les libraries", "heading is in English: Les libraries"),
     ("fr", "heading", "Find this item", "heading is in English: Find this item"),
     ("fr", "heading", "Trouver this document", "heading is in English: Trouver this document"),
     ("de", "noTitle", "Kein Titel hat these words.", "noTitle is in English: Kein Titel hat these words."),
@@ -53,6 +55,8 @@ SLIPS = [
     ("es", "titles.many", None, "no titles.many"),
     ("en", "titles.few", "{} titles", 'unknown name "titles.few"'),
     ("da", "thousand", "1000.0", "thousand is no number with one mark"),
+    ("da", "thousand", "11000", "thousand is no number with one mark"),
+    ("da", "tenThousand", "10.0000", "tenThousand is no number with one mark"),
     ("da", "tenThousand", "1.000", "tenThousand is no number with one mark"),
     ("da", "titel", "x", 'unknown name "titel"'),
 ]
@@ -105,6 +109,11 @@ class WordsFiles(Case):
             texts = {key: it for key, it in texts_of(language).items() if key != name}
             data = json.dumps(texts if text is None else {**texts, name: text}).encode()
             self.expect(f"{language}: {fault}", targets_file.faults_of_words(data, language), [f"words: {fault}"])
+
+    def test_english_of_a_region(self) -> None:
+        data = (FOLDER / "en.json").read_bytes()
+        for language in ("en", "en-GB", "EN-gb"):
+            self.expect(language, targets_file.faults_of_words(data, language), [])
 
     def test_names_of_forms_in_a_site(self) -> None:
         """A site may replace a form, and no form that no language has."""
