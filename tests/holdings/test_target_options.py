@@ -57,9 +57,12 @@ WRONG = {
     "proxy http://proxy.example.org/": "proxy: an address that begins with https:// and a host must follow",
     "proxy https://proxy.example.org": "proxy: an address that begins with https:// and a host must follow",
     "proxy https://a@b/": "proxy: an address that begins with https:// and a host must follow",
+    "proxy https://a_b/": "proxy: an address that begins with https:// and a host must follow",
+    'proxy "https://a/ b"': "proxy: an address that begins with https:// and a host must follow",
     "filter ../x": "filter: the name of a file in the folder of filters must follow",
     "filter .x": "filter: the name of a file in the folder of filters must follow",
     "least 500": "least: a number of rows must follow, such as 500 rows",
+    "least ５ rows": "least: a number of rows must follow, such as 500 rows",
     "least 1234567890 rows": "least: a number of rows must follow, such as 500 rows",
     "sheet A; sheet B": "sheet: twice",
     'columns "A=notes': 'a quotation mark without a second one: columns "A=notes',
@@ -87,6 +90,22 @@ class TargetOptions(Case):
     def test_wrong(self) -> None:
         for cell, wanted in WRONG.items():
             self.expect(cell, refused(cell), wanted)
+
+    def test_what_changes_a_table(self) -> None:
+        """A proxy and a least number of rows change no table; each other option does."""
+        for cell, changes in (
+            ("", False),
+            ("proxy https://a/", False),
+            ("least 5 rows", False),
+            ("columns A=notes", True),
+            ("no header notes", True),
+            ("sheet A", True),
+            ("html table", True),
+            ("filter a", True),
+        ):
+            options = target_options.parse(cell)[0]
+            self.expect(cell, options.changes_reading(), changes)
+            self.expect(f"{cell}: beside none", (options.reads_as(NONE), NONE.reads_as(options)), (not changes,) * 2)
 
     def test_words(self) -> None:
         cell = 'dropped up to 5%; columns "a;b"=notes; hosts +a.example.org; leasts'
