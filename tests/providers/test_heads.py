@@ -29,6 +29,8 @@ class Lines(Case):
         for name, lines, wanted in (
             ("a label", ["# label: A b"], Head((("", "A b"),))),
             ("without spaces", ["#label:A"], Head((("", "A"),))),
+            ("a space before the colon", ["# label : A", "# label de : B"], Head((("", "A"), ("de", "B")))),
+            ("two spaces before the name", ["#  label: A"], Head()),
             ("of a language", ["# label de: A", "# label zh-Hans: B"], Head((("de", "A"), ("zh-Hans", "B")))),
             ("of two the first", ["# label: A", "# label: B", "# group: C", "# group: D"], Head((("", "A"),), "C")),
             ("an empty one", ["# label: ", "# label: B"], Head((("", "B"),))),

@@ -11,7 +11,9 @@ from fixtures.made_versions import Weeks
 from fixtures.made_versions import table
 from openlink_update import input_files
 from openlink_update import places
+from openlink_update.rules import pages
 from openlink_update.rules import shipped
+from openlink_update.tables.table import Table
 from openlink_update.versions import target_list
 
 ROWS = table(("A", issn(1), "", "1990", "", "https://press.example.com/a", "t1"))
@@ -118,7 +120,8 @@ class Lines(Case):
             folder = input_files.InputFolder(weeks.path("input"))
             self.expect("64 characters", shipped.fault_of("a" * 64, folder), "")
             self.expect("65 characters", bool(shipped.fault_of("a" * 65, folder)))
-            self.expect("three", shipped.fault_of("press", folder).count("provider:press-"), 3)
+            like = shipped.fault_of("press", folder).partition(": did you mean ")[2].split(" or ")
+            self.expect("three", (len(like), {it[:-1] for it in like}), (3, {"provider:press-"}))
 
     def test_groups(self) -> None:
         """What the heads of rules say of groups: of those that ship, of her own, and of none that cannot be read."""
@@ -160,6 +163,8 @@ class Lines(Case):
             " HTTP://b.example/2 ": "HTTP://b.example/2",
             "": "none:",
             "https://c.example": "https://c.example/",
+            "https://c.example#d": "https://c.example/#d",
+            "https://.c.example/": "none:",
             "https://d.example:8443?a=b#c": "https://d.example:8443/?a=b#c",
             "https://d.example:65535/": "https://d.example:65535/",
             "https://d.example:655350/": "none:",
@@ -182,4 +187,27 @@ class Lines(Case):
             self.expect("the cells", found, list(pairs.values()))
             evil = [(*row[:5], row[5].replace("a.example", "evil.example"), row[6]) for row in rows]
             reason = weeks.week("press", table(*evil), "title_url not a web link", rules=rules)
-            self.expect("a new host", reason[0].startswith("new host evil.example in 1 of 15 rows"))
+            self.expect("a new host", reason[0].startswith("new host evil.example in 1 of 17 rows"))
+
+    def test_names_of_the_column(self) -> None:
+        """A name that only has the column's within it is another."""
+        for text, wanted in (
+            ("link {+title_page}", True),
+            ('when title_page is "none:"', True),
+            ("link {title_page,x.title_page}", True),
+            ("link {x.title_page}", False),
+            ("link {title_page.x}", False),
+            ("link {title_pages}", False),
+            ("link {my_title_page}", False),
+            ("link {%74title_page}", False),
+        ):
+            self.expect(text, pages.are_named(f"rule\n{text}\n".encode()), wanted)
+
+    def test_rows_of_other_lengths(self) -> None:
+        """The column comes after those of the header, also in a row that is shorter or longer than it."""
+        address = "https://a.example/1"
+        for name, row, wanted in (
+            ("short", ["T"], ["T", "", "none:"]),
+            ("long", ["T", address, "more"], ["T", address, address, "more"]),
+        ):
+            self.expect(name, pages.added(Table(("publication_title", "title_url"), [row])).rows, [wanted])

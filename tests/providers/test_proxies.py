@@ -59,6 +59,13 @@ class Written(Case):
             ("a DOI", DOI, DOI.replace("https://d", f"{PLAIN}https://d")),
             ("a page", PAGE, NO_PAGE + f"rule\nlink {PLAIN}{{+title_page}}\n"),
             ("no web link", "rule\nlink none:away\n", "rule\nlink none:away\n"),
+            ("in capitals", DOI.replace("https:", "HTTPS:"), DOI.replace("https:", f"{PLAIN}HTTPS:")),
+            ("a web address after a scheme", "rule\nlink x:https://a.example/\n", "rule\nlink x:https://a.example/\n"),
+            (
+                "two guards",
+                f"rule\nwhen given x.isbn\n{DOI[5:]}",
+                f"rule\nwhen given x.isbn\nwhen given x.doi\nlink {PLAIN}https://doi.org/{{x.doi}}\n",
+            ),
             (
                 "lists, comments, line ends",
                 "list s\r\n# c\r\n\r\nrule\r\nlink http://a.example/{?s*}\r\n",
@@ -68,6 +75,8 @@ class Written(Case):
         ):
             self.expect(name, written(rules, PLAIN), wanted)
         self.expect("no proxy", written(DOI, ""), DOI)
+        for prefix in ("https://p.example.org/%2f%C3?u=", "https://p.example.org/$-_.~:/@!&()*+,;?u="):
+            self.expect(prefix, written(DOI, prefix), DOI.replace("https:", f"{prefix}https:"))
 
     def test_encoded(self) -> None:
         """The text is encoded, and a DOI may have a rule of its own."""
@@ -76,6 +85,7 @@ class Written(Case):
         for name, rules, wanted in (
             ("a DOI", DOI, f"list x.doi_encoded\n{encoded}rule\nwhen given x.doi\nlink {ENCODING}{doi}{{x.doi}}\n"),
             ("a page", PAGE, f"{NO_PAGE}rule\nlink {ENCODING}{{title_page}}\n"),
+            ("a page and text", PAGE.replace("}", "}/b?"), f"{NO_PAGE}rule\nlink {ENCODING}{{title_page}}%2Fb%3F\n"),
             (
                 "text",
                 "rule\nlink https://a.example/%20é?a=b&c={x.isbn}\n",
@@ -96,7 +106,8 @@ class Written(Case):
 
     def test_refused(self) -> None:
         """What would not be right is refused, with the rule."""
-        for template in ("rft.volume", "rft.atitle", "+title_url", "?x.isbn", "x.isbn,x.issn", "x.issn*", "/x.issn"):
+        parts = ("rft.volume", "rft.atitle", "+title_url", "+title_page", "?x.isbn", "x.isbn,x.issn", "x.issn*", "/x.issn")
+        for template in parts:
             self.expect(template, written(f"rule\nlink https://a.example/{{{template}}}\n", ENCODING), twice(template))
         for digits, is_right in ((4, True), (5, False)):
             found = written(f"rule\nlink https://a.example/{{x.issn:{'1' * digits}}}\n", ENCODING)
