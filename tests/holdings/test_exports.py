@@ -65,10 +65,21 @@ CASES = [
     ),
     ("it began on the last open day", row("A", first="2025-07-15", embargo="P1Y"), ("2025 7 - -", "", "366")),
     ("it began on the day after it", row("A", first="2025-07-16", embargo="P1Y"), None),
+    ("five years, and it ended some days before", row("A", first="1990", last="2021-07-15", embargo="R5Y"), None),
+    (
+        "five years, and it ended on the first day",
+        row("A", first="1990", last="2021-07-16", embargo="R5Y"),
+        ("2021 7 - -", "2021 7 - -", ""),
+    ),
+    ("it began in the year of its end", row("A", first="1999-05", last="1999"), ("1999 5 - -", "1999 - - -", "")),
     ("five years, and it ended before", row("A", first="1990", last="2019", embargo="R5Y"), None),
     ("an embargo in words", row("A", first="1990", embargo="6 months"), ("1990 - - -", "", "184")),
     ("words of two readings", row("A", first="1990", embargo="6 to 12 months"), ("1990 - - -", "", "")),
     ("abstracts", row("A", first="1990", coverage_depth="abstracts"), None),
+    ("abstracts in capitals", row("A", first="1990", coverage_depth="ABSTRACTS"), None),
+    ("print alone", row("A", first="1990", coverage_depth="print"), None),
+    ("a volume 0", row("A", first="1995", num_first_vol_online="0"), ("1995 - - -", "", "")),
+    ("a volume in other digits", row("A", first="1995", num_first_vol_online="４"), ("1995 - - -", "", "")),
 ]
 
 
@@ -93,6 +104,7 @@ def sample() -> dict[str, bytes]:
                 row("Harbours", "9781234560102", "9781234560874", publication_type="monograph"),
                 row("Without a number"),
                 row("", "2929-0538"),
+                row(" ", "2929-0538"),
             ]
         ),
         "shelves": table([row("Annals of Tidal Studies", "2901-0012", "2908-0142", "1992", "1999")]),
@@ -151,6 +163,13 @@ class Exports(Case):
             wanted = chr(number) if number in good else ""
             self.expect(f"U+{number:04X}", re.findall("<comment>(.*)</comment>", item, re.S), [f"&lt;{wanted}&gt;"])
 
+    def test_scholar_numbers(self) -> None:
+        """A number that is in both columns, in any form, has one item, and a title no markup."""
+        cells = {"publication_title": "Tides &amp;amp; <i>Piers</i>", "print_identifier": "29010012"}
+        found = [*items([{**cells, "online_identifier": "2901-0012"}], "Press", datetime.date(2026, 11, 20))]
+        titles = [re.findall("<title>(.*)</title><issn>(.*)</issn>", it) for it in found]
+        self.expect("the items", titles, [[("Tides &amp; Piers", "2901-0012")]])
+
     def test_scholar(self) -> None:
         with Version(sample()) as version:
             text = self.texts_of(version, "scholar", "holdings-1.xml")[0]
@@ -173,11 +192,12 @@ class Exports(Case):
             self.expect("no links without names", os.listdir(version.path("scholar")), ["holdings-1.xml"])
 
     def test_links_without_keywords(self) -> None:
-        """What the site does not say is left out, without an empty line."""
-        scholar = {name: value for name, value in SCHOLAR.items() if name != "keywords"}
+        """What the site does not say is left out, without an empty line; one label is that of both links."""
+        scholar = {name: value for name, value in SCHOLAR.items() if name not in ("keywords", "otherLabel")}
         with Version(sample(), {**TARGETS, "scholar": scholar}, "#") as version:
             text = self.texts_of(version, "scholar", "links.xml")[0]
         self.expect("keywords", ("<contact>" in text, "keywords" in text), (True, False))
+        self.expect("the other label", "<other_link_label>Full text @ Example</other_link_label>" in text)
         self.expect("empty lines", [it for it in text.splitlines() if not it.strip()], [])
 
     def test_scholar_links(self) -> None:

@@ -53,7 +53,7 @@ def _coverage_of(row: dict[str, str], provider: str, day: datetime.date) -> str 
     if opens:
         opened = opens.isoformat()
         if date_in(first) == NONE or date_in(first) < opened:
-            first, start = opened[:7], ["", ""]
+            first, start = opened, ["", ""]
     end = (closes or day).isoformat()
     limit = min(end, f"{date_in(last)}-99") if date_in(last) != NONE else end
     if date_in(first) != NONE and date_in(first) > limit:
