@@ -283,11 +283,11 @@ class Files(Case):
     def test_parts_that_are_left(self) -> None:
         """Of an export into a folder, parts that it no longer has go; other files of the folder stay."""
         with tempfile.TemporaryDirectory() as folder:
-            for name in ("holdings-1.xml", "holdings-2.xml", "holdings-12.xml", "holdings-x.xml", "notes.txt"):
+            for name in ("holdings-1.xml", "holdings-2.xml", "holdings-12.xml", "holdings-x.xml", "notes.txt", "holdings-3.xml.old"):
                 Path(folder, name).write_text("old", encoding="utf-8")
             site = mock.Mock(base="https://links.example.org")
             export_files._write_items(["<item/>\n"], site, SiteNames(None), Path(folder))
-            self.expect("what is there", sorted(os.listdir(folder)), ["holdings-1.xml", "holdings-x.xml", "notes.txt"])
+            self.expect("what is there", sorted(os.listdir(folder)), ["holdings-1.xml", "holdings-3.xml.old", "holdings-x.xml", "notes.txt"])
             self.expect("the part", "<item/>" in Path(folder, "holdings-1.xml").read_text(encoding="utf-8"))
 
     def test_a_disk_that_fails(self) -> None:
