@@ -19,6 +19,8 @@ CELLS = {
     ),
     'columns "ISSN, print"=print_identifier': Options(columns=(("ISSN, print", "print_identifier"),)),
     'columns "a = b; c"=notes': Options(columns=(("a = b; c", "notes"),)),
+    'columns "a=b"=notes': Options(columns=(("a=b", "notes"),)),
+    'columns ""=notes': Options(columns=(("", "notes"),)),
     'columns "say ""x"""=notes': Options(columns=(('say "x"', "notes"),)),
     "columns  A = notes ,  B = - ": Options(columns=(("A", "notes"), ("B", "-"))),
     'columns " A "=notes': Options(columns=((" A ", "notes"),)),

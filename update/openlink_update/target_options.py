@@ -110,7 +110,7 @@ def _split(text: str, separator: str) -> list[str]:
 
 
 def _quoted(name: str) -> str:
-    if name == name.strip() and not set(name) & set(f"{_QUOTE},;="):
+    if name and name == name.strip() and not set(name) & set(f"{_QUOTE},;="):
         return name
     return _QUOTE + name.replace(_QUOTE, _QUOTE * 2) + _QUOTE
 
