@@ -16,6 +16,7 @@ CASES = [
     ("sid=google&issn=2901-0012", False),
     ("issn=2901-0012&rfr_id=info:sid/a", False),
     ("issn=2901-0012;sid=a", False),
+    ("issn=2901-0012?sid=a", False),
     ("SID=a", False),
     ("issn=1&%73id=a", False),
     ("issn=1&%20sid%20=a", False),

@@ -87,8 +87,9 @@ class Replies(DoorCase):
             self.expect(f"status {status}", probes.links(self.door.address, "a=1"), None)
 
     def test_other_replies(self) -> None:
-        self.give("/find.json", (500, ""))
-        self.expect("another status", self.said(), "door: status 500 for /find.json?issn=1")
+        for status in (204, 403, 404, 500):
+            self.give("/find.json", (status, ""))
+            self.expect(f"status {status}", self.said(), f"door: status {status} for /find.json?issn=1")
         for text in ("<html>", "[]", '{"groups": [{"links": [{"target": "a"}]}]}', '{"groups": 3}'):
             self.give("/find.json", (200, text))
             self.expect(text, self.said(), "door: /find.json gives no JSON of the front door")
@@ -157,6 +158,9 @@ class Differences(DoorCase):
         text = f"{file}:2: a=2\n  too many press: link 0\n1 of 2 probes differ\n"
         self.expect("one differs", ended("a=1\tpress\na=2\tnone\n"), (1, text, ""))
         self.expect("no address", ended("a=1\tpress\n", "127.0.0.1")[0], 2)
+        self.expect("with a slash", ended("a=1\tpress\n", f"{self.door.address}/")[0], 0)
+        secure = f"https://127.0.0.1:{free_ports(1)[0]}"
+        self.expect("a door with TLS", ended("a=1\tpress\n", secure)[0], 4)
         for address in ("ftp://127.0.0.1", "http://", "http://a/b", "http://a:0", "http://a:x"):
             self.expect(address, ended("a=1\tpress\n", address)[0], 2)
         self.expect("no probe", ended("# a\n"), (3, "", f"openlink-probe: {file}: no probe\n"))
@@ -180,6 +184,11 @@ class Kept(DoorCase):
         path = self.folder / "probes.tsv"
         said = f"{path}: line 2 is not a query, a tab, and names of targets or none"
         self.expect("a wrong line", reason(self.probes, "a=1\tpress\na=2\n"), said)
+        said = f"{path}: line 1 has none together with names of targets"
+        for names in ("none press", "press none", "press\tnone", "none none"):
+            self.expect(names, reason(self.probes, f"a=1\t{names}\n"), said)
+        queries = [it.query for it in self.probes("a=é#\x01b \tpress\n").list]
+        self.expect("bytes that no address has", queries, ["a=%C3%A9%23%01b%20"])
         path.unlink()
         path.mkdir()
         self.expect("a folder", reason(probing.Probes, InputFolder(self.folder), path.name), f"{path}: Is a directory")

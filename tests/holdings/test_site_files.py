@@ -184,3 +184,45 @@ class Sites(Case):
                 "its ports and its address", (site.ports, site.base), ([8100, 8101], "http://links.example.org")
             )
             self.expect("no site", front_door.Site(Path(folder, "none.conf")).ports, [])
+
+    def test_lines(self) -> None:
+        """What lines of a site say; what is in a comment says nothing."""
+        log, wanted = "access_log /var/log/a.log openlink if=$openlink_line;", Path("/var/log/b.log")
+        for text, name, found in (
+            ("listen 443 ssl;\n  server_name a.example.org b.example.org;", "base", "https://a.example.org"),
+            ("listen [::]:443 ssl http2;\nserver_name a.example.org;", "base", "https://a.example.org"),
+            ("listen 80; # no ssl\n#server_name a.example.org;", "base", "http://localhost"),
+            ("listen 80 # no ssl\n;", "base", "http://localhost"),
+            ("#listen 443 ssl;\nserver_name a.example.org;", "base", "http://a.example.org"),
+            ("    set $openlink_list off;", "has_list", False),
+            ("log_format a;\njs_var $openlink_list off ;", "has_list", False),
+            ("#set $openlink_list off;", "has_list", True),
+            ("set $openlink_list on;", "has_list", True),
+            ("set $openlink_lists off;", "has_list", True),
+            (f"{log}\n  access_log \"{wanted}\" openlink_wanted;\n{log}", "logs", [Path("/var/log/a.log"), wanted]),
+            (f"#{log}\naccess_log /var/log/c.log combined;\naccess_log off;", "logs", []),
+            ("set $openlink_disk 2G;", "most_disk", 2 * 2**30),
+            ("set $openlink_disk 5mb;", "most_disk", 5 * 2**20),
+            ("#  server 127.0.0.1:8100;\nserver 127.0.0.1:8101;\nserver 10.0.0.1:8102;", "ports", [8101]),
+        ):
+            with tempfile.TemporaryDirectory() as folder:
+                path = Path(folder, "site.conf")
+                path.write_text(f"{text}\n", encoding="utf-8")
+                self.expect(text, getattr(front_door.Site(path), name), found)
+
+    def test_lines_of_a_machine(self) -> None:
+        """A library of several has the module and the languages of all, and ports, logs and a disk of its own."""
+        every = (
+            "js_path /usr/share/openlink;\njs_preload_object words_en from /w/en.json;\nset $openlink_disk 9g;\n"
+            "server 127.0.0.1:291;\naccess_log /var/log/all.log openlink;\nset $openlink_list off;\n"
+        )
+        own = "server 127.0.0.1:215;\njs_preload_object words_zh_Hans__east from /w/zh-Hans.json;\n"
+        with tempfile.TemporaryDirectory() as folder:
+            paths = [Path(folder, name) for name in ("site.conf", "openlink.conf")]
+            for path, text in zip(paths, (f"{own}set $openlink_disk 2g;\n", every)):
+                path.write_text(text, encoding="utf-8")
+            site = front_door.Site(*paths)
+            self.expect("the module", site.processes, "/usr/share/openlink/processes.conf")
+            self.expect("the languages", site.languages, ["en", "zh-Hans"])
+            found = (site.ports, site.logs, site.has_list, site.most_disk)
+            self.expect("its own", found, ([215], [], True, 2 * 2**30))

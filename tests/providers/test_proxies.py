@@ -106,8 +106,8 @@ class Written(Case):
 
     def test_refused(self) -> None:
         """What would not be right is refused, with the rule."""
-        parts = ("rft.volume", "rft.atitle", "+title_url", "+title_page", "?x.isbn", "x.isbn,x.issn", "x.issn*", "/x.issn")
-        for template in parts:
+        names = ("rft.volume", "rft.atitle", "+title_url", "+title_page")
+        for template in (*names, "?x.isbn", "x.isbn,x.issn", "x.issn*", "/x.issn"):
             self.expect(template, written(f"rule\nlink https://a.example/{{{template}}}\n", ENCODING), twice(template))
         for digits, is_right in ((4, True), (5, False)):
             found = written(f"rule\nlink https://a.example/{{x.issn:{'1' * digits}}}\n", ENCODING)
