@@ -1,6 +1,7 @@
 """Texts of which few characters or digits count: names, numbers, entities, limits in lists, and options."""
 from __future__ import annotations
 
+import datetime
 import os
 import re
 import tempfile
@@ -89,6 +90,10 @@ class Options(Case):
         """Two versions are kept at least, and a process has some time."""
         found = update_options.parse([])
         self.expect("without options", (found.seconds, found.keep, found.drained), (60, 4, 3))
+        words = found.shell.split()
+        self.expect("ssh asks for no password", "BatchMode=yes" in words)
+        self.expect("nor does it wait for long", {"ConnectTimeout=10", "ServerAliveInterval=10"} <= set(words))
+        self.expect("an empty folder is none", update_options.parse(["--input", ""]).input, None)
         found = update_options.parse(["--keep", "2", "--seconds", "0.1"])
         self.expect("the least", (found.keep, found.seconds), (2, 0.1))
         self.expect("of a library's user", (found.minutes, found.memory), (45, 3584))
@@ -99,6 +104,15 @@ class Options(Case):
             with open(os.devnull, "w") as null, mock.patch("sys.stderr", null), self.assertRaises(SystemExit) as ending:
                 update_options.parse([*words])
             self.expect(f"{words}", ending.exception.code, 2)
+
+    def test_options_of_each_library(self) -> None:
+        """What a run for several libraries is told, the run of each is told too."""
+        values = "--program p --restart r --reload l --seconds 7 --keep 3 --minutes 8 --memory 512".split()
+        stamp = f"{datetime.datetime.now(datetime.timezone.utc):%Y%m%dT%H%M%SZ}"
+        for words in ([], ["--dry-run"], ["--walls"], ["--back"], ["--fetch"], ["--receive", stamp]):
+            for more in ([], values):
+                found = update_options.parse([*words, *more])
+                self.expect(f"{words}, {more}", update_options.parse(found.words()), found)
 
 
 class FrontDoor(Case):

@@ -60,6 +60,7 @@ UPDATES: tuple[tuple[tuple[str, ...], str], ...] = (
     (("north", "--send", "--to", "b"), "--send needs --to, and sends what all libraries have"),
     (("--send", "--to", "b", "--all"), "--send needs --to, and sends what all libraries have"),
     (("--send", "--to", "b", "--fetch"), "--send needs --to, and sends what all libraries have"),
+    (("--to", "b", "--take"), "--to is not for --dry-run, --receive or --take"),
     (("--dry-run", "--to", "b"), "--to is not for --dry-run, --receive or --take"),
     (("--receive", "20260101T000000Z", "--to", "b"), "--to is not for --dry-run, --receive or --take"),
     (("--receive", "today"), "--receive needs the name of a version, a time of at most a day ahead"),

@@ -15,7 +15,7 @@ from unittest import mock
 from fixtures.cases import Case
 from fixtures.patience import wait_until
 from openlink_update import allowed_folders
-from openlink_update.input_files import InputFolder, cells_in
+from openlink_update.input_files import InputFolder, cells_in, lines_in
 from openlink_update.outcome import Failure
 from openlink_update.root_folder import MOST_BYTES
 
@@ -236,6 +236,14 @@ class Reading(InputFiles):
         self.expect("more bytes", change("more", lambda path: path.write_bytes(b"data and more")), True)
         self.expect("other bytes", change("other", lambda path: path.write_bytes(b"atad")), True)
         self.expect("another time", change("time", lambda path: os.utime(path, (2, 2))), True)
+        later = (10**9, 10**9 + 10**8)
+        self.expect("a tenth of a second later", change("later", lambda path: os.utime(path, ns=later)), True)
+
+        def append(path: Path) -> None:
+            path.write_bytes(b"data and more")
+            os.utime(path, (1, 1))
+
+        self.expect("more bytes at the same time", change("same time", append), True)
         self.expect("it is gone", change("gone", Path.unlink), False)
         other = self.write("another", b"data and more")
         self.expect("another file has its name", change("replaced", lambda path: other.rename(path)), False)
@@ -245,6 +253,7 @@ class Reading(InputFiles):
             self.write("list", data)
             got = [(line.number, line.cells) for line in self.folder.lines("list")]
             self.expect(f"the lines of {data!r}", got, wanted)
+            self.expect(f"of these bytes, {data!r}", [(it.number, it.cells) for it in lines_in(data)], wanted)
         self.write("list", b"a\xe4\n")
         self.expect("not UTF-8", outcome(lambda: [*self.folder.lines("list")]), "UnicodeDecodeError")
         lines = [line.cells for line in self.folder.lines("list", "latin-1")]
