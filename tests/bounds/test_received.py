@@ -94,6 +94,39 @@ class Tables(Case):
             data = f"<!--{'x' * (end - around - len('<html'))}--><html>"
             self.expect(f"its name ends with character {end}", texts.is_web_page(data), wanted)
 
+    def test_beginnings_of_a_web_page(self) -> None:
+        """Its first tag, whatever comes before it; and what only looks like one."""
+        tags = "html head body title meta script link div p h1 table".split()
+        texts_of_pages = [
+            *(f"<{tag}>" for tag in tags),
+            *(f"<{tag.upper()} a='b'>" for tag in tags),
+            "<!DOCTYPE html>",
+            "<!doctype\n  html SYSTEM 'about:legacy-compat'>",
+            "\ufeff \n<!-- a --> <!-- b -->\n<?xml version='1.0'?>\n<html>",
+            f"<!--{'é' * 9_900}--><html>",
+            f"<!--{'😀' * 9_900}--><html>",
+        ]
+        others = [f"<{tag}s>" for tag in tags] + ["<h2>", "<!doctype book>", "a <html>", "", "<?xml version='1.0'?><a>"]
+        for text, wanted in (*((it, True) for it in texts_of_pages), *((it, False) for it in others)):
+            for encoding in ("utf-8", "utf-16"):
+                start = texts.beginning_of(text.removeprefix("\ufeff" * (encoding == "utf-16")).encode(encoding))
+                self.expect(f"{text[:30]!r}, {encoding}", texts.is_web_page(start), wanted)
+
+    def test_texts(self) -> None:
+        """Line ends of each kind, an encoding for each line, and how many lines of UTF-16 were read."""
+        windows = "not UTF-8, read as windows-1252: {}".format
+        for data, text, lines in (
+            (b"a\rb\xe9\r\n\xc3\xa9\rc", "a\nbé\né\nc", [windows("1 line")]),
+            (b"\xef\xbb\xbf\x80\r\x82\xe9", "€\n‚é", [windows("2 lines")]),
+            ("a\rb\r\n\n".encode("utf-16"), "a\nb\n\n", ["UTF-16: 2 lines"]),
+            (b"\xfe\xff" + "a\nb".encode("utf-16-be"), "a\nb", ["UTF-16: 2 lines"]),
+        ):
+            self.expect(f"{data!r}", texts.text_of(data), (text, lines))
+        said = "line 3 is neither UTF-8 nor windows-1252"
+        self.expect("neither", reason(texts.text_of, b"a\r\xe9\n\x81"), said)
+        for text, wanted in (("<?xml version='1.0'?>", True), (" \n<?xml?>", True), ("a <?xml?>", False), ("", False)):
+            self.expect(f"XML: {text!r}", texts.is_xml(text), wanted)
+
     def test_lines_of_a_web_page(self) -> None:
         """The lines of a page are none of its table, and may be longer."""
         text = f"<html>{'x' * 100_001}</html>"

@@ -199,7 +199,7 @@ class Sites(Case):
             ("#set $openlink_list off;", "has_list", True),
             ("set $openlink_list on;", "has_list", True),
             ("set $openlink_lists off;", "has_list", True),
-            (f"{log}\n  access_log \"{wanted}\" openlink_wanted;\n{log}", "logs", [Path("/var/log/a.log"), wanted]),
+            (f'{log}\n  access_log "{wanted}" openlink_wanted;\n{log}', "logs", [Path("/var/log/a.log"), wanted]),
             (f"#{log}\naccess_log /var/log/c.log combined;\naccess_log off;", "logs", []),
             ("set $openlink_disk 2G;", "most_disk", 2 * 2**30),
             ("set $openlink_disk 5mb;", "most_disk", 5 * 2**20),

@@ -244,6 +244,8 @@ class Dates(Case):
             (2100, False, "2100"),
             (2101, False, "1905-10-01"),
             ("36526", False, "36526"),
+            (Cell("109574", form=1), False, "2199-12-31"),
+            (Cell("109575", form=1), False, "109575"),
             (Cell("9999999", form=1), False, "9999999"),
             (Cell("-5", form=1), False, "-5"),
             (datetime.date(1987, 6, 5), True, "1987-06-05"),
@@ -259,6 +261,34 @@ class Dates(Case):
             with mock.patch.object(spreadsheet_files, "FORMS", ("0", str(form))):
                 data = xlsx([HEAD, ["Tides", "2901-0012", "", Cell("2000", form=1)]])
             self.expect(f"form {form}", read(data), [["Tides", "2901-0012", "", wanted]])
+
+    def test_own_forms(self) -> None:
+        """By ECMA-376, 18.8.31: a form has sections, of which the first is for numbers above zero, and letters in
+        quotes, in brackets and after a backslash, an underscore or an asterisk stand for no part of a date."""
+        for form, wanted in (
+            ("yyyy\\-mm\\-dd", "1905-06-22"),
+            ("D.M.YY", "1905-06-22"),
+            ("[$-409]mmmm\\ yyyy;@", "1905-06"),
+            ("MMM YYYY", "1905-06"),
+            ("yyyy", "1905"),
+            *((it, "2000") for it in ('0"d"', "0\\d", "0_d", "0*d", "[Red]0", "0;d", "GENERAL", "[h]:mm", "mm:ss")),
+        ):
+            with mock.patch.object(spreadsheet_files, "OWN_FORMS", {"165": form}):
+                data = xlsx([HEAD, ["Tides", "2901-0012", "", Cell("2000", form=3)]])
+            self.expect(form, read(data), [["Tides", "2901-0012", "", wanted]])
+
+    def test_first_day_of_a_workbook(self) -> None:
+        """An attribute that is true is so in both ways that XML has to write it."""
+        members = xlsx_members({"Sheet1": [HEAD, [*ROW[:3], 35064]]})
+        for value, wanted in (
+            ("1", "2000-01-01"),
+            ("true", "2000-01-01"),
+            ("0", "1995-12-31"),
+            ("false", "1995-12-31"),
+        ):
+            text = str(members["xl/workbook.xml"]).replace("<sheets", f'<workbookPr date1904="{value}"/><sheets', 1)
+            data = archive_of({**members, "xl/workbook.xml": text})
+            self.expect(value, read(data), [[*ROW[:3], wanted]])
 
     def test_other_columns(self) -> None:
         """A number in a column without dates stays one."""
