@@ -97,6 +97,8 @@ class Rows(Case):
             ("x", 100_001, says.format(1)),
             ("ä", 50_000, ""),
             ("ä", 50_001, says.format(2)),
+            ("😀", 25_000, ""),
+            ("😀", 25_001, says.format(4)),
         ):
             self.expect(f"{count} of {letter}", reason(Sheet().add, [letter * count], 7), wanted)
         self.expect("with what separates cells", reason(Sheet().add, ["x" * 50_000] * 2, 7), says.format(1))

@@ -25,6 +25,7 @@ from openlink_update.exports import export_files
 from openlink_update.exports.site_names import SiteNames
 from openlink_update.input_files import InputFolder
 from openlink_update.outcome import Unreadable
+from openlink_update.received import patterns
 from openlink_update.received import reading
 from openlink_update.received.reading import Form
 from openlink_update.rules import pages
@@ -268,6 +269,25 @@ class Logs(Case):
 
 
 class Files(Case):
+    def test_newest(self) -> None:
+        """By the last date in the name, then by the name, then by the path; of each pair the second is the newer."""
+        for older, newer in (
+            ("a_20260101.txt", "a_20261101.txt"),
+            ("b_20261101.txt", "a_2026-11-02.txt"),
+            ("a_20270101_20250101.txt", "a_20200101_20260101.txt"),
+            ("b_20271399.txt", "a_20260101.txt"),
+            ("b_20270229.txt", "a_20260101.txt"),
+            ("b_920270101.txt", "a_20260101.txt"),
+            ("b_202701019.txt", "a_20260101.txt"),
+            ("b_2027-0101.txt", "a_20260101.txt"),
+            ("20270101/a_20250101.txt", "20200101/a_20260101.txt"),
+            ("y/a_20260101.txt", "x/b_20260101.txt"),
+            ("x/a_20260101.txt", "y/a_20260101.txt"),
+            ("a.txt", "b.txt"),
+        ):
+            found = {patterns.newest(pair) for pair in ((older, newer), (newer, older))}
+            self.expect(f"{older}, {newer}", found, {newer})
+
     def test_rules_that_cannot_be_listed(self) -> None:
         with tempfile.TemporaryDirectory() as folder:
             with mock.patch.object(shipped, "PROVIDERS", Path(folder, "none")):
@@ -283,11 +303,22 @@ class Files(Case):
     def test_parts_that_are_left(self) -> None:
         """Of an export into a folder, parts that it no longer has go; other files of the folder stay."""
         with tempfile.TemporaryDirectory() as folder:
-            for name in ("holdings-1.xml", "holdings-2.xml", "holdings-12.xml", "holdings-x.xml", "notes.txt", "holdings-3.xml.old"):
+            for name in (
+                "holdings-1.xml",
+                "holdings-2.xml",
+                "holdings-12.xml",
+                "holdings-x.xml",
+                "notes.txt",
+                "holdings-3.xml.old",
+            ):
                 Path(folder, name).write_text("old", encoding="utf-8")
             site = mock.Mock(base="https://links.example.org")
             export_files._write_items(["<item/>\n"], site, SiteNames(None), Path(folder))
-            self.expect("what is there", sorted(os.listdir(folder)), ["holdings-1.xml", "holdings-3.xml.old", "holdings-x.xml", "notes.txt"])
+            self.expect(
+                "what is there",
+                sorted(os.listdir(folder)),
+                ["holdings-1.xml", "holdings-3.xml.old", "holdings-x.xml", "notes.txt"],
+            )
             self.expect("the part", "<item/>" in Path(folder, "holdings-1.xml").read_text(encoding="utf-8"))
 
     def test_a_disk_that_fails(self) -> None:

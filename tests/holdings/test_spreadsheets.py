@@ -100,6 +100,9 @@ class Sheets(Case):
             self.expect(f"quotes, {kind}", read(data, Options(sheet='Say "x"')), SERVED)
             got = read(data, Options(sheet="Titles"))
             self.expect(f"a missing one, {kind}", got, 'no sheet "Titles"; it has: "About", "A; B", "Say "x"')
+        spaces = archive_of(xlsx_members({"About": [["x"]], " Titles ": ROWS}))
+        for name in ("Titles", " Titles", " Titles "):
+            self.expect(f"spaces around {name!r}", read(spaces, Options(sheet=name)), SERVED)
         hidden = archive_of(xlsx_members({"Lists": [["x"]], "Titles": ROWS}, hidden=["Lists"]))
         self.expect("the first that people see", read(hidden), SERVED)
         unsafe = archive_of(xlsx_members({"a\u202eb\u0085c" + "x" * 99: ROWS}))
@@ -124,6 +127,9 @@ class Cells(Case):
             ("words as a number", "<c><v>no number</v></c>", "no number"),
             ("true", '<c t="b"><v>1</v></c>', "TRUE"),
             ("a date of its own kind", '<c t="d"><v>2005-03-01T00:00:00</v></c>', "2005-03-01T00:00:00"),
+            ("other ends of lines", '<c t="inlineStr"><is><t>A&#133;B&#8232;C&#8233;D</t></is></c>', "A B C D"),
+            ("an escaped character in small letters", '<c t="str"><v>A_x00e9_</v></c>', "Aé"),
+            ("false", '<c t="b"><v>0</v></c>', "FALSE"),
             ("lines and tabs", '<c t="inlineStr"><is><t>Tides&#10;and&#9;Piers</t></is></c>', "Tides and Piers"),
             ("an escaped character", '<c t="str"><v>A_x0041__x000D_B_x005F_x</v></c>', "AA B_x"),
             ("half a character", '<c t="str"><v>A_xD800_B</v></c>', "A�B"),
@@ -204,6 +210,9 @@ class Cells(Case):
             read(of_document(row.format(1, text.format(1_000_000)))),
             "row 3 has 1,000,000 cells, and a table may have 500 columns",
         )
+        cells = "".join(text.format(1).replace(">x<", f">{it}<") for it in ("Piers", "2915-0272", "y", "2001"))
+        two = read(of_document(row.format(2, cells)), Options(columns=(("online_identifier", "-"),)))
+        self.expect("without a column", two, [[*ROW[:2], ROW[3]], ["Piers", "2915-0272", "2001"]])
         long, megabytes = measured(of_document(row.format(1_999_990, text.format(500))))
         self.expect("rows", long, ["file: a sheet with more than 30,000,000 cells: is it a table of holdings?"])
         self.expect(f"they take {megabytes} MB", 0 < megabytes <= MOST_MB)
@@ -214,6 +223,8 @@ class Cells(Case):
             ("9.99999999999999E+14", "999999999999999"),
             ("-2.5E+1", "-25"),
             ("1E+15", "1e+15"),
+            ("-1E+15", "-1e+15"),
+            ("１９９５", "1995"),
             ("1.23456789012345678E+17", "1.23456789012346e+17"),
             ("2.50", "2.5"),
         ):
@@ -231,6 +242,8 @@ class Dates(Case):
             (Cell("36526", form=1), False, "2000-01-01"),
             (Cell("36526.75", form=1), False, "2000-01-01"),
             (Cell("0", form=1), True, "1904-01-01"),
+            (Cell("59", form=1), True, "1904-02-29"),
+            (Cell("60", form=1), True, "1904-03-01"),
             (Cell("35064", form=1), True, "2000-01-01"),
             (Cell("36526", form=2), False, "2000-01"),
             (Cell("36526", form=3), False, "2000"),
