@@ -298,6 +298,8 @@ class Lines(Case):
             "...",
             "Ant Hill",
             "Ants",
+            "العلوم",
+            "٤٢",
         ]
         rows = [journal(name, f"30{number:02}-0000") for number, name in enumerate(names)]
         rows += [journal(f"Crab {number:03}", f"31{number:02}-0000") for number in range(99)]
@@ -316,15 +318,18 @@ class Lines(Case):
                 "42 Days",
                 "Ωmega",
                 "Журнал",
+                "العلوم",
             ]
             self.expect(
-                "the order", [name for name in listed.values() if not name.startswith("Crab")], [*order, "...", "中国"]
+                "the order",
+                [name for name in listed.values() if not name.startswith("Crab")],
+                [*order, "...", "٤٢", "中国"],
             )
             self.expect(
                 "the letters",
                 found.letters("j"),
                 (
-                    [114, 1],
+                    [116, 1],
                     {
                         "a": (0, 1, 4),
                         "b": (1, 1, 1),
@@ -334,18 +339,21 @@ class Lines(Case):
                         "0-9": (7, 1, 2),
                         "ω": (8, 1, 1),
                         "ж": (9, 1, 1),
-                        "other": (10, 1, 2),
+                        "ا": (10, 1, 1),
+                        "other": (11, 1, 3),
                     },
                 ),
             )
             self.expect(
-                "pages", [len(found.page("j", number)) for number in range(12)], [4, 1, 50, 50, 1, 1, 1, 2, 1, 1, 2, 0]
+                "pages",
+                [len(found.page("j", number)) for number in range(13)],
+                [4, 1, 50, 50, 1, 1, 1, 2, 1, 1, 1, 3, 0],
             )
             self.expect("a line", found.page("j", 6), [["Zoo", "3000-0000", "one 0"]])
             self.expect(
                 "books",
                 (found.letters("b"), found.page("b", 0)),
-                (([1, 1], {"b": (0, 1, 1)}), [["Book", "9781234560102", "one 114"]]),
+                (([1, 1], {"b": (0, 1, 1)}), [["Book", "9781234560102", "one 116"]]),
             )
             for start, expected in [
                 ("an", ["Ant Hill", "Ants", "The Ant"]),
