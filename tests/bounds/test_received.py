@@ -68,6 +68,15 @@ class Tables(Case):
                 wanted,
             )
 
+    def test_numbers_of_lines(self) -> None:
+        """Those of the file, whatever is above the header, and however many lines a row has."""
+        for above in (0, 2):
+            start = "about\n" * above + f'{NAMES}\n"a\nb",c,d\n'
+            said = f"line {above + 4}: quotes that do not match"
+            self.expect(f"quotes, {above} above", reason(preparation.read, f'{start}"e'.encode()), said)
+            said = f"line {above + 4} has 501 cells, and a table may have 500 columns"
+            self.expect(f"cells, {above} above", reason(preparation.read, f"{start}{',' * 500}".encode()), said)
+
     def test_lines(self) -> None:
         said = "it has 2,000,001 lines, and a table may have 2,000,000: is it a table of holdings?"
         for name, end in (("LF", b"\n"), ("CR LF", b"\r\n"), ("CR", b"\r")):
@@ -162,3 +171,34 @@ class Archives(Case):
             reason(archives.unpacked, zipped([*names, "other"]), "77.txt"),
             "a zip file with more than 10,000 members: pack the table alone",
         )
+        none = "a zip file with 0 members: name one by `member PATTERN` in sources.tsv"
+        self.expect("none", reason(archives.unpacked, zipped([])), none)
+        self.expect("a folder alone", reason(archives.unpacked, zipped(["a/"], b"")), none)
+        self.expect("a folder that macOS adds to others", archives.unpacked(zipped(["a/__MACOSX/b"])), b"text")
+        self.expect("that it adds", reason(archives.unpacked, zipped(["__MACOSX/b"])), none)
+
+    def test_kinds(self) -> None:
+        """Which archives are spreadsheets, which members are said to be left out, and one that is damaged."""
+        for names, wanted in (
+            (["[Content_Types].xml", "a.txt"], True),
+            (["content.xml", "mimetype"], True),
+            (["content.xml"], False),
+            (["mimetype"], False),
+            ([], False),
+        ):
+            self.expect(f"{names}", archives.is_spreadsheet(zipped(names)), wanted)
+        inside = archives.unpacked(zipped(["[Content_Types].xml", "a.txt"]), "a.txt")
+        self.expect("a member that is named", inside, b"text")
+        data = io.BytesIO(zipped(["a.csv", "__MACOSX/a.txt", "b.txt"]))
+        with zipfile.ZipFile(data, "a") as archive:
+            archive.writestr("t.txt", b"table")
+        found = archives.opened(data.getvalue(), "*.txt", b"table".__eq__)
+        self.expect("others", found, (b"table", ["other members of the zip file, left out: 1 file"]))
+        said = "a gzip file that is cut short or damaged"
+        whole = gzip.compress(b"text")
+        for name, spoilt in (
+            ("cut", whole[:-3]),
+            ("no block", whole[:10] + b"\xff" * 20),
+            ("other bytes", whole[:-8] + bytes(8)),
+        ):
+            self.expect(name, reason(archives.unpacked, spoilt), said)
