@@ -56,10 +56,13 @@ class Names(Case):
 
     def test_spellings(self) -> None:
         """Case, spaces and quotes around a name make no difference."""
-        for name in ("titel", "TITEL", " Titel ", '"Titel"', "Titel\xa0"):
+        for name in ("titel", "TITEL", " Titel ", '"Titel"', "'Titel'", "\u201cTitel\u201d", "Titel\xa0"):
             text = f"{name}\tprint_identifier\tonline_identifier\nTides\t2901-0012\t\n"
             got = table("columns Titel=publication_title", text)
             self.expect(repr(name), got.split("\t")[0], "publication_title")
+        text = "GROSSE TITEL\tprint_identifier\tonline_identifier\nTides\t2901-0012\t\n"
+        got = table("columns Große Titel=publication_title", text)
+        self.expect("a letter that capitals lack", got.split("\t")[0], "publication_title")
         text = "ISSN  print\tprint_identifier\tx\nTides\t2901-0012\t\n"
         self.expect(
             "spaces in it", table('columns "ISSN print"=publication_title', text).split("\t")[0], "publication_title"
@@ -182,7 +185,12 @@ class NoHeader(Case):
             self.expect(repr(separator), table(NO_HEADER, text), SERVED)
         text = '"Tides; Waves","Press","2901-0012","1995"\n'
         self.expect("in quotes", table(NO_HEADER, text), SERVED.replace("Tides", "Tides; Waves"))
-        self.expect("an empty cell at the end", table(NO_HEADER, "Tides;Press;2901-0012;1995;\n"), SERVED)
+        for end in (";", "; ", ";;\xa0"):
+            text = f"Tides;Press;2901-0012;1995{end}\n"
+            self.expect(f"empty cells at the end, {end!r}", table(NO_HEADER, text), SERVED)
+        title = "Tides, a, b, c, d"
+        text = f"{title};Press;2901-0012;1995\n"
+        self.expect("more of another one", table(NO_HEADER, text), SERVED.replace("Tides", title))
 
     def test_widths(self) -> None:
         says = (

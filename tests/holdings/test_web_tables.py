@@ -67,6 +67,10 @@ class Tables(Case):
             ("a condition of a browser", "<td>Ti<![if !vml]>des<![endif]>", "Tides"),
             ("an instruction", "<td>Ti<?xml x?>des", "Tides"),
             ("a script", "<td>Ti<script>if (a < b) { '</td>' }</script>des", "Tides"),
+            ("a script that ends in capitals", "<td>Ti<script>x</SCRIPT>des", "Tides"),
+            ("a template", "<td>Ti<template><td>x</template>des", "Tides"),
+            ("a list", "<td><li>Tides<li>and Piers", "Tides and Piers"),
+            ("a span of none", "<td colspan=0 rowspan='0'>Tides", "Tides"),
             ("a sign in quotes", "<td title='a > b'>Tides", "Tides"),
             ("a lone sign", "<td>1 < 2", "1 < 2"),
             ("capitals", "<TD>Tides</TD>", "Tides"),
@@ -80,7 +84,7 @@ class Tables(Case):
     def test_spans(self) -> None:
         rows = (
             "<tr><td rowspan=3>Tides<td rowspan='2'>2901-0012<td>2908-0142<td>a</tr>"
-            "<tr><td colspan=2>b</tr><tr><td>2915-0272<td><td>c</tr><tr><td>d<td>2922-0408</tr>"
+            "<tr><td COLSPAN=2>b</tr><tr><td>2915-0272<td><td>c</tr><tr><td>d<td>2922-0408</tr>"
         )
         wanted = [
             ["Tides", "2901-0012", "2908-0142", "a"],
@@ -103,6 +107,12 @@ class Tables(Case):
                 "<td><a href='https://a.example.com/'>https://b.example.com/</a>",
                 "https://b.example.com/",
             ),
+            ("capitals", "<td><A HREF='HTTPS://a.example.com/'>open</A>", "HTTPS://a.example.com/"),
+            (
+                "its text is one in capitals",
+                "<td><a href='https://a.example.com/'>HTTPS://b.example.com/</a>",
+                "HTTPS://b.example.com/",
+            ),
             ("no web address", "<td><a href='javascript:alert(1)'>open</a>", "open"),
             (
                 "the first of two",
@@ -121,6 +131,8 @@ class Tables(Case):
         self.expect("one row is no table", read(f"<table>{HEAD}</table>"), "a web page without a table")
         self.expect("none", read("<html><p>Sign in</p></html>"), "a web page without a table")
         self.expect("a login", read(LOGIN), "a web page that asks for a password")
+        loud = LOGIN.replace("type=password", "TYPE = 'PASSWORD'")
+        self.expect("a login in capitals", read(loud), "a web page that asks for a password")
         self.expect("a login beside one", read(PAGE + LOGIN), "a web page that asks for a password")
         self.expect("a search beside one", read(PAGE + "<input type=search>"), read(PAGE))
         says = "a web page with 2 tables, of which {} have a header of known names"
