@@ -10,6 +10,7 @@ from holdings.shapes import PLAIN
 from holdings.shapes import tabs
 from openlink_update import target_options
 from openlink_update.outcome import Refused
+from openlink_update.received import column_names
 from openlink_update.tables import preparation
 
 GERMAN = "Titel;ISSN, print;Verlag;Beginn\nTides;2901-0012;Press;1995\n"
@@ -67,6 +68,14 @@ class Names(Case):
         self.expect(
             "spaces in it", table('columns "ISSN print"=publication_title', text).split("\t")[0], "publication_title"
         )
+
+    def test_two_spellings(self) -> None:
+        """The first of two spellings of a name gets it, unless a column has the name itself."""
+        for cells, wanted in (
+            (["Print Identifier", "print-identifier"], ["print_identifier", "print-identifier"]),
+            (["Print Identifier", "print_identifier"], ["Print Identifier", "print_identifier"]),
+        ):
+            self.expect(f"{cells}", column_names.spelled(cells), wanted)
 
     def test_kbart_names_stay(self) -> None:
         text = PLAIN.replace("|", "\t").replace("title_url", "Link")

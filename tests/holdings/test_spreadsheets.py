@@ -105,6 +105,9 @@ class Sheets(Case):
             self.expect(f"spaces around {name!r}", read(spaces, Options(sheet=name)), SERVED)
         hidden = archive_of(xlsx_members({"Lists": [["x"]], "Titles": ROWS}, hidden=["Lists"]))
         self.expect("the first that people see", read(hidden), SERVED)
+        members = xlsx_members({"Lists": [["x"]], "Titles": ROWS}, hidden=["Lists"])
+        text = str(members["xl/workbook.xml"]).replace('"hidden"', '"veryHidden"')
+        self.expect("beside one that no menu shows", read(archive_of({**members, "xl/workbook.xml": text})), SERVED)
         unsafe = archive_of(xlsx_members({"a\u202eb\u0085c" + "x" * 99: ROWS}))
         self.expect("an unsafe name", read(unsafe, Options(sheet="b")), f'no sheet "b"; it has: "a?b?c{"x" * 35}.."')
 
@@ -155,6 +158,8 @@ class Cells(Case):
         row = (
             '<row><c r="B9" t="str"><v>2915-0272</v></c><c t="str"><v>x</v></c><c r="A9" t="str"><v>Piers</v></c></row>'
         )
+        small = '<row><c r="b9" t="str"><v>2915-0272</v></c><c r="a9" t="str"><v>Piers</v></c></row>'
+        self.expect("in small letters", read(of_sheet(small)), [ROW, ["Piers", "2915-0272"]])
         self.expect("in another order", read(of_sheet(row)), [ROW, ["Piers", "2915-0272", "x"]])
         for place in ("1", "Ä1", "$A$1", "A-1"):
             got = read(of_sheet(f'<row><c r="{place}"><v>1</v></c></row>'))
@@ -181,6 +186,11 @@ class Cells(Case):
                 "<table:table-cell office:value-type='float' office:value='1234.0'><text:p>1,234</text:p><"
                 "/table:table-cell>",
                 "1234",
+            ),
+            (
+                "an ISBN as a number",
+                "<table:table-cell office:value-type='float' office:value='9780306406157'/>",
+                "9780306406157",
             ),
             (
                 "a table in it",
