@@ -23,17 +23,17 @@ WAITS = re.compile(r"it calls .*which (?:is|are) not proved")
 # A name in a proof that the edit took away says nothing of a contract.
 NAMES = re.compile(r"has no field|is not in scope|has no `|was not admitted")
 EMPTY = "{}"
-# The type of an `impl` block.
-IMPLEMENTED = re.compile(r"(?:unsafe )?impl(?:<[^{]*?>)? (?:[^{]*? for )?&?(\w+)")
+# The trait of an `impl` block, if it has one, and its type.
+IMPLEMENTED = re.compile(r"(?:unsafe )?impl(?:<[^{]*?>)? (?:(?:\w+::)*(\w+)[^{]*? for )?&?(?:'\w+ )?(\w+)")
 
 
 @dataclasses.dataclass(frozen=True)
 class Function:
-    """The function that an edit changes: its file in the crate, the type of its `impl` block or '', its name, its first
-    and last line, and whether the edit changes the contract."""
+    """The function that an edit changes: its file in the crate, the form of the name of its `impl` block, its name, its
+    first and last line, and whether the edit changes the contract."""
 
     path: str
-    of: str
+    block: str
     name: str
     first: int
     last: int
@@ -48,14 +48,12 @@ class Function:
         if path == self.path:
             return self.first <= line <= self.last
         module = "/".join(["proofs", *self._modules(), ""])
-        return path.startswith(module) and self._is_here(path[len(module) :].split("/")[: 2 if self.of else 1])
+        return path.startswith(module) and self._is_here(path[len(module) :].split("/")[: 2 if self.block else 1])
 
     def _is_here(self, names: list[str]) -> bool:
         """Whether these names, of a block and a function, are its own."""
-        # The implementation of a trait for `Fault` has a name such as `FaultFromAllocError`.
         *block, name = names
-        is_block = len(block) == 1 and block[0].startswith(self.of) if self.of else not block
-        return is_block and name == self.name
+        return re.fullmatch(self.block, "::".join(block)) is not None and name == self.name
 
     def is_named(self, name: str) -> bool:
         """Whether the toolchain may mean this function by a name such as `crate::module::Type::name`."""
@@ -66,16 +64,17 @@ class Function:
 
 def functions_in(text: str) -> list[tuple[int, int, int, str, str]]:
     """The functions of a source: the lines, counted from 0, of the beginning, of the end of the contract and after the
-    body, the type of the `impl` block, and the name."""
-    lines, found, of = text.split("\n"), [], ""
+    body, the form of the name of the `impl` block, and the name."""
+    lines, found, block = text.split("\n"), [], ""
     for at, line in enumerate(lines):
-        if block := IMPLEMENTED.match(line):
-            of = block[1]
+        if implemented := IMPLEMENTED.match(line):
+            # That of `From<AllocError>` for `Fault` has the name `FaultFromAllocError`.
+            block = implemented[2] + (rf"{implemented[1]}\w*" if implemented[1] else "")
         elif line == "}":
-            of = ""
+            block = ""
         if begins := FUNCTION.match(line):
             head, end = head_from(lines, at, begins[1])
-            found.append((at, at + len(head), end, of, begins[0].split()[-1]))
+            found.append((at, at + len(head), end, block, begins[0].split()[-1]))
     return found
 
 
@@ -91,10 +90,10 @@ def function_of(crate: str, path: str) -> Function | None:
         found = functions_in(edit.before[file])
     except ValueError:
         return None
-    for first, body, end, of, name in found:
+    for first, body, end, block, name in found:
         is_law = old[end - 1].strip().endswith(EMPTY)
         if changed <= {*range(first + 1 if is_law else body, end)}:
-            return Function(file, of, name, first + 1, end, is_law)
+            return Function(file, block, name, first + 1, end, is_law)
     return None
 
 

@@ -41,7 +41,7 @@ pub fn numbers_stay()
     ensures { (n : ℕ) → n ≡ n }
 {}
 """
-ONE_EACH = ("True, False, False", "False, True, False", "False, False, True")
+ONE_EACH = ("True, False, False, False", "False, True, False, False", "False, False, True, False")
 EDITS = {
     "low": ("src/code.rt", "    n + 0", "    n + wrong"),
     "low_again": ("src/code.rt", "    n + 0", "    wrong"),
@@ -72,10 +72,10 @@ MEANT = """import sys
 sys.dont_write_bytecode = True
 sys.path[:0] = ["edits", "tools/prove"]
 from together import Function
-for of in "", "Low", "High":
-    new = Function("src/code/inner.rt", of, "new", 1, 2, False)
-    print([new.is_named(f"a::code::inner::{it}new") for it in ("", "Low::", "HighFromLow::")],
-          [new.is_at(f"proofs/code/inner/{it}new/Answers.antt", 1) for it in ("", "Low/", "HighFromLow/")],
+for block in "", "Low", r"HighFrom\\w*":
+    new = Function("src/code/inner.rt", block, "new", 1, 2, False)
+    print([new.is_named(f"a::code::inner::{it}new") for it in ("", "Low::", "HighFromLow::", "Lower::")],
+          [new.is_at(f"proofs/code/inner/{it}new/Answers.antt", 1) for it in ("", "Low/", "HighFromLow/", "Lower/")],
           new.is_named("a::code::new"), new.is_at("src/code/inner.rt", 2), new.is_at("src/code/inner.rt", 3))"""
 TRY = """import json, sys
 sys.dont_write_bytecode = True
