@@ -423,6 +423,14 @@ class Bugs(Repository):
             self.write(f"packaging/{name}", f"{first}\n{COMMANDS}")
             self.expect(f"{name}, {first}", self.given("tools/plant", "--list", f"packaging/{name}")[0], 2)
 
+    def test_values_that_count_as_none(self) -> None:
+        """What a function returns is not left out where nothing, or what is undefined, is as good."""
+        self.write("update/a.py", "def f(a):\n    if a: return None\n    return True\n")
+        self.write("front_door/b.js", "function g(a) {\n    if (a) return false;\n    return true;\n}\n")
+        for path, left in (("update/a.py", ["return True"]), ("front_door/b.js", ["return true;"])):
+            text = self.given("tools/plant", "--list", path)[1]
+            self.expect(path, re.findall(r": return: .*\n  - (.*)$", text, re.M), left)
+
     def test_python_that_no_run_sees(self) -> None:
         text = (
             '"""Text."""\nfrom a import b\n\n__all__ = ["b"]\n\n\n@d(1)\ndef f(a: "int") -> "int":\n    """More."""\n'
@@ -499,6 +507,17 @@ class Coverage(Repository):
         said = self.given("tools/coverage")[1]
         self.expect_lines("the other", said, "update/openlink_update/numbers.py: 100.0")
         self.expect("it is not run", "test_times" in said, False)
+
+    def test_the_longest_are_first(self) -> None:
+        """But before them those that were never measured."""
+        names = ["update.test_new", "update.test_slow", "update.test_quick"]
+        for name in names:
+            self.write(f"tests/{name.replace('.', '/')}.py", TEST)
+        seconds = {"update.test_quick": 1, "update.test_slow": 2}
+        self.write("tools/out/lines.json", json.dumps({"seconds": seconds, "runs": {}, "texts": {}}))
+        process = self.start("tools/coverage", *sorted([*names, *names], reverse=True), OPENLINK_JOBS="1")
+        said = process.communicate()[0]
+        self.expect("the order", re.findall(r"^(\S+): passed", said, re.M), names)
 
     def test_processes_that_do_not_end_as_others(self) -> None:
         """Lines count that run in a process which ends at once, or before it becomes a program, though it closes all

@@ -12,6 +12,7 @@ _BOTH = {"&&": "||", "||": "&&"}
 _WORDS = {"if", "for", "while", "switch", "catch", "function", "return", "typeof", "await", "new", "throw"}
 _ANY_ORDER = {"max", "min"}  # of arguments
 _METHODS = {"trim", "toLowerCase", "toUpperCase", "reverse", "sort"}
+_NO_VALUES = {"return;", "return undefined;", "return false;"}  # what is undefined is as false
 
 
 class _File:
@@ -109,7 +110,7 @@ def _of_statement(file: _File, at: int) -> Iterator[Bug]:
         yield file.bug("exception", at, end, ";")
     elif token.text in ("continue", "break"):
         yield file.bug("condition", at, end, ";")
-    elif token.text == "return" and file.between(at, end) not in ("return;", "return undefined;"):
+    elif token.text == "return" and file.between(at, end) not in _NO_VALUES:
         yield file.bug("return", at, end, "return;")
     elif token.kind == "name" and token.text not in ("const", "let", "return") and file.tokens[end - 1].text == ")":
         # A statement that ends with a bracket is a call, or the value of one is assigned.
