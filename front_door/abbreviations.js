@@ -8,6 +8,7 @@ import titles from './titles.js';
 
 const is = texts.is;
 const NONE = [];
+const MOST_OF_A_PUBLISHER = 60;     // characters: the index has no more
 const BRACKETS = /[(\[][^()\[\]]*[)\]]/g;
 const APOSTROPHES = ["'", '`', '\u2018', '\u2019', '\xb4'];
 const STOP = ' a an and the of in on for to at by with from as or der die das des dem den und fur fuer im zur zum von'
@@ -63,7 +64,7 @@ function agrees(q, cells) {
     const years = cells[5].split(' ');
     const year = dates.dateOf(q.first('rft.date')).slice(0, 4);
     const isWithin = year !== '' && (years[0] === '-' || years[0] <= year) && (years[1] === '-' || year <= years[1]);
-    const publisher = titles.keyOf(q.first('rft.pub'));
+    const publisher = titles.keyOf(q.first('rft.pub').slice(0, MOST_OF_A_PUBLISHER));
     const prefix = q.first('x.doi').split('/')[0];
     const isKnown = (sign) => sign === publisher || sign === prefix;
     return (isWithin && years[0] !== '-') || (year === '' || isWithin) && cells.slice(6).some(isKnown);

@@ -22,12 +22,13 @@ const TITLE_KEYS = ['rft.jtitle', 'rft.btitle', 'rft.title', 'rft.stitle'];
 
 function numbersOf(value, kind) { return numbers.numbersIn(replies.listOf(value, 8).map(textOf), kind, 4); }
 
-// Year, month and day of Crossref as a date; '' without a year.
+// Year, month and day of Crossref as a date, as far as they are known in this order; '' without a year.
 function dateOf(issued) {
     const all = own(recordOf(issued), 'date-parts');
     const parts = Array.isArray(all) ? replies.listOf(all[0], 3).map(textOf) : NONE;
-    if (!is(/^[12]\d{3}$/, parts[0] || '')) return '';
-    return parts.slice(0, 1).concat(parts.slice(1).filter(Boolean).map((part) => ('0' + part).slice(-2))).join('-');
+    const known = parts.includes('') ? parts.slice(0, parts.indexOf('')) : parts;
+    if (!is(/^[12]\d{3}$/, known[0] || '')) return '';
+    return known.slice(0, 1).concat(known.slice(1).map((part) => ('0' + part).slice(-2))).join('-');
 }
 
 // Each of these gives a record: what fills in the fields of a request, and the notices.

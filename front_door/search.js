@@ -10,6 +10,7 @@ const NONE = [];
 const PAGE = index.PAGE;    // titles of a page of the list, and of a search
 const MOST_FEW = 64;        // places in the lines of a beginning that is in few titles
 const MOST_WORDS = 6;
+const MOST_LETTERS = 60;    // of a word: the index has no more
 const MOST_CHECKS = 2000;   // places of the rarest word
 
 // ---------------------------------------------------------------- Words
@@ -119,7 +120,8 @@ async function search(r, kind, text, page) {
         return { titles: part.its, page: part.page, pages: part.pages, count: ofKind.length, isMore: false };
     }
     const words = titles.wordsOf(text);
-    const sought = words.filter((word, i) => word.length > 1 && words.indexOf(word) === i).slice(0, MOST_WORDS);
+    const known = words.map((word) => word.slice(0, MOST_LETTERS));
+    const sought = known.filter((word, i) => word.length > 1 && known.indexOf(word) === i).slice(0, MOST_WORDS);
     if (sought.length === 0) return null;
     const letters = await index.lettersOf(r, kind);
     if (letters === null) return { titles: NONE, page: 1, pages: 1, count: 0, isMore: false };

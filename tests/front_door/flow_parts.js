@@ -46,6 +46,7 @@ function valuesOf(q, expected) {
 // The titles of an index by their keys.
 const TIDES = 'j\tTides\t2901-0012 2908-0142\ta 0';
 const SILT = 'b\tSilt\t0198534531\tb 0';
+const THREE = 'j\tThree\t2915-0016 2915-0024 2915-0032\t';
 const TITLES = {
     '=tides': [TIDES], '2901-0012': [TIDES], '2908-0142': [TIDES], '=silt': [SILT], 9780198534532: [SILT],
     '=both': ['j\tBoth\t2950-0013\t', 'b\tBoth\t9781234560102\t'], '=two': ['j\tTwo\t2960-0014\t',
@@ -53,7 +54,11 @@ const TITLES = {
     '=sea and coast': ['j\tSea and coast\t2980-0016\t'], '=kuste': ['j\tK\u00fcste\t2990-0017\t'],
     '~tides studies': ['j\tTides studies: x\t2930-0018\t'], '~two': ['j\tTwo: x\t2920-0019\t'],
     '=sued': ['j\tSued\t2910-0011\t'], '2950-0013': ['j\tBoth\t2950-0013\t'],
-    9781234560874: ['b\tSeries\t9781234560874 2940-0011\t']
+    9781234560874: ['b\tSeries\t9781234560874 2940-0011\t'],
+    '=three': [THREE], '2915-0016': [THREE],
+    '2925-0019': ['j\tSeven\t2925-0019 2925-0027 2925-0035 2925-0043 2925-0051 2925-006X 2925-0078\t'],
+    '2935-0011': ['j\tOne\t2935-0011 2935-0038\t', 'j\tOther\t2935-0011 2935-0038\t'],
+    9781234560102: ['b\tBoth\t9781234560102\t'], 9780804429573: ['b\tForms\t080442957X 9780804429573\t']
 };
 
 // ---------------------------------------------------------------- Services
@@ -73,11 +78,16 @@ const CROSSREF = ['book', 'monograph', 'edited-book', 'reference-book', 'proceed
     [DOI, work('', { issued: { 'date-parts': [[2003, 12]] } }), 'date=2003-12'],
     [DOI, work('', { issued: { 'date-parts': [[2003]] } }), 'date=2003'],
     [DOI, work('', { issued: { 'date-parts': [[null]] } }), 'date='],
+    [DOI, work('', { issued: { 'date-parts': [[2003, null, 5]] } }), 'date=2003'],
     [DOI, work('', { issued: { 'date-parts': [[3003]] } }), 'date='], [DOI, work('', { issued: 7 }), 'date='],
     [DOI, work('', { author: AUTHOR, volume: '12', issue: '3', page: '45-67' }),
         'aulast=Li|aufirst=Wei|volume=12|issue=3|pages=45-67|spage=45'],
     [DOI, work('', { ISSN: ['2901-0012', '2908-0142'], ISBN: ['9781234560102'] }),
         'issn=2901-0012+2908-0142|x.issn=2901-0012|isbn=9781234560102'],
+    // four numbers, and eight texts
+    [DOI, work('', { ISSN: ['2901-0012', '2908-0142', '0028-0836', '2434-561X', '2957-1057'] }),
+        'issn=2901-0012+2908-0142+0028-0836+2434-561X'],
+    [DOI, work('', { ISSN: ['', '', '', '', '', '', '', '2901-0012', '2908-0142'] }), 'issn=2901-0012'],
     // what a request says stays
     [DOI + '&spage=7', work('', { page: '45-67' }), 'pages=|spage=7'],
     [DOI + '&pages=7-9', work('', { page: '45-67' }), 'pages=7-9|spage=7'],
@@ -94,7 +104,11 @@ const CROSSREF = ['book', 'monograph', 'edited-book', 'reference-book', 'proceed
     [DOI + '&volume=1', work('', { volume: '12', issue: '3' }), 'volume=1|issue=3'],
     [DOI + '&atitle=Sand', work('journal-article'), 'atitle=Sand|jtitle=Tides'],
     [DOI + '&genre=book', work('journal-article'), 'genre=book'],
-    [DOI + '&eisbn=9781234560102', work('', { ISSN: ['2901-0012'] }), 'issn=']
+    [DOI + '&eisbn=9781234560102', work('', { ISSN: ['2901-0012'] }), 'issn='],
+    // up to four numbers of a kind, and a thousand characters of a text
+    [DOI, work('', { ISBN: ['9781234560102', '9781234560874', '9780198534532'] }),
+        'isbn=9781234560102+9781234560874+9780198534532'],
+    [DOI, work('', { title: ['a'.repeat(1001)] }), 'atitle=' + 'a'.repeat(1000)]
 ]);
 const SUMMARY = {
     uid: '12', title: 'Silt.', fulljournalname: 'Tides', issn: '2901-0012', essn: '2908-0142', volume: '12', issue: '3',
@@ -112,6 +126,10 @@ const NCBI = [
     ['id=pmid:12', summary({ title: '' }), 'genre=|atitle='], ['id=pmid:12', summary({ title: 'Why?' }), 'atitle=Why?'],
     ['id=pmid:12', summary({ authors: [{ name: 'Tide Group' }] }), 'aulast=Tide Group'],
     ['id=pmid:12', summary({ authors: [{ name: 'de Wit J' }] }), 'aulast=de Wit'],
+    ['id=pmid:12', summary({ authors: [{ name: 'Li WXY' }] }), 'aulast=Li'],
+    ['id=pmid:12', summary({ authors: [{ name: 'Group WXYZ' }] }), 'aulast=Group WXYZ'],
+    ['id=pmid:12', summary({ title: 'St. Ives and its tides.' }), 'atitle=St. Ives and its tides'],
+    ['rft_id=PMC7', summary({ articleids: [{ idtype: 'doi', value: '10.5555/' + 'a'.repeat(293) }] }), 'x.doi='],
     ['rft_id=PMC7', summary({ articleids: [{ idtype: 'pmid', value: 'x' }, { idtype: 'doi', value: '7' }] }),
         'x.pmid=|x.doi='],
     ['id=pmid:12', { result: { uids: ['13'] } }, 'atitle='], ['id=pmid:12', 7, 'atitle=']
@@ -133,13 +151,23 @@ const INDEXED = [
     [DOI + '&jtitle=Nothing', work('journal-article'), 'jtitle=Nothing|atitle=Silt'],
     [DOI + '&rft.title=Nothing', work('journal-article'), 'jtitle=|title=Nothing|atitle=Silt'],
     [DOI + '&issn=1000-0010&jtitle=Nothing', work('journal-article', { ISSN: ['1000-0010', '2908-0142'] }),
-        'x.issn=1000-0010|eissn=2908-0142'],
+        'x.issn=1000-0010|eissn=2908-0142|x.eissn=2908-0142'],
     [DOI + '&issn=1000-0010&eissn=1000-0029&jtitle=Nothing', work('journal-article', { ISSN: ['2908-0142'] }),
         'x.issn=1000-0010|eissn=1000-0029'],
     [DOI + '&issn=1000-0010&jtitle=Nothing', work('journal-article', { ISBN: ['9780198534532'] }), 'isbn='],
     [DOI + '&jtitle=Nothing', work('journal-article', { 'container-title': ['Two'], title: [] }),
         'issn=|jtitle=Nothing'],
-    ['rft_id=PMC7', summary({ articleids: [{ idtype: 'doi', value: 'pmid:7' }] }), 'x.doi=|x.issn=2901-0012']
+    ['rft_id=PMC7', summary({ articleids: [{ idtype: 'doi', value: 'pmid:7' }] }), 'x.doi=|x.issn=2901-0012'],
+    // a request whose title the index does not know gets the numbers of the one title of its kind that the reply names
+    [DOI + '&jtitle=Nothing', work('journal-article'), 'issn=2901-0012|eissn=2908-0142|x.issn=2901-0012'],
+    [DOI + '&btitle=Nothing', work('book'), 'x.isbn=9780198534532'],
+    [DOI + '&jtitle=Nothing', work('journal-article', { 'container-title': ['Both'] }), 'x.issn=2950-0013'],
+    [DOI + '&issn=1000-0010&jtitle=Nothing', work('journal-article'), 'issn=1000-0010|eissn=|x.issn=1000-0010'],
+    [DOI + '&rft.title=Nothing', work('book'), 'btitle=|title=Nothing|x.isbn=9780198534532'],
+    // the numbers of the reply come after those of the request, each once
+    [DOI + '&isbn=9781000000009&btitle=Nothing', work('book', { ISBN: ['9781000000009', '9780198534532'] }),
+        'isbn=9781000000009+9780198534532|x.isbn=9781000000009'],
+    ['id=pmid:12&issn=1000-0010&jtitle=Nothing', summary({ issn: '1000-0010' }), 'issn=1000-0010|eissn=2908-0142']
 ];
 // A request, the variables of the site, and the path of the proxy that is asked.
 const ASKED = [
@@ -168,6 +196,7 @@ async function testServices(expect) {
         replyWith(INDEXED[i][1]);
         const q = await completion.queryOf(requestWith(INDEXED[i][0], TITLES, MORE));
         expect('beside the index, ' + INDEXED[i][0] + ' ' + i, valuesOf(q, INDEXED[i][2]), INDEXED[i][2]);
+        expect('asked once, ' + i, paths.length, 1);
     }
     for (let i = 0; i < ASKED.length; i++) {
         replyWith(null);
@@ -189,7 +218,8 @@ const COMPLETED = [
     ['isbn=9781234560874', 'eissn=|issn=|further=2940-0011'], ['jtitle=S%C3%BCd', 'issn=|meant=Sued'],
     ['jtitle=Silt', 'x.isbn=|known=title|meant=Silt'], ['jtitle=Nothing', 'known=title|meant='],
     ['jtitle=Nothing&title=Tides', 'issn=2901-0012|known=number'],
-    ['issn=2901-0012', 'jtitle=Tides|eissn=2908-0142|known=number'], ['issn=2908-0142', 'eissn=2901-0012|jtitle=Tides'],
+    ['issn=2901-0012', 'jtitle=Tides|eissn=2908-0142|known=number|further='],
+    ['issn=2908-0142', 'eissn=2901-0012|jtitle=Tides'],
     ['issn=2901-0012&rft.title=x', 'jtitle=|known=number'], ['isbn=9780198534532',
         'btitle=Silt|x.isbn=9780198534532|known=number'],
     ['issn=1000-0010', 'jtitle=|eissn=|known=number'], ['id=doi:10.5555/abc', 'known=identifier'], ['id=pmid:12',
@@ -198,9 +228,27 @@ const COMPLETED = [
     ['id=doi:10.1007/978-0-19-853453-2_3', 'x.isbn=9780198534532|btitle=Silt|known=number'],
     ['id=doi:10.1007/9780198534533', 'x.isbn=|known=identifier'],
     ['jtitle=Sea+und+coast', 'issn=|meant=Sea and coast|known=title'], ['jtitle=Sea+et+coast', 'meant=Sea and coast'],
+    ['title=K%C3%BCste', 'rft_val_fmt=info:ofi/fmt:kev:mtx:journal|issn=2990-0017|jtitle=Küste'],
+    ['title=Silt', 'rft_val_fmt=info:ofi/fmt:kev:mtx:book|x.isbn=9780198534532|btitle=Silt'],
     ['jtitle=K%C3%BCste', 'issn=2990-0017'], ['jtitle=Kueste', 'meant='], ['jtitle=Tides+studies',
         'meant=Tides studies: x'],
-    ['jtitle=Tides+studies:+y', 'meant=Tides studies: x'], ['jtitle=Tides:+y', 'meant=Tides']
+    ['jtitle=Tides+studies:+y', 'meant=Tides studies: x'], ['jtitle=Tides:+y', 'meant=Tides'],
+    // one number of each kind for the title, the others by two further queries of two ISSNs or one ISBN each
+    ['jtitle=Three', 'issn=2915-0016|eissn=2915-0024|further=2915-0032'],
+    ['issn=2925-0019', 'eissn=2925-0027|further=2925-0035 2925-0043,2925-0051 2925-006X'],
+    ['issn=2935-0011&eissn=1000-0029', 'titles=One Other|further=2935-0038'],
+    ['isbn=9780804429573', 'isbn=9780804429573|further=9780804429573'],
+    ['rft.isbn=9781234560874&rft.isbn=9781000000009', 'titles=Series|further=2940-0011'],
+    ['rft.isbn=9781000000009&rft.isbn=9781234560102', 'titles=Both|further=9781234560102'],
+    // the title that a DOI has by its ISBN comes after that of the numbers, which stay
+    ['issn=2901-0012&id=doi:10.1007/978-0-19-853453-2_3', 'x.isbn=|titles=Tides Silt|further=9780198534532'],
+    ['id=doi:10.1007/12-9780198534532', 'x.isbn=|known=identifier'], ['id=doi:10.1007/19780198534532',
+        'x.isbn=|known=identifier'],
+    // what a request says of its format and its title stays, and each of its titles counts
+    ['rft_val_fmt=info:ofi/fmt:kev:mtx:dc&title=Silt', 'rft_val_fmt=info:ofi/fmt:kev:mtx:dc|x.isbn=9780198534532'],
+    ['issn=2901-0012&stitle=Tid', 'jtitle=|stitle=Tid'],
+    ['genre=book&rft.title=Both&rft.btitle=Silt', 'x.isbn=9780198534532'],
+    ['jtitle=Nothing&title=Tides+studies', 'meant=Tides studies: x']
 ];
 async function testIndex(expect) {
     const read = (q, expected) => expected.split('|').map((pair) => pair.slice(0, pair.indexOf('='))).map((name) => {

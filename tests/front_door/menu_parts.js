@@ -108,7 +108,18 @@ function ofAddresses() {
     const offered = [{ target: 'z', label: 'journal at z', url: 'https://z/', covered: '' }];
     const groups = menus.groupsOf(linksOf(A + C + 'x/y\thttps://x/\n'), site);
     const to = (q, target) => (menus.linkTo(q, groups, target) || { url: 'none' }).url;
+    const hasProblem = (words) => pageOf(queryOf('a=b'), [], siteOf({ words: Object.assign({}, WORDS, words) }))
+        .includes('class="problem"');
+    const letters = 'abdefghijklmnopqrstuvwxyz0123456'.split('');
+    const many = (length) => addressesIn(mainOf(pageOf(queryOf('a=' + 'b'.repeat(length - 2)), linksOf(letters.map(
+        (name) => name + '\thttps://b/\n').join('')), inSite()))).filter((it) => it.startsWith('/go')).length;
     return [
+        ['forms of the address of a problem', ['https://p/{}', 'xhttps://p/{}', 'javascript:"https://p/{}"',
+            'https://p/{} x'].map((problemLink) => hasProblem({ problemLink })).join(), 'true,false,false,false'],
+        ['a problem without a text', hasProblem({ problem: '' }), false],
+        ['links that are counted, up to 65,536 bytes', [many(2048), many(2049)].join(), '32,0'],
+        ['a page of the title alone, counted', addressesIn(mainOf(pageOf(queryOf('a=b', { offered: [{ target: 'z',
+            label: 'journal at z', url: 'https://z/', covered: '' }] }), [], inSite())))[0], '/go?target=z&a=b'],
         ['addresses of a page', plain.map((it) => it.split('&quot;').join('"').split('&#39;').join("'")).join(' '),
             `https://a/ /cite?${args} /find.ris?${args} /find?${args} mailto:a@e.org?subject=a&body=${request}`],
         ['in a language that was chosen', chosen.slice(0, 4).join(' '),
@@ -187,12 +198,19 @@ function ofSaid() {
         { related })] }), [], site));
     return found.concat([
         ['the rows of the first group', held.includes('N held a: 1990-1993 ') && !held.includes('since 19'), true],
+        ['the rows of two titles', text(ISSN, { knowledge: 'number', titles: [HELD[0], titleOf('j', 'Coasts',
+            ['2908-0142'], ['a 1 1990'])] }, '').includes('N held a: since 1995 a: since 1990'), true],
+        ['titles before and after the first of two', asText(mainOf(pageOf(queryOf(ISSN, { titles: [titleOf('j', 'Tides',
+            ['2901-0012'], [], { related }), HELD[0]] }), [], site))).includes('Later Coasts Earlier Silt'), true],
         ['no rows beside another notice', text(WHOLE, { knowledge: 'number', titles: HELD }, '').includes('since'),
             false],
         ['a site without groups', text(ISSN, { knowledge: 'number', titles: HELD }, '', { groups: undefined })
             .includes('N held a: since 1995'), true],
         ['the book that gave the number', text(ISSN, { byTitle: titleOf('b', 'Silt', ['0198534531'], [], { standard:
             ['9780198534532'] }) }, A).includes('By Silt, ISBN 9780198534532!'), true],
+        ['titles that a request of 3,000 bytes and one of 3,001 may mean', [2986, 2987].map((length) => addressesIn(
+            mainOf(pageOf(queryOf('title=Tides&a=' + 'b'.repeat(length), { maybe: MAYBE }), [], site)))[0]
+            .includes('a=bb')).join(), 'true,false'],
         ['titles that a long request may mean', addressesIn(mainOf(pageOf(queryOf('title=Tides&a=' + 'b'.repeat(3000),
             { maybe: MAYBE }), [], site)))[0], '/find?rft.genre=journal&rft.issn=2901-0012'],
         ['the title that gave the number', text(ISSN, { byTitle }, A).includes('By Tides, ISSN 2901-0012!'), true],
@@ -240,6 +258,8 @@ function ofHeadings() {
         ['a site without groups', heading(page('a', 'Silt', { groups: undefined })), 'Silt'],
         ['a site without the text', heading(page('a', 'Silt', { words: {} })), 'a'],
         ['the heading of a journal', heading(pageOf(queryOf('jtitle=Tides'), [], siteOf())), 'Tides'],
+        ['200 characters of a title', heading(page('', 'a'.repeat(200))), 'a'.repeat(200)],
+        ['201 characters of a title', heading(page('', 'a'.repeat(201))), 'a'.repeat(199) + '\u2026'],
         ['the title of a page', titleIn(page('a', 'Silt')), 'Silt'], ['of a journal',
             titleIn(pageOf(queryOf('jtitle=Tides'), [], siteOf())), 'Tides'],
         ['a hundred characters of it', titleIn(page('', 'a'.repeat(101))), 'a'.repeat(100)]
@@ -262,6 +282,8 @@ const OFFERS = [
     [ISSN, ['z 0 1995'], [PAGE], 'a', 'z journal at z, since 1995'], [ISSN, ['y 0 1995'], [PAGE], '', ''], [ISSN, [],
     [PAGE], '', ''],
     [ISSN, ['z 0 1995', 'z.2 4 1995', 'z 3 - 1990'], [PAGE], '', 'z journal at z, since 1995; until 1990'],
+    [ISSN, ['z 0 1991 1991', 'z 1 1992 1992', 'z 2 1993 1993', 'z 3 1994 1994', 'z 4 1995 1995'], [PAGE], '',
+        'z journal at z, 1991; 1992; 1993; 1994'],
     [ISSN, ['z 0'], [{ target: 'z', url: 'http://z/' }], '', ''], [ISSN, ['z 0'], [{ target: 'z',
         url: 'https://z/ a' }], '', ''],
     [ISSN, ['z 0'], [PAGE, { target: 'z', url: 'https://other/' }], '', 'z journal at z'], [ISSN, ['z 0'], [], '', '']

@@ -177,6 +177,12 @@ function ofTitles(site) {
             true],
         ['four numbers', lists.titleHtml(issn, site,
             '').includes('<p>ISSN 2901-0012, ISSN 2908-0142, ISBN 1, ISBN 2</p>'), true],
+        ['a book with an ISSN', address(titleOf('b', 'Silt', ['2901-0012'], ['2901-0012']), ''),
+            '/find?rft.genre=book&amp;rft.issn=2901-0012'],
+        ['twelve rows', asText(lists.rowsHtml(titleOf('j', 'Tides', [], [], 'abcdefghijklm'.split('').map((name) => name
+            + ' 0')), site)), 'a b c d e f g h i j k l'],
+        ['a date that is none', asText(lists.rowsHtml(titleOf('j', 'Tides', [], [], ['a 0 <b>']), site)),
+            'a: since &lt;b&gt;'],
         ['rows, each once', rows(), 'a: since 1995 b: until 2003 c'], ['rows of one target',
             rows((row) => row.target === 'b'), 'b: until 2003'],
         ['no rows', lists.rowsHtml(isbn, site), '']
@@ -275,6 +281,7 @@ function dataWith(list) {
 
 // ---------------------------------------------------------------- Free copies
 const LABEL_63 = 'a'.repeat(63);
+const LONG_HOST = (LABEL_63 + '.').repeat(3) + 'a'.repeat(56);  // with `a.org` it has 253 characters
 // An address, and its host if a reader may follow it (RFC 3986, RFC 1123; ICANN's reserved names).
 const HOSTS = [
     ['https://e.org/a', 'e.org'], ['https://E.ORG', 'e.org'], ['https://a.b-c.example.edu/x?y#z', 'a.b-c.example.edu'],
@@ -282,6 +289,8 @@ const HOSTS = [
     ['https://xn--bcher-kva.example/', 'xn--bcher-kva.example'], ['https://e.xn--p1ai/', 'e.xn--p1ai'],
     ['https://' + LABEL_63 + '.org', LABEL_63 + '.org'], ['https://' + LABEL_63 + 'a.org', ''],
     ['https://e.' + 'a'.repeat(24), 'e.' + 'a'.repeat(24)], ['https://e.' + 'a'.repeat(25), ''], ['https://e.a', ''],
+    ['https://' + LONG_HOST + 'a.org', LONG_HOST + 'a.org'], ['https://' + LONG_HOST + 'aa.org', ''],
+    ['https://e.org/' + 'a'.repeat(1986), 'e.org'], ['https://e.org/' + 'a'.repeat(1987), ''],
     ['http://e.org/', ''], ['https://e.org:80/', ''], ['https://e.org:4430/', ''], ['https://u@e.org/', ''],
     ['https://org/', ''], ['https://127.0.0.1/', ''], ['https://e.123/', ''], ['https://[::1]/', ''],
     ['https://-e.org/', ''],

@@ -307,6 +307,7 @@ const RIS_FIELDS = [
         + '|VL  - 12|IS  - 3|SP  - 101|EP  - 118|SN  - 2901-0012|DO  - 10.5555/a|AN  - PMID 7'],
     ['genre=book&title=Harbours&isbn=9781234560102&aulast=Li&auinit=W',
         'AU  - Li, W|TI  - Harbours|SN  - 9781234560102'],
+    ['genre=book&title=Harbours&au=Li,+W&aulast=Li&aufirst=W', 'AU  - Li, W|TI  - Harbours'],
     ['jtitle=Tides&aucorp=Port&issn=2901-0012', 'AU  - Port|TI  - Tides|SN  - 2901-0012'],
     ['genre=article&atitle=Silt%0D%0AAU++-+x', 'TI  - Silt AU - x'],
     ['genre=article&au=Li%0D%0AER++-+x&atitle=Silt', 'AU  - Li ER - x|TI  - Silt'],
@@ -430,14 +431,15 @@ function testHeaders() {
 const CATEGORIES = [
     ['en de nl sv da el tr', '0 other, 1 one, 2 other, 5 other, 21 other, 1000000 other'],
     ['fr pt pt-BR FR', '0 one, 1 one, 2 other, 21 other, 1000 other, 1000000 many, 1000001 other, 3000000 many'],
-    ['es it pt-PT PT-pt', '0 other, 1 one, 2 other, 21 other, 1000 other, 1000000 many, 1000001 other, 3000000 many'],
+    ['es it ca pt-PT PT-pt',
+        '0 other, 1 one, 2 other, 21 other, 1000 other, 1000000 many, 1000001 other, 3000000 many'],
     ['pl PL', '0 many, 1 one, 2 few, 4 few, 5 many, 11 many, 12 many, 14 many, 21 many, 22 few, 112 many, 122 few'],
-    ['uk', '0 many, 1 one, 2 few, 4 few, 5 many, 11 many, 12 many, 14 many, 21 one, 22 few, 111 many, 121 one'],
-    ['cs', '0 other, 1 one, 2 few, 4 few, 5 other, 12 other, 21 other, 22 other, 102 other'],
-    ['hr', '0 other, 1 one, 2 few, 11 other, 12 other, 21 one, 24 few'],
+    ['uk ru be', '0 many, 1 one, 2 few, 4 few, 5 many, 11 many, 12 many, 14 many, 21 one, 22 few, 111 many, 121 one'],
+    ['cs sk', '0 other, 1 one, 2 few, 4 few, 5 other, 12 other, 21 other, 22 other, 102 other'],
+    ['hr sr bs', '0 other, 1 one, 2 few, 11 other, 12 other, 21 one, 24 few'],
     ['ar ar-EG', '0 zero, 1 one, 2 two, 3 few, 10 few, 11 many, 99 many, 100 other, 102 other, 103 few, 111 many'],
     ['he', '0 other, 1 one, 2 two, 3 other, 10 other, 20 other, 102 other'],
-    ['ja zh-Hans', '0 other, 1 other, 2 other, 1000000 other']
+    ['ja ko th vi zh-Hans', '0 other, 1 other, 2 other, 1000000 other']
 ];
 function testPlurals() {
     CATEGORIES.forEach(function (it) {
@@ -804,6 +806,11 @@ async function testFaults() {
     await expectReply('no page with data', door.fault, requestWith('/find.jsonx', []), '503 <h1>, requested 0');
     globalThis.targets = Object.defineProperty({}, 'words', { get: () => { throw new Error('words'); } });
     await expectReply('words that are the cause', door.find, requestWith('/find?', []), '503 <h1>, requested 0');
+    globalThis.targets.languages = ['de', 'en'];
+    const failed = requestWith('/find?', []);
+    failed.return = function (status, text) { this.page = status + ' ' + /<html lang="(\w+)"/.exec(text)[1]; };
+    await door.find(failed);
+    expect('the language of that page', failed.page, '503 de');
     delete globalThis.targets;
 }
 // Rows and editions of links. The process that has the menus does not reply to the report, and another one does.

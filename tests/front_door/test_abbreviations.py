@@ -13,8 +13,14 @@ from fixtures.titles_case import TitlesCase
 from fixtures.titles_case import main_of
 
 # A title whose row has an address with a DOI, and a publisher.
-SIGNED, SIGNS = "Revista Española de Cardiología", ("https://e.org/10.5555/rec", "The Spanish Press")
-UNDATED = "Yearbook of Yews"  # without dates
+SIGNED, SIGNS = "Revista Española de Cardiología", ("https://e.org/10.55551/rec", "The Spanish Press")
+UNDATED, OPEN = "Yearbook of Yews", "Reports on Rivers"  # without dates, and without a last one
+# A title with a publisher whose name has more than the sixty characters that count.
+LONG, PUBLISHER = "Quarterly of Quays", "The Association of Harbour Masters and Pilots of the Northern Coasts"
+FITTING = (
+    "Oyster Natlings Yield",
+    "Oyster National Yield",
+)  # `Natl` begins a word of the first, and shortens the other
 LIST = Path(__file__).parent / "abbreviations.tsv"
 
 
@@ -40,6 +46,8 @@ class Many(TitlesCase):
         rows = [journal(name, number, first="1950", last="2010") for number, name in cls.titles.items()]
         rows = [(*row, *SIGNS) if row[0] == SIGNED else row for row in rows]
         rows = [journal(*row[:2]) if row[0] == UNDATED else row for row in rows]
+        rows = [journal(*row[:2], first="1990") if row[0] == OPEN else row for row in rows]
+        rows = [(*row, "", PUBLISHER) if row[0] == LONG else row for row in rows]
         Path(site.path("tables/many.txt")).write_bytes(table(*rows))
         site.write("many.tsv", f"{site.read('registry.tsv')}many\tnone.olk\ttables/many.txt\n")
         write_index(site.path("many.tsv"), site.folder, site.path("many"))
@@ -59,7 +67,7 @@ class Abbreviations(Many):
     def names() -> list[str]:
         """With fifty of one key, and 49 of another."""
         crowded = [f"Xylem Yam{at}" for at in range(49)] + [f"Zebra Yam{at}" for at in range(48)]
-        return [*Many.names(), *crowded, "Xylem Yard", "Zebra Yard", UNDATED]
+        return [*Many.names(), *crowded, "Xylem Yard", "Zebra Yard", UNDATED, OPEN, LONG, *FITTING]
 
     def test_crowded_keys(self) -> None:
         """Of as many lines as a key can have nobody knows whether there are more."""
@@ -90,8 +98,9 @@ class Abbreviations(Many):
             ("rft.pub=The+Spanish+Press", True),
             ("rft.pub=The+Spanish+Press&date=2011", False),
             ("rft.pub=Another+Press", False),
-            ("id=doi:10.5555/rec.1", True),
-            ("id=doi:10.5556/rec.1", False),
+            ("id=doi:10.55551/rec.1", True),
+            ("id=doi:10.55552/rec.1", False),
+            ("id=doi:10.5555/rec.1", False),
             ("volume=5", False),
             ("date=last+year", False),
             ("date=1995&genre=book", False),
@@ -100,6 +109,18 @@ class Abbreviations(Many):
             taken, offered = self.found(f"{short}&{sign}")
             self.expect(f"with {sign}", taken == title, is_taken)
             self.expect(f"with {sign}: offered", offered == [title], not is_taken and "book" not in sign)
+
+    def test_long_publisher(self) -> None:
+        """The first sixty characters of its name count."""
+        for name, publisher, is_taken in (
+            ("the whole name", PUBLISHER, True),
+            ("60 characters", PUBLISHER[:60], True),
+            ("59 characters", PUBLISHER[:59], False),
+            ("another after 60", PUBLISHER[:60] + "x", True),
+            ("another before", "x" + PUBLISHER, False),
+        ):
+            found = self.found(f"jtitle=Quart+Quays&rft.pub={quote_plus(publisher)}")
+            self.expect(name, found, (LONG, []) if is_taken else (None, [LONG]))
 
     def test_numbers(self) -> None:
         """A request with a number that no table has gets no other one."""
@@ -110,6 +131,25 @@ class Abbreviations(Many):
     def test_no_dates(self) -> None:
         """A year agrees with no title whose first year is not known."""
         self.expect("with a year", self.found("jtitle=Yearb+Yews&date=1995"), (None, [UNDATED]))
+
+    def test_two_titles(self) -> None:
+        """The shorter one is the abbreviation; of two as long it is the first."""
+        for query, title in (
+            ("jtitle=Rev+Esp+Cardiol&stitle=Am+J+Epidemiol", "American Journal of Epidemiology"),
+            ("jtitle=J+Biol+Chem&stitle=Rev+Esp+Cardiol", "Journal of Biological Chemistry"),
+            ("jtitle=J+Biol+Chem&stitle=Commun.+ACM", "Journal of Biological Chemistry"),
+        ):
+            self.expect(query, self.found(f"{query}&date=1995"), (title, []))
+
+    def test_no_last_date(self) -> None:
+        """Every year from the first one on agrees."""
+        for year, wanted in (("1989", (None, [OPEN])), ("1990", (OPEN, [])), ("2026", (OPEN, []))):
+            self.expect(year, self.found(f"jtitle=Rep+Rivers&date={year}"), wanted)
+
+    def test_beginnings_first(self) -> None:
+        """A title whose words begin with those of the request comes before one that only has their letters."""
+        self.expect("both", self.found("jtitle=Oyst+Natl+Yield&date=1995"), (FITTING[0], []))
+        self.expect("the other alone", self.found("jtitle=Oyst+Nationl+Yield&date=1995"), (FITTING[1], []))
 
     def test_whole_titles(self) -> None:
         """A title that lacks only brackets, stop words or a subtitle is not abbreviated, and is only offered."""

@@ -81,6 +81,12 @@ class Heads(TitlesCase):
         self.write(tidal_press="# label en: One\n")
         self.expect("the default language", self.shown(GERMAN)[1], "One")
 
+    def test_long_labels(self) -> None:
+        """A hundred characters are shown."""
+        for length in (100, 101):
+            self.write(tidal_press=f"# label: {'x' * length}\n")
+            self.expect(f"{length} characters", self.shown()[1], "x" * 100)
+
     def test_regions(self) -> None:
         """Where the reader's language has a region, the label for it counts, then that of the language."""
         self.site.edit(("js_preload_object words_de ", "js_preload_object words_de_AT "))

@@ -67,3 +67,9 @@ class Latex(Case):
         self.expect("their number", len(found), len(LETTERS))
         for text, got, letter in zip(texts, found, LETTERS.values()):
             self.expect(text, got, f"x{letter}y")
+
+    @needs.command("njs")
+    def test_apostrophes(self) -> None:
+        """Only a name that begins with O or D has one; within a word of capitals it is the accent."""
+        words = {r"O\'Neill": "O'Neill", r"D\'Arcy": "D'Arcy", r"L. O\'NEILL": "L. O'NEILL", r"NOWO\'SCI": "NOWOŚCI"}
+        self.expect("names and a word", self.plain([*words]), [*words.values()])

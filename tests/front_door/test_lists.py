@@ -244,6 +244,13 @@ class Lists(TitlesCase):
         for text in ("a" * 3000, "ab " * 1000, "%C3%A9" * 900, "=" * 500, "%00%ff", "~ab", "2901-0012 " * 100):
             self.search(f"/journals?q={text.replace(' ', '+')}")
 
+    def test_long_search(self) -> None:
+        """As many characters of a search count as its field takes."""
+        field = re.compile(r'<input id="q" name="q" maxlength="(\d+)" value="(a*)"')
+        for length in (200, 201):
+            found = field.findall(self.search(f"/journals?q={'a' * length}").text)
+            self.expect(f"{length} characters", found, [("200", "a" * 200)])
+
     def test_words(self) -> None:
         """The language is kept in the address."""
         reply = self.site.get(f"/find?lang=de&title=Annals+of+Tidal+Studies&{ARTICLE}")

@@ -192,6 +192,19 @@ class Lookups(SiteWithLookups):
             self.expect(f"{name}: nginx ends it, after {sent} bytes", sent < (400 if name == "dripping" else ENOUGH))
             self.expect(f"{name}: {disk - before} bytes on the disk", disk - before < 1_000_000)
 
+    def test_connection_after_replies(self) -> None:
+        """The next request on a connection does not wait for the rest of the three seconds that a look-up has."""
+        peer = http.client.HTTPConnection("127.0.0.1", self.site.port, timeout=patience(30))
+        self.addCleanup(peer.close)
+        waits = []
+        for target in ("/find?id=doi:10.5555/good", "/find?issn=2901-0012") * 5:
+            start = time.monotonic()
+            peer.request("GET", target)
+            reply = peer.getresponse()
+            self.expect(target, (reply.status, b"</html>" in reply.read()), (200, True))
+            waits.append(time.monotonic() - start)
+        self.expect("one of those after a look-up within a second", min(waits[1::2]) < 1)
+
     def test_connection(self) -> None:
         """The next request on a connection does not wait for a look-up that came too late."""
 

@@ -17,6 +17,15 @@ DESK = """# HELP openlink_run_status The exit status of the last update.
 openlink_run_status 1
 openlink_target_rows{target="a.b-c_D"} 1234567
 """
+# The first line of each number.
+HELP = (
+    "# HELP openlink_process_up Whether a process of the program answers.",
+    "# HELP openlink_version_timestamp_seconds When the version in use was made.",
+    "# HELP openlink_update_timestamp_seconds When an update last ended well.",
+    "# HELP openlink_nginx_connections Open connections of nginx, of all its sites.",
+    "# HELP openlink_nginx_requests_total Requests of nginx, of all its sites.",
+    DESK.partition("\n")[0],
+)
 # What no line of the desk may bring in.
 ODD = (
     "other_name 1",
@@ -62,7 +71,9 @@ class Metrics(SiteCase):
         lines = reply.text.splitlines()
         self.expect("lines of another form", [it for it in lines if it[:1] != "#" and not LINE.fullmatch(it)], [])
         typed = [it.split()[2] for it in lines if it.startswith("# TYPE")]
-        helped = [it.split()[2] for it in lines if it.startswith("# HELP")]
+        help_lines = [it for it in lines if it.startswith("# HELP")]
+        helped = [it.split()[2] for it in help_lines]
+        self.expect("other descriptions", sorted({*help_lines} - {*HELP}), [])
         self.expect("each is described once", (typed, len(set(typed))), (helped, len(helped)))
         self.expect("lines of the desk that have another form", sorted({*lines} & {*ODD}), [])
         counters = [it.split()[2] for it in lines if it.startswith("# TYPE") and it.endswith(" counter")]

@@ -3,6 +3,8 @@ from __future__ import annotations
 
 import json
 import re
+import subprocess
+import sys
 import tempfile
 from pathlib import Path
 
@@ -96,6 +98,17 @@ class TargetsFile(Case):
         with open("front_door/openlink.conf") as file:
             loaded = re.findall(r"^js_preload_object words_(\w+) ", file.read(), re.M)
         self.expect("it offers all languages that openlink.conf loads", sorted(site["languages"]), sorted(loaded))
+
+    def test_the_name_that_operators_know(self) -> None:
+        """The script in update.d/ is that of the folder above it: its lines and its status."""
+        ends = []
+        for script in ("update/update.d/targets_file.py", "update/targets"):
+            for path in ("front_door/targets.json", "front_door/none.json"):
+                done = subprocess.run([sys.executable, "-B", script, path], capture_output=True, text=True, check=False)
+                ends.append((done.returncode, done.stdout, done.stderr))
+        self.expect("the sample", ends[0], (0, "ok\n", ""))
+        self.expect("no such file", (ends[1][0], "front_door/none.json" in "".join(ends[1][1:])), (ends[3][0], True))
+        self.expect("the script itself", ends[2:], ends[:2])
 
     def test_languages_that_the_site_loads(self) -> None:
         """A language that has a file and is not loaded is left out of the pages, so the check says so."""

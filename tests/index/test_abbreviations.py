@@ -34,11 +34,13 @@ WORDS = [
     ("L’Année sociologique", ["as so annee sociologique"]),
     ("Biochemical J.", ["bj jo biochemical j"]),
     ("Historische Z", ["hz ze historische z"]),
+    ("Am Econ Q", ["aeq qu am econ q"]),
     ("Annals of the New York Academy", ["anya ac annals new york academy"]),
     ("Ann N Y Acad", ["anya ac ann n y acad"]),
     ("Ciencia y Tierra", ["ct ti ciencia tierra"]),
     ("Proc Natl Acad Sci U S A", ["pnas sc proc natl acad sci"]),
     ("Proceedings of Science of the United States of America", ["ps sc proceedings science"]),
+    ("Proceedings of Science, United States of America", ["ps sc proceedings science"]),
     ("P SCI USA", ["ps sc p sci"]),
     ("Vaccine (Amsterdam)", []),
     ("Clinical Science (London) [Online]", ["cs sc clinical science"]),
@@ -48,6 +50,14 @@ WORDS = [
     ("The", []),
     ("", []),
 ]
+# Words that are left out before the last one: in English, German, French, Spanish, Portuguese, Italian, Dutch and the
+# Nordic languages.
+STOP = (
+    "a an and the of in on for to at by with from as or "
+    "der die das des dem den und für fur fuer im zur zum von aus mit "
+    "de du la le les l d et en sur pour au aux un une el los las y del al con por para e da do dos das "
+    "di della dello dei degli delle il lo gli i van voor het te og av om för på s"
+).split()
 SCRIPT = """import short from 'abbreviations.js';
 import fs from 'fs';
 globalThis.fold = JSON.parse(fs.readFileSync('fold.json'));
@@ -75,6 +85,12 @@ FITS = [
     ("b phys", "bulletin physics", 2),
     ("ntal law", "national law", 1),
     ("atal law", "national law", 0),
+    ("cat law", "chapter law", 0),
+    ("pit law", "profit law", 0),
+    ("cos law", "chaos law", 0),
+    ("rus law", "rhesus law", 0),
+    ("cyt law", "cryptic law", 0),
+    ("clt law", "climate law", 1),
 ]
 FIT = """import short from 'abbreviations.js';
 const fits = JSON.parse(process.argv[2]);
@@ -102,12 +118,21 @@ class Words(Case):
             found = [f"{key} {words}" for key, words in short_titles.keys_of(title)]
             self.expect(title, found, wanted)
 
+    def test_left_out(self) -> None:
+        """Stop words, but the last word never is one; and the letter before an apostrophe of any kind."""
+        for word in STOP:
+            self.expect(word, list(short_titles.words_of(f"Annals {word} Tides")), ["annals", "tides"])
+            self.expect(f"{word} at the end", len(short_titles.words_of(f"Annals Tides {word}")), 3)
+        for mark in "'`\u2018\u2019\xb4":
+            self.expect(mark, list(short_titles.words_of(f"Revue d{mark}histoire")), ["revue", "histoire"])
+
     @needs.command("njs")
     def test_same_words(self) -> None:
         """njs makes the same words and keys, of cases, of each stop word, and of made texts of hard pieces."""
         source = random.Random(8)
         found = [title for title, _ in WORDS] + [title for title, _, _ in CASES]
-        found += [f"Annals {word} Tides" for word in sorted(short_titles._STOP)]
+        found += [f"Annals {word} Tides" for word in (*STOP, *sorted(short_titles._STOP))]
+        found += [f"Revue d{mark}histoire" for mark in "'`\u2018\u2019\xb4"]
         pieces = [*PIECES, " of ", " and ", "(b)", "[c", " usa", "u.s.a.", " y ", "n y ", "d'", "Journal "]
         found += ["".join(source.choices(pieces, k=source.randrange(1, 25))) for _ in range(2000)]
         found = [text.replace("\n", " ") for text in found]
@@ -223,6 +248,12 @@ class Pairs(Case):
                 ["line 1: not an abbreviation and a title with a tab between them"],
             ),
             (
+                "a line of three cells",
+                b"AT\tTides\tx\nAT\tTides\n",
+                b"AT\tTides\n",
+                ["line 1: not an abbreviation and a title with a tab between them"],
+            ),
+            (
                 "a line without a word",
                 b"..\tTides\n",
                 b"",
@@ -273,15 +304,23 @@ class Pairs(Case):
     def test_index(self) -> None:
         """An abbreviation leads to the titles that have the name or the number; what no table has is said."""
         rows = table(
-            journal("Annals of Tides", "2901-0012"), journal("Soundings", "2901-0020"), book("Buoys", "9781234560102")
+            journal("Annals of Tides", "2901-0012"),
+            journal("Soundings", "2901-0020", "2908-0142"),
+            book("Buoys", "9781234560102"),
         )
         room = tempfile.TemporaryDirectory()
         self.addCleanup(room.cleanup)
-        lines = ["AnnTid\tAnnals of Tides, The", "Snd.\t2901-0020", "BB\t1234560106", "X\tNone of these"]
+        lines = ["AnnTid\tAnnals of Tides, The", "Snd.\t2908-0142", "BB\t1234560106", "X\tNone of these"]
+        lines += ["AT\tAnnals of Tides"]
         Path(room.name, "abbreviations.tsv").write_text("".join(f"{line}\n" for line in lines))
         pairs = abbreviations.pairs_of(Path(room.name))
         with Index({"press": rows}, pairs=pairs) as found:
-            for key, wanted in (("anntid", "2901-0012"), ("snd", "2901-0020"), ("bb", "9781234560102")):
+            for key, wanted in (
+                ("anntid", "2901-0012"),
+                ("at", "2901-0012"),
+                ("snd", "2901-0020 2908-0142"),
+                ("bb", "9781234560102"),
+            ):
                 self.expect(key, found.numbers_of(f"={key}"), [wanted])
             self.expect("the title itself", found.numbers_of("=annals of tides"), ["2901-0012"])
         titles = Titles()

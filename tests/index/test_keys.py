@@ -25,13 +25,20 @@ CASES = [
     ("AT&T; and &bogus;", "at and t and and bogus", ""),
     ("Caf&eacute; &#233; &#xE9;", "cafe e e", ""),
     ("&#55296;&#0;", "and 55296 and 0", ""),
+    ("&#XE9;tudes in H&sup2;O", "etudes in h2o", ""),
     ("<i>E. coli</i> in H<sub>2</sub>O", "e coli in h2o", ""),
     ("<mml:mi>E. coli</mml:mi>", "e coli", ""),
     ("&lt;i&gt;E. coli&lt;/i&gt;", "e coli", ""),
+    ("<h2>Tides <br/>and Piers</h2>", "tides and piers", ""),
     ("3 < 4 > 2", "3 4 2", ""),
     ("L'Année sociologique", "annee sociologique", ""),
     ("«L’École»", "ecole", ""),
     ("L'Yonne", "yonne", ""),
+    ("L'Homme", "homme", ""),
+    ("L’ Homme malgré tout", "homme malgre tout", ""),
+    ("L' Homme", "homme", ""),
+    ("Gl'Inni sacri", "inni sacri", ""),
+    ("Gl’Inni della libertà", "inni della liberta", ""),
     ("L'!", "l", ""),
     ("Un’altra storia", "altra storia", ""),
     ("UN's role", "uns role", ""),
@@ -44,11 +51,14 @@ CASES = [
     ("İstanbul Йод", "istanbul иод", ""),
     ("Teil Ⅳ, № １２", "teil iv 12", ""),
     ("中国科学", "中国科学", ""),
+    ("《中国科学：化学》", "中国科学 化学", ""),
+    ("サイエンス・レポート", "サイエンス レポート", ""),
     ("...", "", ""),
     ("", "", ""),
     ("Acta: X", "acta x", "acta"),
     ("Acta = Acts", "acta acts", "acta"),
     ("Acta – Reports", "acta reports", "acta"),
+    ("Acta — Reports", "acta reports", "acta"),
     ("Acta-Reports", "acta reports", ""),
     ("Acta (Online)", "acta online", "acta"),
     ("Acta [1995] (Online)", "acta 1995 online", "acta 1995"),
@@ -68,6 +78,12 @@ CASES = [
     ("A" * 600 + ": b", "a" * 500, ""),
     ("A" * 496 + "&amp;: b", "a" * 496 + " and amp", ""),
 ]
+# Articles that are no part of a key: in English, German, French, Spanish and Italian; and those after a last comma.
+ARTICLES = (
+    "the a an der die das den dem des ein eine einen einem einer eines le la les un une "
+    "el la lo los las un una unos unas il lo la i gli le un uno una"
+).split()
+LAST_ARTICLES = "the der die das le la les el la los las il gli".split()
 PIECES = [
     *" '’:=()[]-–—&;<>/#xliugnABCXYZabcßéÉàñäÖüЙйΣςσ\u0301\u00ad\u200b１Ⅳﬁ漢語😀",
     "&amp;",
@@ -103,10 +119,12 @@ PART = 2500  # njs frees no memory, so it gets few titles at a time
 
 
 def texts() -> list[str]:
-    """The cases, every character below U+3000, a part of the others, and made texts of hard pieces."""
+    """The cases, every character below U+3100 and from U+FE00 to U+FFFF, a part of the others, and made texts of hard
+    pieces."""
     source = random.Random(7)
     found = [title for title, _, _ in CASES]
-    codes = [*range(0x20, 0x3000), *source.sample(range(0x3000, 0x2FA20), 2000)]
+    found += [f"{it} Tides" for it in ARTICLES] + [f"Tides, {it}" for it in ARTICLES]
+    codes = [*range(0x20, 0x3100), *range(0xFE00, 0x10000), *source.sample(range(0x3000, 0x2FA20), 2000)]
     found += [f"a{chr(code)}b" for code in codes if not 0xD800 <= code < 0xE000]
     # Texts of 32 characters and of their multiples, since njs has found their ends hard.
     found += ["".join(source.choices(PIECES, k=source.randrange(1, 25))) for _ in range(4000)]
@@ -136,6 +154,13 @@ class Keys(Case):
     def test_cases(self) -> None:
         for title, key, short in CASES:
             self.expect(f"the key of {title[:40]!r}", (titles.key_of(title), titles.short_key(title)), (key, short))
+
+    def test_articles(self) -> None:
+        for article in ARTICLES:
+            for title in (f"{article.capitalize()} Tides", f"{article.upper()} «Tides»"):
+                self.expect(title, titles.article_and_key(title), (article, "tides"))
+            last = (article, "tides") if article in LAST_ARTICLES else ("", f"tides {article}")
+            self.expect(f"Tides, {article}", titles.article_and_key(f"Tides, {article}"), last)
 
     def test_umlauts(self) -> None:
         for title, written, key in (

@@ -9,6 +9,7 @@ from fixtures.index_reader import book
 from fixtures.index_reader import check_form
 from fixtures.index_reader import journal
 from fixtures.index_reader import table
+from openlink_update.index.title_addresses import Offer
 
 
 class Lines(Case):
@@ -91,6 +92,7 @@ class Lines(Case):
                     ("Yearbook", "9781234567033", "", "", "", "", "serial"),
                     ("Series", "9781234567804", "2901-0012"),
                     ("Report", "9781234565497"),
+                    ("Annual", "2901-0020", "", "", "", "", " Monograph "),
                 ),
                 "two": table(book("Atlas", "9781234560102")),
             }
@@ -111,6 +113,7 @@ class Lines(Case):
                 ("a serial with an ISBN alone", "=yearbook", [["b", "Yearbook", "9781234567033"]]),
                 ("an ISSN, and no type", "=series", [["j", "Series", "9781234567804 2901-0012"]]),
                 ("an ISBN, and no type", "=report", [["b", "Report", "9781234565497"]]),
+                ("an ISSN of a book", "=annual", [["b", "Annual", "2901-0020"]]),
             ]:
                 self.expect(name, found.of_key(key), expected)
 
@@ -172,11 +175,12 @@ class Lines(Case):
                 )
         titles = [
             ("<i>E. coli</i> &amp; R&amp;amp;D", "E. coli & R&D"),
-            ("A  B\u00a0C\u2028D", "A B C D"),
+            ("A  B\u00a0C\u2028D\u3000E", "A B C D E"),
             ("Bell\x07\x00\x1b", "Bell"),
             ("&#10;x&#9;y", "x y"),
             ('"Q" <script>', '"Q"'),
             ("x" * 600, "x" * 500),
+            ("<i>" * 200 + "E. coli", "E. coli"),
             ("<b></b>", None),
             ("", None),
         ]
@@ -238,6 +242,43 @@ class Lines(Case):
                 ("2936-0668", []),
             ]:
                 self.expect(f"titles before and after {number}", found.of_key(number)[0][4:], expected)
+
+    def test_related_of_joined_titles(self) -> None:
+        """Those of a title that rows or its two editions join are those of the whole title."""
+        rows = (
+            journal("Tides", "2901-0012"),
+            journal("Tides", "2908-0142", title_id="t"),
+            journal("Tides", "2901-0012", "2908-0142"),
+            journal("Waves", "2915-0272", preceding="t"),
+            journal("Nets", "2943-081X"),
+            journal("Nets", "", "2950-0923", title_id="n"),
+            journal("Gulls", "2978-1442", preceding="n"),
+        )
+        with Index({"one": table(*rows)}) as found:
+            for number, expected in (
+                ("2901-0012", [">2915-0272 Waves"]),
+                ("2915-0272", ["<2901-0012 Tides"]),
+                ("2943-081X", [">2978-1442 Gulls"]),
+                ("2978-1442", ["<2943-081X Nets"]),
+            ):
+                self.expect(f"titles before and after {number}", found.of_key(number)[0][4:], expected)
+
+    def test_addresses(self) -> None:
+        """Of titles of a target and its parts, of the kinds that are offered; related titles come after them."""
+        page = "https://press.example.com/"
+        one = table(
+            (*journal("Old", "2901-0012", title_id="o"), f"{page}old"),
+            (*book("Buoys", "9781234560102"), "", "", f"{page}buoys"),
+        )
+        second = table((*journal("New", "2908-0142", preceding="o"), f"{page}new"))
+        offers = {"one": Offer("j", frozenset({"press.example.com"}))}
+        with Index({"one": one, "one.2": second, "two": one}, offers=offers) as found:
+            for number, expected in (
+                ("2901-0012", [f"@one {page}old", ">2908-0142 New"]),
+                ("2908-0142", [f"@one {page}new", "<2901-0012 Old"]),
+                ("9781234560102", []),
+            ):
+                self.expect(f"cells of {number}", found.of_key(number)[0][4:], expected)
 
     def test_short_keys(self) -> None:
         with Index(
@@ -380,3 +421,16 @@ class Lines(Case):
                 (found.names(), found.read("format"), len(found.of_key("=zoo"))),
                 (["format", "keys"], b"6 no list\n", 1),
             )
+
+    def test_rows_of_the_list(self) -> None:
+        """Rows that differ for readers, once each, of targets whose rows all have room; whole letters of a title."""
+        tides = [journal("Tides", "2901-0012", first=year) for year in ("1990", "1990", "2001")]
+        tables = {
+            "one": table(*tides, journal("中" * 400, "2908-0142")),
+            "one.2": table(tides[0]),
+            "two": table(tides[0]),
+            "many": table(*[journal("Tides", "2901-0012")] * 201),
+        }
+        with Index(tables) as found:
+            self.expect("rows", found.page("j", 0), [["Tides", "2901-0012", "one 0 1990;one 2 2001;two 0 1990"]])
+            self.expect("1,000 bytes of a title", found.page("j", 1), [["中" * 333, "2908-0142", "one 3"]])

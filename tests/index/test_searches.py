@@ -66,6 +66,8 @@ def rows() -> list[tuple[str, str]]:
         "中国",
         "中国 中国",
         "Annals of 中国",
+        "語" * 70,
+        f"Annals of the {'x' * 61}",
         *[f"Coast {number:03}" for number in range(75)],
         "Inland Coast",
     ]
@@ -199,6 +201,16 @@ class Searches(Case):
             searched(self.made.folder, "alpha omega")[:5],
             [[], 1, 1, 0, True],
         )
+
+    def test_long_words(self) -> None:
+        """The first sixty letters of a word count, as in the index."""
+        for text, wanted in (
+            ("語" * 70, ["語" * 70]),
+            ("語" * 60, ["語" * 70]),
+            ("annals " + "x" * 61, [f"Annals of the {'x' * 61}"]),
+            ("x" * 59 + "y", []),
+        ):
+            self.expect(f"{len(text)} characters", searched(self.made.folder, text)[0], wanted)
 
     def test_no_index(self) -> None:
         """A search of a kind of which no list is there finds nothing, on one page."""
