@@ -15,6 +15,7 @@ from openlink_update.exports import scholar
 from openlink_update.index import index_files
 from openlink_update.index import title_index
 from openlink_update.index import title_list
+from openlink_update.index import title_rows
 from openlink_update.index import titles
 from openlink_update.index import word_sets
 from openlink_update.site import probes
@@ -119,7 +120,7 @@ class FrontDoor(Case):
     def test_same_numbers(self) -> None:
         """Those that the front door's scripts and the update share, since one reads what the other writes."""
         values = {}
-        for name in ("index", "titles", "search", "lookup"):
+        for name in ("abbreviations", "index", "titles", "search", "lookup"):
             with open(f"front_door/{name}.js", encoding="utf-8") as file:
                 values.update({f"{name} {key}": int(value) for key, value in numbers.of_script(file.read())})
         pairs = {
@@ -129,6 +130,8 @@ class FrontDoor(Case):
             "index PAGE": title_list.PAGE,
             "titles MOST_CHARACTERS": titles.MOST_CHARACTERS,
             "search MOST_FEW": word_sets._FEW,
+            "search MOST_LETTERS": word_sets._MOST_LETTERS,
+            "abbreviations MOST_OF_A_PUBLISHER": title_rows._MOST_OF_A_PUBLISHER,
         }
         self.expect("they are equal", {name: values.get(name) for name in pairs}, pairs)
 

@@ -51,6 +51,8 @@ class Tables(Case):
             ("100,000 of two bytes each", head + "ä" * 50_000, ""),
             ("100,002 of two bytes each", head + "ä" * 50_001, said.format(2)),
             ("a line end counts for nothing", f"{head}{'x' * 100_000}\r\n", ""),
+            ("100,001 with lines after it", head + "x" * 100_001 + "\r\na\r\nb", said.format(1)),
+            ("100,001 after CR LF", head.replace("\n", "\r\n") + "x" * 100_001, said.format(1)),
         ):
             self.expect(name, reason(preparation.read, data.encode()), wanted)
         for count, wanted in ((50_000, ""), (50_001, said.format(2))):
@@ -67,6 +69,8 @@ class Tables(Case):
                 reason(preparation.read, f'{NAMES}\n"{cell}",\n'.encode()[:-2] + b"\n"),
                 wanted,
             )
+        rows = f'"{"x" * 60_000}",a,b\n' * 3
+        self.expect("each row counts alone", len(preparation.read(f"{NAMES}\n{rows}".encode()).rows), 3)
 
     def test_numbers_of_lines(self) -> None:
         """Those of the file, whatever is above the header, and however many lines a row has."""
@@ -109,6 +113,8 @@ class Tables(Case):
         texts_of_pages = [
             *(f"<{tag}>" for tag in tags),
             *(f"<{tag.upper()} a='b'>" for tag in tags),
+            "<!-- a --><html><!-- b -->",
+            "<?xml version='1.0'?><html><?b ?>",
             "<!DOCTYPE html>",
             "<!doctype\n  html SYSTEM 'about:legacy-compat'>",
             "\ufeff \n<!-- a --> <!-- b -->\n<?xml version='1.0'?>\n<html>",
@@ -129,6 +135,7 @@ class Tables(Case):
             (b"\xef\xbb\xbf\x80\r\x82\xe9", "€\n‚é", [windows("2 lines")]),
             ("a\rb\r\n\n".encode("utf-16"), "a\nb\n\n", ["UTF-16: 2 lines"]),
             (b"\xfe\xff" + "a\nb".encode("utf-16-be"), "a\nb", ["UTF-16: 2 lines"]),
+            ("a\n".encode("utf-16"), "a\n", ["UTF-16: 1 line"]),
         ):
             self.expect(f"{data!r}", texts.text_of(data), (text, lines))
         said = "line 3 is neither UTF-8 nor windows-1252"
@@ -187,6 +194,7 @@ class Archives(Case):
             ([], False),
         ):
             self.expect(f"{names}", archives.is_spreadsheet(zipped(names)), wanted)
+            self.expect(f"{names} after a text", archives.is_spreadsheet(b"text\n" + zipped(names)), False)
         inside = archives.unpacked(zipped(["[Content_Types].xml", "a.txt"]), "a.txt")
         self.expect("a member that is named", inside, b"text")
         data = io.BytesIO(zipped(["a.csv", "__MACOSX/a.txt", "b.txt"]))

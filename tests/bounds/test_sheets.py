@@ -1,6 +1,8 @@
 """Spreadsheets, web pages and the names of columns: how large, how deep and how long what comes may be."""
 from __future__ import annotations
 
+import io
+import zipfile
 from unittest import mock
 
 from bounds.refusals import reason
@@ -10,12 +12,16 @@ from fixtures.spreadsheet_files import MAIN
 from fixtures.spreadsheet_files import archive_of
 from fixtures.spreadsheet_files import ods
 from fixtures.spreadsheet_files import xlsx
+from fixtures.spreadsheet_files import xlsx_members
 from openlink_update import target_options
 from openlink_update.received import column_names
+from openlink_update.received import limits
 from openlink_update.received import sheets
+from openlink_update.received import spreadsheets
 from openlink_update.received import web_tables
 from openlink_update.received import workbooks
 from openlink_update.received import xml_parts
+from openlink_update.received.packages import Package
 from openlink_update.received.sheets import Sheet
 from openlink_update.tables import dropped_rows
 from openlink_update.tables import embargo_words
@@ -69,6 +75,31 @@ class Parts(Case):
             self.expect(f"a comment, {more}", reason(xml_parts.read, [data, b"--><a/>"], Nothing()), wanted)
 
 
+class Packages(Case):
+    """The members of a spreadsheet."""
+
+    def test_bytes(self) -> None:
+        """Those of all that are read count."""
+        data = archive_of({"a": "x" * 600, "b": "x" * 400, "c": "x"})
+        said = "more than 256 MB when unpacked: ask the provider for smaller files"
+        with mock.patch.object(limits, "_MOST_BYTES", 1000), zipfile.ZipFile(io.BytesIO(data)) as archive:
+            package = Package(archive)
+            for name, wanted in (("a", ""), ("b", ""), ("c", said)):
+                self.expect(name, reason(lambda: list(package.chunks(name))), wanted)
+
+    def test_packing(self) -> None:
+        for method, wanted in (
+            (zipfile.ZIP_STORED, ""),
+            (zipfile.ZIP_DEFLATED, ""),
+            (zipfile.ZIP_BZIP2, "a spreadsheet packed in a way that none is: save it again"),
+        ):
+            data = io.BytesIO()
+            with zipfile.ZipFile(data, "w", method) as archive:
+                for name, text in xlsx_members({"Sheet1": [NAMES, ["Tides", "2901-0012"]]}).items():
+                    archive.writestr(name, text)
+            self.expect(f"method {method}", reason(spreadsheets.sheet_of, data.getvalue(), ""), wanted)
+
+
 class Rows(Case):
     def test_cells(self) -> None:
         self.expect("the limit", sheets._MOST_CELLS, 30_000_000)
@@ -76,6 +107,9 @@ class Rows(Case):
         with mock.patch.object(sheets, "_MOST_CELLS", 1000):
             for count, wanted in ((200, ""), (201, says)):
                 self.expect(f"{count} rows of 5", reason(Sheet().add, ["x"] * 5, 1, count), wanted)
+                sheet = Sheet()
+                sheet.add(["x"] * 5, 1, 100)
+                self.expect(f"{count}, 100 at first", reason(sheet.add, ["x"] * 5, 101, count - 100), wanted)
 
     def test_columns(self) -> None:
         for place, wanted in (("SF2", ""), ("SG2", "row 2 has 501 cells, and a table may have 500 columns")):
@@ -89,6 +123,10 @@ class Rows(Case):
         says = "it has 2,000,001 rows, and a table may have 2,000,000: is it a table of holdings?"
         self.expect("2,000,000", reason(Sheet().add, ["x"], 1, 2_000_000), "")
         self.expect("2,000,001", reason(Sheet().add, ["x"], 1, 2_000_001), says)
+        sheet = Sheet()
+        with mock.patch.object(limits, "_MOST_LINES", 3):
+            for number, wanted in ((1, ""), (2, ""), (3, ""), (4, "it has 4 rows")):
+                self.expect(f"{number} of 3", reason(sheet.add, ["x"], number)[: len("it has 4 rows")], wanted)
 
     def test_bytes_of_a_row(self) -> None:
         says = "row 7 has 100,{:03} bytes, and 100,000 are possible: is it a table of holdings?"

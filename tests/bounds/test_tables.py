@@ -1,6 +1,7 @@
 """Tables of targets: how many of their rows may be dropped or reversed, and how large a part may be."""
 from __future__ import annotations
 
+import calendar
 import datetime
 
 from bounds.refusals import reason
@@ -32,11 +33,22 @@ class Rows(Case):
                 [len(dropped_rows.reasons_against([row] * count, 1000, {allowed})) for count in (most, most + 1)],
                 [0, 0 if most == 999 else 1],
             )
+        for two in (["dropped up to 7", "dropped up to 9"], ["dropped up to 9", "dropped up to 7"]):
+            found = dropped_rows.reasons_against([row] * 8, 1000, two)
+            self.expect(f"the same of two, whatever their order: {two}", len(found), 1)
         self.expect(
             "ten digits are no limit",
             len(dropped_rows.reasons_against([row] * 21, 1000, {"dropped up to 9999999999"})),
             1,
         )
+
+    def test_days_of_months(self) -> None:
+        """The last day of each month, and the day after it, which is as good as none."""
+        for year in (1900, 2000, 2023, 2024):
+            for month in range(1, 13):
+                last = calendar.monthrange(year, month)[1]
+                whole = [coverage.day_in(f"{year}-{month:02}{day}", True) for day in ("", f"-{last}", f"-{last + 1}")]
+                self.expect(f"{year}-{month:02}", whole, [year * 10000 + month * 100 + last] * 3)
 
     def test_characters_that_are_shown(self) -> None:
         self.expect("100 of a row", dropped_rows.shown(["x" * 100]), "x" * 100)

@@ -173,6 +173,8 @@ FILES: dict[str, tuple[str | bytes, str, list[str]]] = {
             row("Piers", last="1995-02-28"),
             row("Quays", last="1995-03-01"),
             row("Locks", first="1995-03-15", last="1995-03"),
+            row("Weirs", first="1995", last="1995-06-30"),
+            row("Moles", first="1995-03", last="1995-03-01"),
         ),
         of_rows(
             row(last="1994"),
@@ -180,10 +182,13 @@ FILES: dict[str, tuple[str | bytes, str, list[str]]] = {
             row("Piers", last="1995-02-28"),
             row("Quays", last="1995-03-01"),
             row("Locks", first="1995-03-15", last="1995-03"),
+            row("Weirs", first="1995", last="1995-06-30"),
+            row("Moles", first="1995-03", last="1995-03-01"),
         ),
         ["first dates after the last ones: 2 rows, the first with 1995-03-01 and 1994"],
     ),
     "a target that answers every request": ("print_identifier\nANY\n", "print_identifier\nANY\n", []),
+    "one in small letters": ("print_identifier\nany\n", "print_identifier\nany\n", []),
     "a table without identifiers' columns": (
         "publication_title|title_url|notes\nA|b|c\n",
         "publication_title|title_url|notes\nA|b|c\n",

@@ -97,6 +97,8 @@ NUMBERS = {
     ("978-0-306-40615-7, 9780804429573", ""): ("978-0-306-40615-7", "9780804429573"),
     ("978-0-306-40615-7", ""): ("978-0-306-40615-7", ""),
     ("978 0 306 40615 7", ""): ("978 0 306 40615 7", ""),
+    ("2901-0012; 2908-0142;", ""): ("2901-0012", "2908-0142"),
+    ("2901-0012; ; 2908-0142", ""): ("2901-0012", "2908-0142"),
     ("2901-0012, soon", "2908-0142"): ("2901-0012, soon", "2908-0142"),
     ("ISSN: 2901-0012", "ISSN 2908-0142"): ("2901-0012", "2908-0142"),
     ("ISSN-L 2901-0012", "e-ISSN:2908-0142"): ("2901-0012", "2908-0142"),
@@ -156,6 +158,8 @@ class Cells(Case):
             "words before an identifier removed: 1 cell",
         ]
         self.expect("what is said", said(table(*(f"T\t{it}\t1995\t" for it in cells))), lines)
+        plain = said(table("T\t29010012, 29080142\t2915-0272\t1995\t"))
+        self.expect("numbers without hyphens", plain, [lines[0].replace("2 cells", "1 cell"), lines[2]])
 
     def test_words_of_columns(self) -> None:
         """The first of two numbers goes to the column that a word after it names."""
@@ -214,6 +218,22 @@ class Cells(Case):
         said = [line for line in preparation.prepare([("one", data)]).lines if "order" in line]
         self.expect("decided", said, ["dates whose order the rest of their column decides: 1 cell"])
 
+    def test_last_dates(self) -> None:
+        """A whole cell that means today is none, and no cell that begins so."""
+        data = "Tides\t2901-0012\t\t1995\t\t{}"
+        for cells_of, is_today in (
+            (("present", "CURRENT", "9999", "9999-12", "9999-12-31"), True),
+            (("presently unknown", "current volume", "to present", "99990"), False),
+        ):
+            for cell in cells_of:
+                rows = rows_of(table(data.format(cell), head=f"{HEAD}\tdate_last_issue_online"))
+                self.expect(cell, rows[0][5], "" if is_today else cell)
+
+    def test_words_with_a_full_stop(self) -> None:
+        data = table("Tides\t2901-0012 pr.\t2908-0142 (el.)\t1995\t")
+        self.expect("numbers", rows_of(data)[0][1:3], ["2901-0012", "2908-0142"])
+        self.expect("what is said", said(data), ["words after an identifier removed: 2 cells"])
+
     def test_footers(self) -> None:
         """Of each file, at its end alone, and never a row with a number."""
         one = table("A\t2901-0012\t\t1995\t", "Total\t1", "", "(c) Press")
@@ -261,6 +281,19 @@ class Rows(Case):
             left, lines = cells._without_repetitions([], rows)
         self.expect("rows", left, [["a", "1"], ["b", "2"], ["c", "3"]])
         self.expect("what is said", lines, ["the same as an earlier row, left out: 3 rows"])
+
+    def test_bytes_of_a_table(self) -> None:
+        """Lines end as the program reads them, blank ones are none, and no byte is too many."""
+        for data, columns, rows in (
+            (b"\xef\xbb\xbfa\tb\n1\t2\n", ("a", "b"), [["1", "2"]]),
+            (b"a\r\n\r\n1\r\r2", ("a",), [["1"], ["2"]]),
+            (b"\na\n \n\n", ("a",), [[" "]]),
+            (b"a\n1\xff\n", ("a",), [["1\ufffd"]]),
+            (b"\n", (), []),
+            (b"", (), []),
+        ):
+            found = Table.parse(data)
+            self.expect(f"{data!r}", (found.columns, found.rows), (columns, rows))
 
     def test_two_columns_of_one_name(self) -> None:
         self.expect("the first", Table(["a", "b", "a"], []).place("a"), 0)

@@ -118,6 +118,8 @@ month|number|title|followed|Unique_Item_Requests|Total_Item_Requests
 WRONG_REPORTS = [
     ("", "line 1: no COUNTER report: Report_ID or Release is missing"),
     ("<html>\n", "line 1: no COUNTER report: Report_ID or Release is missing"),
+    ("Report_ID,TR\n", "line 1: no COUNTER report: Report_ID or Release is missing"),
+    ("Release,5\n", "line 1: no COUNTER report: Report_ID or Release is missing"),
     (REPORT.replace("Report_ID,TR", "Report_ID,PR"), "Report_ID: not a report of titles (TR): PR"),
     (REPORT.replace("Release,5", "Release,4"), "Release: not Release 5: 4"),
     (HEAD + COLUMNS.replace("Oct-2026,Nov-2026", "Total"), "line 9: no column of a month, such as Jan-2026"),
@@ -252,11 +254,13 @@ class Formats(CountsCase):
             ["--format", "tsv", "--cost", "a", "--counter", "b"],
             ["--wanted", "--format", "json"],
             ["--index", "a"],
+            ["--wanted", "--index", "a", "--index", "b"],
             [self.logs[0], "--format", "json"],
             ["--format=json"],
         ):
             status, text, said = self.text(*words)
             self.expect(f"{words}", (status, text, said[:22]), (2, "", "usage: openlink-counts"))
+        self.expect("the end of options", self.text("--", *self.logs), self.text(*self.logs))
         for option in "--cost", "--counter":
             said = "openlink-counts: none: cannot be read\n"
             self.expect(f"{option}: no file", self.text(option, f"{self.folder}/none", *self.logs), (3, "", said))
@@ -339,6 +343,44 @@ class Titles(Case):
         for encoding in ("utf-16-le", "utf-16-be"):
             data = f"\ufeff{REPORT}".encode(encoding)
             self.expect(encoding, (counter_reports.is_report(data), counter_reports.titles_in(data)), (True, plain))
+
+    def test_separators(self) -> None:
+        """The first line has what separates cells, whatever the cells of the head have."""
+        plain = counter_reports.titles_in(REPORT.encode())
+        rows = list(csv.reader(io.StringIO(REPORT.replace("Library, of a Coast", "," * 300 + ";" * 300))))
+        for separator in "\t", ",", ";":
+            text = io.StringIO()
+            csv.writer(text, delimiter=separator).writerows(rows)
+            self.expect(repr(separator), counter_reports.titles_in(text.getvalue().encode()), plain)
+
+    def test_columns(self) -> None:
+        said = "no line with the columns Title and Metric_Type within the first 50"
+        for old in ("Title,Publisher", "Access_Type,Metric_Type"):
+            text = REPORT.replace(old, old.replace("Title", "Name").replace("Metric_Type", "Metric"))
+            self.expect(f"without one of {old}", refused(counter_reports.titles_in, text), said)
+
+    def test_cells(self) -> None:
+        """A short row has no requests in the months that it lacks, and nothing is kept of a month without requests."""
+        head = "Report_ID,TR\nRelease,5\n\nTitle,ISBN,Print_ISSN,Metric_Type,Oct-2026,Nov-2026\n"
+        for row, numbers, months in (
+            ("A,,2901-0012,Unique_Item_Requests,5", ("2901-0012",), {"2026-10": 5}),
+            ("A,,2901-0012,Unique_Item_Requests,0,5", ("2901-0012",), {"2026-11": 5}),
+            ("A,,2901-0012,Unique_Item_Requests,,", ("2901-0012",), {}),
+            (" A , , 29010012 , Unique_Item_Requests , 5 , 6 ", ("2901-0012",), {"2026-10": 5, "2026-11": 6}),
+            ("A,0-306-40615-2,,Unique_Item_Requests,5", ("9780306406157",), {"2026-10": 5}),
+        ):
+            (found,) = counter_reports.titles_in(f"{head}{row}\n".encode())
+            counted = {month: times for (month, _), times in found.requests.items()}
+            self.expect(row, (found.title, found.numbers, counted), ("A", numbers, months))
+
+    def test_order(self) -> None:
+        """By month, then by number, then by title."""
+        head = "Report_ID,TR\nRelease,5\n\nTitle,Print_ISSN,Metric_Type,Oct-2026,Nov-2026\n"
+        cells = (("C", "2908-0142"), ("B", ""), ("A", ""), ("D", "2901-0012"))
+        rows = "".join(f"{title},{number},Unique_Item_Requests,1,1\n" for title, number in cells)
+        table = side_by_side.table_of([counter_reports.titles_in((head + rows).encode())], [])
+        found = [(row[0], row[2]) for row in table.rows]
+        self.expect("rows", found, [(month, title) for month in ("2026-10", "2026-11") for title in "ABDC"])
 
     def test_several_titles(self) -> None:
         """Titles without a number are those of one name; what joins two titles is a number of either."""

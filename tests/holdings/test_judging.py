@@ -43,6 +43,16 @@ class Judging(Case):
             self.expect("the other target's", "press.txt" in names)
             self.expect("its own", [it for it in names if it.startswith("other.")], [])
 
+    def test_rows_that_end_early(self) -> None:
+        """A row may end before the second number."""
+        with Weeks() as weeks:
+            for last, said in (
+                (40, ["press: new, 41 rows"]),
+                (39, ["press: 0 rows added, 1 gone", "  titles: 0 came, 1 gone: changes/press.txt"]),
+            ):
+                weeks.deliver("press", table(*rows(0, last)) + f"Ends early\t{issn(50)}\n".encode())
+                self.expect(f"{last} whole rows", weeks.make(), said)
+
     def test_collapse(self) -> None:
         """A table of 7,271 rows of which 6,544 lose their numbers, although the list allows the warning by its
         words."""

@@ -11,13 +11,19 @@ from pathlib import Path
 from unittest import mock
 
 from fixtures.cases import Case
+from openlink_update import COMMANDS
 from openlink_update import library_run
 from openlink_update import update_options
 from openlink_update.fetch import fetching
 from openlink_update.input_files import InputFolder
 from openlink_update.library_run import _End
+from openlink_update.library_sandbox import sandbox_of
 from openlink_update.outcome import Failure
+from openlink_update.places import PROVIDERS
+from openlink_update.rights import sandbox
 from openlink_update.rights.limits import Exceeded
+from openlink_update.rights.limits import Limits
+from openlink_update.site.front_door import Site
 from openlink_update.versions.library import Library
 
 OLDEST, OLD, NEW, NEWER = "20261115T000000Z", "20261122T000000Z", "20261125T000000Z", "20261129T000000Z"
@@ -74,6 +80,22 @@ class LibraryCase(Case):
 
     def versions(self) -> list[str]:
         return sorted(os.listdir(self.folder / "versions"))
+
+
+class Rights(LibraryCase):
+    def test_limits(self) -> None:
+        """What a step may take, the folders that count for its disk, and what its user has to read."""
+        site, folder, modules = (self.folder / name for name in ("site.conf", "input", "js"))
+        site.write_text(f"js_path {modules};\nset $openlink_disk 20m;\n")
+        modules.mkdir()
+        words = ("--minutes", "10", "--memory", "500", "--program", "/bin/sh", "--site", str(site))
+        with mock.patch.object(sandbox, "of") as of:
+            sandbox_of(self.options(*words), self.library, Site(site), folder)
+        folders = (self.folder / "versions", folder, self.folder / "input.fetch")
+        limits = Limits(600, 500 * 2**20, 20 * 2**20, folders, f"$openlink_disk in {site}")
+        place, library, found, needed = of.call_args.args
+        self.expect("limits", (place, library, found), (self.folder, self.folder, limits))
+        self.expect("files", needed, [self.folder, COMMANDS, PROVIDERS, Path("/bin/sh"), modules])
 
 
 class Work(LibraryCase):

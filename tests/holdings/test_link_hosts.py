@@ -197,6 +197,8 @@ class Cells(Case):
             ("https://A.example.org:8080/{title_id}", {"title_id"}, set(), {"a.example.org:8080"}),
             ("https://proxy.example.org?u={title_url}{&b*,c:4}", {"title_url", "b", "c"}, set(), {"proxy.example.org"}),
             ("{+title_url}", {"title_url"}, set(), set()),
+            ("{+title_page}", {"title_url"}, set(), set()),
+            ("https://{+sub}.example.org/", {"sub"}, {"sub"}, set()),
             ("https://{+host}/x", {"host"}, {"host"}, set()),
             ("https://www.{host}/{title_id}", {"host", "title_id"}, {"host"}, set()),
             ("https://{sub}.example.org/", {"sub"}, set(), set()),
@@ -226,6 +228,8 @@ class Cells(Case):
         self.expect("hosts", dict(found.hosts), {"one.org": 1, "two.org": 1})
         same = [Table(("a", "b"), [[f"http://one/{at}", "http://two"] for at in range(3)])] * 2
         self.expect("in most rows of all parts", link_hosts.links_of(same, both).most_common, ("http://two", 6))
+        few = [Table(("a",), [["http://one"], [""], [""], ["none"], ["none"]])]
+        self.expect("cells without an address", link_hosts.links_of(few, both).most_common, ("http://one", 1))
         twice = [Table(("a", "a"), [["http://one/x", "http://two"]])]
         found = link_hosts.links_of(twice, both)
         self.expect(

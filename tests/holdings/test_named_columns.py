@@ -5,6 +5,8 @@ from __future__ import annotations
 
 from fixtures import needs
 from fixtures.cases import Case
+from fixtures.spreadsheet_files import ods
+from fixtures.spreadsheet_files import xlsx
 from fixtures.updates import Library
 from holdings.shapes import PLAIN
 from holdings.shapes import tabs
@@ -54,6 +56,9 @@ class Names(Case):
         fewer = "x\nTitel;Print Identifier;mine\nTides;2901-0012;\n"
         says = "no header with the names of `columns` or of KBART; it has: "
         self.expect("two alone", read(mixed, fewer), [f'file 1: {says}"Titel", "Print Identifier", "mine"'])
+        twice = mixed.replace("Titel", "Print Identifier").replace("publication_title", "print_identifier")
+        wanted = [f'file 1: {says}"Titel", "Print Identifier", "mine"']
+        self.expect("a name of both counts once", read(f"{twice}, Titel=publication_title", fewer), wanted)
 
     def test_spellings(self) -> None:
         """Case, spaces and quotes around a name make no difference."""
@@ -99,6 +104,13 @@ class Names(Case):
             "publication_title\tprint_identifier\nTides\t2901-0012\n",
         )
 
+    def test_a_column_named_as_none(self) -> None:
+        """A hyphen, which leaves a column out, is no name that another column may not have."""
+        text = "Titel;-;ISSN;Verlag\nTides;a;2901-0012;b\n"
+        cell = "columns Titel=publication_title, ISSN=print_identifier, Verlag=-"
+        wanted = "publication_title\t-\tprint_identifier\nTides\ta\t2901-0012\n"
+        self.expect("one is left out", table(cell, text), wanted)
+
     def test_own_columns(self) -> None:
         text = "publication_title\tprint_identifier\tFach\nTides\t2901-0012\tsea\n"
         got = table("columns Fach=x_subject", text)
@@ -112,6 +124,9 @@ class Missing(Case):
         other = GERMAN.replace("Titel", "Haupttitel")
         has = HAS.replace("Titel", "Haupttitel")
         self.expect("a name that is served", read(ALL, other), [f'no column "Titel", which `columns` names; {has}'])
+        said = f'no column "Titel", which `columns` names; {has}'
+        self.expect("names of two files", read(ALL, other, other), [said])
+        self.expect("beside one that cannot be read", read(ALL, other, ""), ["file 2: it is empty"])
         without = "Titel;ISSN, print;Beginn\nTides;2901-0012;1995\n"
         found = read(ALL, without)
         self.expect(
@@ -138,6 +153,24 @@ class Missing(Case):
         found = read("", "\n".join(["Titel;ISSN;Jahr", "Tides;2901-0012;1995"]))
         said = 'no column has a title or an ISSN or ISBN or a date; the file has: "Titel", "ISSN", "Jahr"'
         self.expect("a header that is not known", found[1] if isinstance(found, tuple) else found, [said])
+        found = read("no header publication_title, -, print_identifier", "Tides\tPress\t2901-0012\n")
+        said = 'no column has a date; the file has: "publication_title", "print_identifier"'
+        self.expect("names of the line", found[1] if isinstance(found, tuple) else found, [said])
+
+    def test_names_of_two_files(self) -> None:
+        """Each is shown once, those of the first file first."""
+        one = "publication_title\tprint_identifier\tx\nTides\t2901-0012\t\n"
+        other = "publication_title\ty\tprint_identifier\nPiers\t\t2915-0272\n"
+        said = 'no column has a date; the file has: "publication_title", "print_identifier", "x", "y"'
+        found = read("", one, other)
+        self.expect("names", found[1] if isinstance(found, tuple) else found, [said])
+
+    def test_names_of_a_sheet(self) -> None:
+        """Those that are shown are of its fullest row among the first twenty, since a title may be above them."""
+        rows = [["Titles of a press"], ["Titel", "ISSN", "Jahr"], *[["Tides", "2901-0012"]] * 18, ["a", "b", "c", "d"]]
+        said = 'no header with the names of `columns` or of KBART; it has: "Titel", "ISSN", "Jahr"'
+        for name, data in (("xlsx", xlsx(rows)), ("ods", ods(rows))):
+            self.expect(name, read("columns Title=publication_title", data), [f"file 1: {said}"])
 
     def test_names_of_strangers(self) -> None:
         """They are shown in one line that is safe and not long."""
@@ -207,6 +240,9 @@ class NoHeader(Case):
             "with commas, 1 with semicolons"
         )
         self.expect("no line has as many", read(NO_HEADER, "Tides\tPress\t2901-0012\n"), [says])
+        none = says.replace("3 with", "0 with").replace("1 with", "0 with")
+        for text in ("", "\n\n"):
+            self.expect(f"no line: {text!r}", read(NO_HEADER, text), [none])
         text = "Tides;Press;2901-0012;1995\nPiers;Press;2915-0272;1995;x\n"
         self.expect("a longer row", read(NO_HEADER, text), ["file 1: no header: 4 names, and row 2 has 5 cells"])
         text = "Tides;Press;2901-0012;1995\nPiers;Press;2915-0272\n"

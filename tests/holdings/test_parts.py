@@ -139,19 +139,20 @@ class Parts(Case):
     @needs.program()
     def test_registry(self) -> None:
         """More parts than a registry can have: nothing is made, and those targets are named."""
-        counts = {"alone": 1, "large": 200, "other": 55}
+        counts = {"alone": 1, "pair": 2, "large": 198, "other": 55}
         self.expect("256 targets", parts.fault_of(counts, b"x" * 65_536), "")
         self.expect(
             "a byte too many",
             parts.fault_of(counts, b"x" * 65_537),
             "registry.tsv: 256 targets and 65537 bytes, and "
-            "256 and 65536 are possible; in parts: large (200), other (55)",
+            "256 and 65536 are possible; in parts: pair (2), large (198), other (55)",
         )
         counts["other"] = 56
         self.expect(
             "257 targets",
             parts.fault_of(counts, b"x"),
-            "registry.tsv: 257 targets and 1 bytes, and 256 and 65536 are possible; in parts: large (200), other (56)",
+            "registry.tsv: 257 targets and 1 bytes, and 256 and 65536 are possible; "
+            "in parts: pair (2), large (198), other (56)",
         )
         kept = parts.MOST_ROWS, parts.MOST_TARGETS
         parts.MOST_ROWS, parts.MOST_TARGETS = 1, 3

@@ -71,6 +71,7 @@ DATES = {
     "31122005": "2005-12-31",
     "12/31/2004 12:00:00 AM": "2004-12-31",
     "2005-03-01 9:30": "2005-03-01",
+    "12/31/2004 9:30PM": "2004-12-31",
     "2005-03-01T00:00:00.000Z": "2005-03-01",
     "2005-03-01T00:00:00+01:00": "2005-03-01",
     "2005-03-01T00:00:00-0500": "2005-03-01",
@@ -78,12 +79,16 @@ DATES = {
     "March 2nd, 2005": "2005-03-02",
     "3rd March 2005": "2005-03-03",
     "3-5 March 2005": "2005",
+    "2005/123/4": "2005",
+    "001/3/2005": "2005",
     "15/12/1400": "1400-12-15",
     "15/12/2099": "2099-12-15",
     "März 2005": "2005",
     # No year, or more than one: left for inspect to complain of.
     "19992004": "19992004",
     "1995-1998": "1995-1998",
+    "March 2005-2006": "March 2005-2006",
+    "15 March 2005, 2006": "15 March 2005, 2006",
     "200503": "200503",
     "01/02/95": "01/02/95",
     "15/12/1399": "15/12/1399",
@@ -272,6 +277,15 @@ class Preparation(Case):
             [
                 "2 of 3 rows dropped, and 1 may be: no identifier: 1, no ISSN or ISBN: 1; to allow it: dropped up to "
                 "2; the first: None 1995-03-01 https://press.example.com/ats"
+            ],
+        )
+
+        self.expect(
+            "what is said of one reason",
+            dropped_rows.reasons_against([["no ISSN or ISBN", "Tides", "soon"]] * 3, 100, set()),
+            [
+                "3 of 100 rows dropped, and 2 may be: no ISSN or ISBN: 3; to allow it: dropped up to 3; "
+                "the first: Tides soon"
             ],
         )
 

@@ -10,6 +10,7 @@ import zlib
 from pathlib import Path
 from unittest import mock
 
+from bounds.refusals import reason
 from fixtures.cases import Case
 from fixtures.spreadsheet_files import ODS
 from fixtures.spreadsheet_files import archive_of
@@ -125,6 +126,100 @@ class Documents(Case):
             found = self.of(cells=f"<table:table-row>{cell}</table:table-row>")
             self.expect(f"{count}", found if isinstance(found, str) else None, wanted)
 
+    def test_another_sheet(self) -> None:
+        """A table in a cell is no sheet, and a note in another sheet hides nothing of this one."""
+        note = "<office:annotation><text:p>note</text:p></office:annotation>"
+        table = "<table:table table:name='Inside'><table:table-row/></table:table>"
+        cell = f"<table:table-cell>{note}<text:p>x</text:p>{table}</table:table-cell>"
+        row = f"<table:table-row>{cell}</table:table-row>"
+        content = ods_content({"One": [], "Two": [HEAD, ROW]}).replace("</table:table>", f"{row}</table:table>", 1)
+        data = archive_of({"mimetype": ODS, "content.xml": content})
+        for name, wanted in (("Two", [ROW]), ("", [])):
+            self.expect(f"{name!r}", reading.read(data, Form(sheet=name)).rows, wanted)
+
+    def test_texts(self) -> None:
+        """What is between paragraphs, and a note in one of them, is no text of a cell. A day has no time."""
+        note = "<office:annotation><text:p>note</text:p></office:annotation>"
+        for name, cell, wanted in (
+            ("spaces between elements", "\n <text:p>Piers</text:p>\n", ["Piers"]),
+            ("between two", "\n <text:p>Piers</text:p>\n <text:p>and Quays</text:p>\n", ["Piers and Quays"]),
+            ("a note in a paragraph", f"<text:p>Piers{note} and Quays</text:p>", ["Piers and Quays"]),
+        ):
+            found = self.of(cells=f"<table:table-row><table:table-cell>{cell}</table:table-cell></table:table-row>")
+            self.expect(name, found[-1], wanted)
+        day = "<table:table-cell office:value-type='date' office:date-value='2003-09-15T23:59:58'/>"
+        self.expect("a day", self.of(cells=f"<table:table-row>{day}</table:table-row>")[-1], ["2003-09-15"])
+
+    def test_formulas(self) -> None:
+        """Of what a formula gives, an error alone is left out, and counted: a number sign and capitals."""
+        said = ["with an error of the spreadsheet, left empty: 1 cell"]
+        for formula, text, is_error in (
+            ("of:=X", "#REF!", True),
+            ("of:=X", "#DIV/0!", True),
+            ("of:=X", "#N/A", True),
+            ("of:=X", "TIDES", False),
+            ("of:=X", "#tides", False),
+            ("", "#TIDES", False),
+        ):
+            cell = f"<table:table-cell table:formula='{formula}'><text:p>{text}</text:p></table:table-cell>"
+            row = f"<table:table-row>{cell}<table:table-cell><text:p>x</text:p></table:table-cell></table:table-row>"
+            content = ods_content({"One": [HEAD, ROW]}).replace("</table:table>", f"{row}</table:table>")
+            found = reading.read(archive_of({"mimetype": ODS, "content.xml": content}))
+            wanted = ["" if is_error else text, "x"], said if is_error else []
+            self.expect(f"{text}, {formula}", (found.rows[-1], found.lines), wanted)
+
+    def test_repeated_cells(self) -> None:
+        """A cell is there as often as it says, and once if that is no number."""
+        for text, wanted in (("1", 1), ("3", 3), ("x", 1), ("-2", 1), ("", 1)):
+            cell = f"<table:table-cell table:number-columns-repeated='{text}'><text:p>x</text:p></table:table-cell>"
+            found = self.of(cells=f"<table:table-row>{cell}</table:table-row>")
+            self.expect(f"{text!r}", found[-1], ["x"] * wanted)
+
+    def test_numbers_of_rows(self) -> None:
+        """Those of the sheet: a row that is repeated is as many, also if it is empty."""
+        cell = "<table:table-cell{}><text:p>{}</text:p></table:table-cell>"
+        for above, number in (("", 3), (" table:number-rows-repeated='10'", 13)):
+            empty = f"<table:table-row{above}><table:table-cell/></table:table-row>" if above else ""
+            for made, wanted in (
+                (cell.format("", "x" * 100_001), f"row {number} has more than 100,000 bytes: is it a table?"),
+                (
+                    cell.format("", "ä" * 50_001),
+                    f"row {number} has 100,002 bytes, and 100,000 are possible: is it a table of holdings?",
+                ),
+                (
+                    cell.format(" table:number-columns-repeated='501'", "x"),
+                    f"row {number} has 501 cells, and a table may have 500 columns",
+                ),
+            ):
+                found = self.of(cells=f"{empty}<table:table-row>{made}</table:table-row>")
+                self.expect(f"{wanted[:30]}, {number}", found, wanted)
+
+
+class Fetched(Case):
+    def test_rows(self) -> None:
+        """Those below the header, wherever it is; none of a file that has no other row."""
+        head, row, comma = "\t".join(HEAD), "\t".join(ROW), ",".join(HEAD)
+        line = f"<tr>{''.join(f'<td>{name}' for name in HEAD)}</tr>"
+        for name, data, wanted in (
+            ("a text", f"{head}\n{row}\n{row}", 2),
+            ("lines above", f"Titles\n\n3\n{head}\n{row}\n", 1),
+            ("blank lines", f"{head}\n\n{row}\n \t\n", 1),
+            ("commas below a line", f"Titles\n{comma}\na,b\n", 1),
+            ("a header alone", head, 0),
+            ("no header", "a\nb\nc\n", 2),
+            ("a sheet", archive_of(xlsx_members({"One": [["Titles"], HEAD, ROW]})), 1),
+            ("a sheet without a header", archive_of(xlsx_members({"One": [["a"], ["b"], ["c"]]})), 2),
+            ("an empty sheet", archive_of(xlsx_members({"One": []})), 0),
+            ("a page", f"<html><table>{line * 3}</table>", 2),
+            ("a page with rows above", f"<html><table><tr><td>Titles<td>3</tr>{line * 2}</table>", 1),
+            ("a page without a header", "<html><table>" + "<tr><td>a<td>b</tr>" * 3 + "</table>", 2),
+            ("a page with a long line", f"<html><table>{line * 3000}</table>", 2999),
+        ):
+            found = reading.rows_in(data if isinstance(data, bytes) else data.encode(), Form(is_html=True))
+            self.expect(name, found, wanted)
+        for data in (b"", b" \n\t\n"):
+            self.expect(f"{data!r}", reason(reading.rows_in, data, Form()), "empty")
+
 
 class Pages(Case):
     def page(self, rows: str) -> list[list[str]] | str:
@@ -179,6 +274,42 @@ class Cells(Case):
                 table = Table(("publication_title", "print_identifier", column), rows)
                 found = FIND["volumes or issues that are no number"](Pair(of(table), None, DAY, lambda _: {}))
                 self.expect(f"{count} of {column}", found and found.count, wanted)
+
+    def test_served_rows(self) -> None:
+        """The days come after the columns of the table, before cells that have no column. A cell of spaces is no
+        embargo, and of others the first is named."""
+        columns = ("publication_title", "print_identifier", "date_first_issue_online", "date_last_issue_online")
+        rows = [
+            ["Tides", "2901-0012", "1995", "", "P6M", "more"],
+            ["Piers", "2915-0272"],
+            ["Quays", "2922-0408", "1995-03", "1996", "  "],
+            ["Locks", "2929-0538", "", "1996-02", "soon"],
+            ["Weirs", "2936-0662", "1997", "1996", "later"],
+            ["Moles", "2943-081X", "1996-05-01", "1996-05-01"],
+        ]
+        for has_walls, last in ((True, "2026-05"), (False, "")):
+            table, lines = coverage.served(Table((*columns, "embargo_info"), rows), DAY, has_walls)
+            wanted = [
+                ["Tides", "2901-0012", "1995", last, "P6M", "19950101", "20260527", "more"],
+                ["Piers", "2915-0272", "", "", "", "0", "99999999"],
+                ["Quays", "2922-0408", "1995-03", "1996", "  ", "19950301", "19961231"],
+                ["Locks", "2929-0538", "", "1996-02", "soon", "0", "19960229"],
+                ["Weirs", "2936-0662", "1997", "1996", "later", "99999999", "0"],
+                ["Moles", "2943-081X", "1996-05-01", "1996-05-01", "", "19960501", "19960501"],
+            ]
+            self.expect(f"rows, {has_walls}", table.rows, wanted)
+            self.expect(f"lines, {has_walls}", lines, ['embargo_info not an embargo 2, first 3 "soon": not used'])
+
+    def test_an_embargo_without_a_last_date(self) -> None:
+        """A table that has no column for it gets the days alone."""
+        table, lines = coverage.served(Table(("print_identifier", "embargo_info"), [["2901-0012", "P6M"]]), DAY)
+        self.expect("the row", (table.rows, lines), ([["2901-0012", "P6M", "0", "20260527"]], []))
+
+    def test_columns_that_the_update_writes(self) -> None:
+        said = "it has a column {}, which only the update may write"
+        for names in (("coverage_from",), ("coverage_to",), ("coverage_from", "coverage_to")):
+            found = reason(coverage.served, Table(("publication_title", *names), []), DAY)
+            self.expect(f"{names}", found, "; ".join(map(said.format, names)))
 
     def test_no_columns(self) -> None:
         """A table that has none, as of an empty file, gets none."""

@@ -32,6 +32,7 @@ from openlink_update.outcome import Refused
 from openlink_update.machines import library_updates
 from openlink_update.received import archives
 from openlink_update.received import headers
+from openlink_update.received import reading
 from openlink_update.rights import filters
 from openlink_update.rights import handover
 from openlink_update.root_folder import RootFolder
@@ -503,6 +504,12 @@ class Received(FolderCase):
         spoilt = written.getvalue().replace(b"read me", b"real me")
         said = reason(archives.opened, spoilt, "*", lambda data: data == b"read me")
         self.expect("one that is damaged", said.startswith("a zip file with 2 members: name "))
+        written = io.BytesIO()
+        with zipfile.ZipFile(written, "w") as archive:
+            archive.writestr("readme.txt", b"read me")
+            archive.writestr("a.txt", table + b"Tides\t2901-0012\t\n")
+        spoilt = written.getvalue().replace(b"read me", b"real me")
+        self.expect("beside a table", reading.read(spoilt).rows, [["Tides", "2901-0012", ""]])
 
     def test_rows_without_names(self) -> None:
         self.expect("no row", reason(headers.table_of_rows, []), "it is empty")

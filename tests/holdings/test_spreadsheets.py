@@ -112,6 +112,18 @@ class Sheets(Case):
         self.expect("an unsafe name", read(unsafe, Options(sheet="b")), f'no sheet "b"; it has: "a?b?c{"x" * 35}.."')
 
 
+    def test_other_parts(self) -> None:
+        """A workbook names its properties too, and has sheets of charts, which are no tables."""
+        other = '<Relationship Id="r0" Type="x/extended-properties" Target="docProps/app.xml"/><Relationship Id="r1"'
+        self.expect("properties", read(changed("_rels/.rels", '<Relationship Id="r1"', other)), SERVED)
+        chart = '<Relationship Id="s0" Type="x/chartsheet" Target="worksheets/chart1.xml"/></Relationships>'
+        members = xlsx_members({"Sheet1": ROWS}, is_inline=True)
+        links = str(members["xl/_rels/workbook.xml.rels"]).replace("</Relationships>", chart)
+        both = {**members, "xl/_rels/workbook.xml.rels": links, "xl/worksheets/chart1.xml": "<chartsheet/>"}
+        sheets = '<sheets><sheet name="Chart" sheetId="7" r:id="s0"/>'
+        self.expect("a chart before the sheet", read(changed("xl/workbook.xml", "<sheets>", sheets, both)), SERVED)
+
+
 class Cells(Case):
     """What is read of a cell."""
 
@@ -128,6 +140,7 @@ class Cells(Case):
             ("a fraction", "<c><v>0.30000000000000004</v></c>", "0.3"),
             ("a number without end", "<c><v>1e999</v></c>", "inf"),
             ("words as a number", "<c><v>no number</v></c>", "no number"),
+            ("in two lines", "<c><v>no&#10;number</v></c>", "no number"),
             ("true", '<c t="b"><v>1</v></c>', "TRUE"),
             ("a date of its own kind", '<c t="d"><v>2005-03-01T00:00:00</v></c>', "2005-03-01T00:00:00"),
             ("other ends of lines", '<c t="inlineStr"><is><t>A&#133;B&#8232;C&#8233;D</t></is></c>', "A B C D"),
@@ -232,6 +245,7 @@ class Cells(Case):
         for cell, wanted in (
             ("9.99999999999999E+14", "999999999999999"),
             ("-2.5E+1", "-25"),
+            ("-0.0", "0"),
             ("1E+15", "1e+15"),
             ("-1E+15", "-1e+15"),
             ("１９９５", "1995"),
@@ -260,7 +274,9 @@ class Dates(Case):
             (Cell("36526", form=4), False, "2000-01-01"),
             (Cell("1995", form=len(spreadsheet_files.FORMS)), False, "1995"),  # the file has no such form
             (Cell("1995", form=10**12), False, "1995"),
+            (Cell("soon", form=1), False, "soon"),
             (36526, False, "2000-01-01"),
+            (36526.75, False, "2000-01-01"),
             (1995, False, "1995"),
             (1400, False, "1400"),
             (1399, False, "1903-10-30"),
@@ -300,6 +316,21 @@ class Dates(Case):
                 data = xlsx([HEAD, ["Tides", "2901-0012", "", Cell("2000", form=3)]])
             self.expect(form, read(data), [["Tides", "2901-0012", "", wanted]])
 
+    def test_form_of_a_number_that_is_known(self) -> None:
+        """What the file says of it counts."""
+        with mock.patch.object(spreadsheet_files, "OWN_FORMS", {"14": "yyyy"}):
+            data = xlsx([HEAD, ["Tides", "2901-0012", "", Cell("2000", form=1)]])
+        self.expect("14 as a year", read(data), [["Tides", "2901-0012", "", "1905"]])
+
+    def test_forms_that_are_none(self) -> None:
+        """A number with one of them is a number."""
+        row = '<row><c t="str"><v>Piers</v></c><c t="str"><v>2915-0272</v></c><c/><c s="{}"><v>1995</v></c></row>'
+        wanted = [ROW, ["Piers", "2915-0272", "", "1995"]]
+        for form in ("²", "9" * 5000, "-1", "x"):
+            self.expect(f"{form[:5]}", read(of_sheet(row.format(form))), wanted)
+            text = f'numFmtId="{form}"/><xf numFmtId="0"'
+            self.expect(f"{form[:5]} in a list", read(changed("xl/styles.xml", 'numFmtId="0"', text)), SERVED)
+
     def test_first_day_of_a_workbook(self) -> None:
         """An attribute that is true is so in both ways that XML has to write it."""
         members = xlsx_members({"Sheet1": [HEAD, [*ROW[:3], 35064]]})
@@ -327,6 +358,8 @@ class Dates(Case):
         data = archive_of({"mimetype": ODS, "content.xml": content})
         self.expect("its first day", read(data), [["Tides", "2901-0012", "", "2000-01-01"]])
         self.expect("a date", read(ods([HEAD, [*ROW[:3], datetime.date(2003, 9, 15)]])), [[*ROW[:3], "2003-09-15"]])
+        timed = ods([HEAD, [*ROW[:3], datetime.datetime(2003, 9, 15, 23, 59, 58)]])
+        self.expect("a date with a time", read(timed), [[*ROW[:3], "2003-09-15"]])
 
 
 class Zeros(Case):
@@ -340,6 +373,7 @@ class Zeros(Case):
             (306406152, "9780306406157"),
             (3178472, "3178472"),
             (29010012, "29010012"),
+            ("٣١٧٨٤٧١", "٣١٧٨٤٧١"),
         ):
             rows = read(xlsx([HEAD, ["Tides", cell, "2908-0142", "1995"]]))
             self.expect(str(cell), rows[0][1] if isinstance(rows, list) else rows, wanted)
@@ -369,6 +403,10 @@ class Refusals(Case):
         content = ods_content({"One": ROWS})
         cases: dict[str, tuple[bytes, str]] = {
             "the old form": (old, "a spreadsheet in the old form, .xls: save it as .xlsx, .ods or text with tabs"),
+            "the old form beside a text in a zip": (
+                archive_of({"readme.txt": "read me", "list.xls": old}),
+                "a spreadsheet in the old form, .xls: save it as .xlsx, .ods or text with tabs",
+            ),
             "a password": (old + "EncryptedPackage".encode("utf-16-le"), password),
             "an encrypted member": (bytes(encrypted), password),
             "an encrypted document": (
@@ -388,6 +426,12 @@ class Refusals(Case):
             "XML that is cut short": (changed("xl/worksheets/sheet1.xml", "</worksheet>", ""), DAMAGED),
             "an unknown encoding": (
                 changed("xl/worksheets/sheet1.xml", "<worksheet", '<?xml version="1.0" encoding="klingon"?><worksheet'),
+                DAMAGED,
+            ),
+            "an encoding that the parser lacks": (
+                changed(
+                    "xl/worksheets/sheet1.xml", "<worksheet", '<?xml version="1.0" encoding="shift_jis"?><worksheet'
+                ),
                 DAMAGED,
             ),
             "XML of 2003": (
@@ -422,8 +466,30 @@ class Refusals(Case):
         """Each is in the column after the one before it."""
         texts = "".join(f'<c t="inlineStr"><is><t>{text}</t></is></c>' for text in ("Quays", "2922-0408"))
         self.expect("two", read(of_sheet(f"<row>{texts}</row>"))[-1], ["Quays", "2922-0408"])
+        first, second = texts.replace("><c ", ">\n<c ").split("\n")
+        for empty in ("<c/>", "<c s='1'></c>", "<c><f>NOW()</f></c>"):
+            found = read(of_sheet(f"<row>{first}{empty}{second}{empty}</row>"))
+            self.expect(f"an empty one between: {empty}", found[-1], ["Quays", "", "2922-0408"])
+        self.expect("an empty one first", read(of_sheet(f"<row><c/>{second}</row>"))[-1], ["", "2922-0408"])
+        begun = first.replace("<c ", '<c r="A3" ')
+        placed = read(of_sheet(f'<row><c r="B3"/>{second}{begun}</row>'))
+        self.expect("after an empty one with a place", placed[-1], ["Quays", "", "2922-0408"])
         wide = read(of_sheet(f"<row>{'<c><v>1</v></c>' * 501}</row>"))
         self.expect("501", wide, f"row {len(ROWS) + 1} has 501 cells, and a table may have 500 columns")
+
+    def test_numbers_of_rows(self) -> None:
+        """Those of the sheet, which has no empty rows; a row without a number is the one after the row before it."""
+        wrong = '<row{}><c t="s"><v>7</v></c></row>'
+        row = '<row{}><c t="str"><v>Piers</v></c></row>'
+        for rows, number in (
+            (wrong.format(' r="9"'), "9"),
+            (wrong.format(' r="1048576"'), "1,048,576"),
+            (row.format(' r="9"') + wrong.format(""), "10"),
+            (row.format("") + wrong.format(""), "4"),
+            (wrong.format(' r="²"'), "3"),
+            (wrong.format(f' r="{"9" * 5000}"'), "999,999,999"),
+        ):
+            self.expect(rows[:40], read(of_sheet(rows)), f"row {number} has a text that the spreadsheet lacks")
 
     def test_entities(self) -> None:
         says = "a spreadsheet with a document type in its XML, which none needs"
@@ -457,6 +523,12 @@ class Refusals(Case):
             read(of_sheet(cell, shared)),
             "row 3 has 100,001 bytes, and 100,000 are possible: is it a table of holdings?",
         )
+        several = "".join(f"<si><t>{letter * 60_000}</t></si>" for letter in "abc")
+        cells = "".join(f'<row><c t="s"><v>{number}</v></c><c><v>29010012</v></c></row>' for number in range(3))
+        wanted = [ROW, *([letter * 60_000, "29010012"] for letter in "abc")]
+        self.expect("each shared one counts alone", read(of_sheet(cells, several)), wanted)
+        cells = "".join(f'<row><c t="str"><v>{it * 60_000}</v></c><c><v>29010012</v></c></row>' for it in "abc")
+        self.expect("each row counts alone", read(of_sheet(cells)), wanted)
         own = f'<row><c t="str"><v>{"x" * 200_000}</v></c></row>'
         self.expect("its own", read(of_sheet(own)), "row 3 has more than 100,000 bytes: is it a table?")
 

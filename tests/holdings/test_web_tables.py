@@ -15,6 +15,7 @@ from openlink_update.fetch.sources import Source
 from openlink_update.input_files import InputFolder
 from openlink_update.outcome import Refused
 from openlink_update.outcome import Unreadable
+from openlink_update.received.column_names import IDENTIFIERS
 from openlink_update.tables import preparation
 from openlink_update.target_options import Options
 
@@ -55,6 +56,11 @@ class Tables(Case):
         self.expect("a table alone, without it", read(TABLE, Options()), "a web page, not a table")
         self.expect("in a zip", read(archive_of({"list.xls": PAGE, "readme.txt": "x"})), [CELLS])
         self.expect("UTF-16", read(b"\xff\xfe" + PAGE.encode("utf-16-le")), [CELLS])
+        text = "\n".join("\t".join(it) for it in (["publication_title", *IDENTIFIERS, "title_url"], CELLS))
+        self.expect("beside a text in a zip", read(archive_of({"a.htm": PAGE, "b.txt": text}), Options()), [CELLS])
+        windows = PAGE.replace("Tides", "Études").encode("cp1252")
+        said = ["not UTF-8, read as windows-1252: 1 line"]
+        self.expect("what is said", preparation.prepare([("page", windows)], HTML).lines[:1], said)
         self.expect("a long line", read(PAGE.replace(ROW, ROW * 3000)), [CELLS])
 
     def test_cells(self) -> None:
@@ -69,6 +75,9 @@ class Tables(Case):
             ("a script", "<td>Ti<script>if (a < b) { '</td>' }</script>des", "Tides"),
             ("a script that ends in capitals", "<td>Ti<script>x</SCRIPT>des", "Tides"),
             ("a template", "<td>Ti<template><td>x</template>des", "Tides"),
+            *((tag, f"<td>Ti<{tag}>x</{tag}>des", "Tides") for tag in ("style", "textarea", "title", "noscript")),
+            ("attributes of a script", "<td data-colspan=2 data-rowspan=2 x-colspan=3>Tides", "Tides"),
+            ("parts of the page", "<td>Tides<div>and Piers</div>", "Tides and Piers"),
             ("a list", "<td><li>Tides<li>and Piers", "Tides and Piers"),
             ("a span of none", "<td colspan=0 rowspan='0'>Tides", "Tides"),
             ("a sign in quotes", "<td title='a > b'>Tides", "Tides"),
@@ -93,6 +102,9 @@ class Tables(Case):
             ["d", "2922-0408"],
         ]
         self.expect("rows", read(f"<table>{HEAD}{rows}</table>"), wanted)
+        last = f"{ROW.replace('<td>https', '<td rowspan=2>https')}<tr><td>Piers<td>2915-0272<td></tr>"
+        wanted = [CELLS, ["Piers", "2915-0272", "", CELLS[3]]]
+        self.expect("the last column", read(f"<table>{HEAD}{last}</table>"), wanted)
         wide = read(f"<table>{HEAD}<tr><td colspan=999999999>x</tr></table>")
         self.expect("a wide cell", wide, "row 2 has 999,999,999 cells, and a table may have 500 columns")
         high = read(f"<table>{HEAD}<tr><td rowspan=999999999>Tides<td>2901-0012</tr></table>")
@@ -101,6 +113,17 @@ class Tables(Case):
     def test_addresses(self) -> None:
         for name, cell, wanted in (
             ("a link", "<td><a href='https://a.example.com/?x=1&amp;y=2'>open</a>", "https://a.example.com/?x=1&y=2"),
+            ("without TLS", "<td><a href='http://a.example.com/'>open</a>", "http://a.example.com/"),
+            ("a host alone", "<td><a href='www.a.example.com'>open</a>", "https://www.a.example.com"),
+            (
+                "an attribute of a script",
+                "<td><a data-href='https://b.example.com/' href='https://a.example.com/'>open</a>",
+                "https://a.example.com/",
+            ),
+            ("no space before it", '<td><a class="x"href="https://a.example.com/">open</a>', "https://a.example.com/"),
+            ("spaces", '<td><a href = "https://a.example.com/">open</a>', "https://a.example.com/"),
+            ("spaces around it", "<td><a href=' https://a.example.com/ '>open</a>", "https://a.example.com/"),
+            ("a line end in it", "<td><a href='https://a.example.com/&#10;x'>open</a>", "https://a.example.com/ x"),
             ("without quotes", "<td><a class=x href=https://a.example.com/>open</a>", "https://a.example.com/"),
             (
                 "its text is an address",
@@ -133,13 +156,21 @@ class Tables(Case):
         self.expect("a login", read(LOGIN), "a web page that asks for a password")
         loud = LOGIN.replace("type=password", "TYPE = 'PASSWORD'")
         self.expect("a login in capitals", read(loud), "a web page that asks for a password")
+        tight = LOGIN.replace("<input type", "<input class='x'type")
+        self.expect("a login without spaces", read(tight), "a web page that asks for a password")
         self.expect("a login beside one", read(PAGE + LOGIN), "a web page that asks for a password")
-        self.expect("a search beside one", read(PAGE + "<input type=search>"), read(PAGE))
+        for kind in ("type=search", "data-type=password", "type=text class=password"):
+            self.expect(f"a search beside one, {kind}", read(f"{PAGE}<input {kind}>"), [CELLS])
         says = "a web page with 2 tables, of which {} have a header of known names"
         self.expect("two without a header", read(other + other), says.format(0))
         self.expect("two with one", read(TABLE + TABLE), says.format(2))
         unknown = 'a web page whose table has no header of known names; it has: "a", "b"'
         self.expect("no header", read(other), unknown)
+        line = "<tr><td>c<td>d</tr>"
+        above = f"<table><tr><td>Titles<td></tr>{line * 18}"
+        late = unknown.replace('"a", "b"', '"c", "d"')
+        self.expect("a header in row 20", read(f"{above}{HEAD}{ROW}</table>"), [CELLS])
+        self.expect("in row 21", read(f"{above}{line}{HEAD}{ROW}</table>"), late)
         names = Options(is_html=True, header=("publication_title", "print_identifier"))
         self.expect(
             "a line that gives one",

@@ -25,7 +25,7 @@ def text_of(data: bytes, is_page: bool = False) -> tuple[str, list[str]]:
             limits.check_text(text, width=2)
         text = _with_line_feeds(text)
         count = text.rstrip("\n").count("\n") + 1
-        lines = [f"UTF-16: {count} lines"]
+        lines = [f"UTF-16: {amount(count, 'line')}"]
     else:
         data = data.removeprefix(_UTF_8)
         if not is_page:

@@ -19,13 +19,13 @@ _LEAST = 2  # rows, and cells of a row, of a table that is one
 _TAG = re.compile(r"</?([a-zA-Z][a-zA-Z0-9]{0,30})")
 _SKIPPED = {"<!--": "-->", "<!": ">", "<?": ">"}  # how what is no text begins and ends
 _RAW = ("script", "style", "textarea", "title", "template", "noscript")  # elements whose text is none of the page
-_LINK = re.compile(r"""\bhref\s*=\s*(?:"([^"<>]*)"|'([^'<>]*)'|([^\s"'<>]+))""", re.I)
-_COLUMNS = re.compile(r"""\bcolspan\s*=\s*["']?(\d{1,9})""", re.I | re.A)
-_ROWS = re.compile(r"""\browspan\s*=\s*["']?(\d{1,9})""", re.I | re.A)
+_LINK = re.compile(r"""(?<![^\s/"'])href\s*=\s*(?:"([^"<>]*)"|'([^'<>]*)'|([^\s"'<>]+))""", re.I)
+_COLUMNS = re.compile(r"""(?<![^\s/"'])colspan\s*=\s*["']?(\d{1,9})""", re.I | re.A)
+_ROWS = re.compile(r"""(?<![^\s/"'])rowspan\s*=\s*["']?(\d{1,9})""", re.I | re.A)
 _WHOLE = re.compile(r"""(?:[^>"']|"[^"]*"|'[^']*')*>""")
 _MOST_OPEN = 1000  # tags with a quotation mark that is not closed in them
 _MOST_DEPTH = 64  # of tables in tables
-_PASSWORD = re.compile(r"""\btype\s*=\s*["']?password\b""", re.I)
+_PASSWORD = re.compile(r"""(?<![^\s/"'])type\s*=\s*["']?password\b""", re.I)
 _WEB = ("http://", "https://", "www.")
 _ADDRESS = "title_url"
 

@@ -128,12 +128,14 @@ class _Rows:
         if code == _CELL:
             self._kind, self._style = attributes.get("t", "n"), attributes.get("s", "")
             reference = attributes.get("r", "")
-            self._place = self._column(reference.rstrip("0123456789")) if reference else len(self._row)
+            self._place = self._column(reference.rstrip("0123456789")) if reference else self._place + 1
             self._pieces = []
         elif code == _VALUE:
             self._is_value = not self._is_phonetic
         elif code == _ROW:
-            self._row, self._number, self._size = [], self._number + 1, 0
+            self._row, self._size, self._place = [], 0, -1
+            number = attributes.get("r", "")
+            self._number = int(number[:9]) if number.isdecimal() else self._number + 1
         elif code == _PHONETIC:
             self._is_phonetic = True
 
