@@ -96,7 +96,9 @@ class MadeDesk:
         path.write_bytes(gzip.compress(data) if name.endswith(".gz") else data)
         os.utime(path, (1_700_000_000 + day * 86_400,) * 2)
 
-    def make(self, languages: list[str] | None = None, library: str = "Library") -> dict[str, str]:
+    def make(
+        self, languages: list[str] | None = None, library: str = "Library", has_version: bool = True
+    ) -> dict[str, str]:
         """The files of a desk, by their names; the next one goes on from it."""
         shutil.rmtree(self.out, ignore_errors=True)
         self.out.mkdir()
@@ -104,7 +106,8 @@ class MadeDesk:
         targets.write_text(json.dumps({"languages": languages or ["en"], "words": {"library": library}}))
         paths = [self.logs / it for it in ("openlink.log", "openlink-wanted.log")]
         folders = [(folder, names) for folder, names in logs.folders_of(paths)]
-        source = site_files.Source(self.version, self.before, self.records, folders, targets, str(self.program), NOW)
+        version = self.version if has_version else None
+        source = site_files.Source(version, self.before, self.records, folders, targets, str(self.program), NOW)
         site_files.write(self.out, source)
         found = {it.name: it.read_text("utf-8") for it in self.out.iterdir() if it.is_file()}
         self.before = self.top / "before"

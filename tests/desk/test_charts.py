@@ -39,8 +39,8 @@ class Charts(Case):
         self.expect("one alone is as high as two", heights[2], heights[0] + heights[1])
         self.expect(
             "both ends",
-            [(it.text, it.x) for it in chart.labels if it.text in ("one", "10 · 5")],
-            [("one", 0), ("10 · 5", chart.width)],
+            [(it.text, it.x, it.anchor) for it in chart.labels if it.text in ("one", "10 · 5")],
+            [("one", 0, "start"), ("10 · 5", chart.width, "end")],
         )
 
     def test_within_the_picture(self) -> None:

@@ -3,10 +3,12 @@ pages are those of a stand-in."""
 from __future__ import annotations
 
 import contextlib
+import datetime
 import fcntl
 import io
 import os
 import tempfile
+import time
 from collections.abc import Callable
 from pathlib import Path
 from unittest import mock
@@ -81,12 +83,15 @@ class Folder(FolderCase):
 
     def test_what_it_is_made_of(self) -> None:
         """The version in use with its own targets.json, or that of the site; the logs of the site."""
+        wanted = self.top / "wanted/openlink.log"
+        with open(self.site, "a", encoding="utf-8") as site:
+            site.write(f"access_log {wanted} openlink_wanted if=$openlink_wanted;\n")
         self.write()
         self.expect("no version", (self.sources[-1].version, self.sources[-1].targets), (None, None))
         self.expect(
             "logs",
             [(it.path, names) for it, names in self.sources[-1].folders],
-            [(self.top / "logs", ["openlink.log"])],
+            [(self.top / "logs", ["openlink.log"]), (wanted.parent, ["openlink.log"])],
         )
         version = self.top / "versions" / STAMP
         version.mkdir(parents=True)
@@ -99,6 +104,16 @@ class Folder(FolderCase):
         (version / "targets.json").write_text("{}", encoding="utf-8")
         self.write()
         self.expect("with its own labels", self.sources[-1].targets, version / "targets.json")
+
+    def test_time(self) -> None:
+        """That of the clock, whatever the time zone is."""
+        self.addCleanup(time.tzset)
+        with mock.patch.dict(os.environ, TZ="XXX-9"):
+            time.tzset()
+            first = datetime.datetime.now(datetime.timezone.utc)
+            self.write()
+            last = datetime.datetime.now(datetime.timezone.utc)
+        self.expect("between both", first <= self.sources[-1].now <= last)
 
     def test_what_fails(self) -> None:
         """The desk before is shown, and nothing of the new one is left."""
@@ -153,6 +168,7 @@ class Command(FolderCase):
     def test_libraries(self) -> None:
         self.expect("one alone", self.written(), ((0, ""), ["."]))
         self.expect("one of several", self.written("west"), ((0, ""), ["west"]))
+        self.expect("once, however often it is named", self.written("west", "west"), ((0, ""), ["west"]))
         self.expect("all of several", self.written("--all"), ((0, ""), ["north", "west"]))
         (self.top / "input").mkdir()
         self.expect("with one alone", self.written("--all"), ((0, ""), [".", "north", "west"]))

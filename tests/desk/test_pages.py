@@ -10,7 +10,9 @@ from desk.made_desk import HOSTILE
 from desk.made_desk import LINE
 from desk.made_desk import MadeDesk
 from desk.made_desk import NOW
+from desk.made_desk import PROGRAM
 from desk.made_desk import Page
+from desk.made_desk import RULES
 from desk.made_desk import hostile_probe
 from desk.made_desk import hostile_state
 from desk.made_desk import record
@@ -39,6 +41,12 @@ MOST_BYTES = 1_500_000  # of a page
 
 def first_of(records: list[RunRecord], found: list[targets.Target]) -> list[str]:
     return [it.text for it in week_of(records, found, NOW, ENGLISH).first]
+
+
+def cells_of(text: str) -> list[list[str]]:
+    """The texts of the cells of all rows of a page, without rows that hold a table."""
+    rows = re.findall(r"<tr[^>]*>((?:(?!<tr).)*?)</tr>", text, re.S)
+    return [[Page(it).text.strip() for it in re.findall(r"<t[hd]\b[^>]*>.*?</t[hd]>", row, re.S)] for row in rows]
 
 
 def check(case: Case, name: str, files: dict[str, str]) -> None:
@@ -101,6 +109,18 @@ class Pages(Case):
                 [it for it in page.links if it.startswith(("changes/", "dropped/"))],
                 ["dropped/bad.txt", "changes/good.txt"],
             )
+            shown = cells_of(files["week.en.html"])
+            for row in (
+                ["bad", "old table kept", "1,234", "0", "0", "", "dropped rows"],
+                ["good", "changed", "1,234", "56", "7", "2026-11-23", "titles that came and went"],
+                ["bad.txt", "kept the old file: status 500"],
+                ["2026-11-28 04:00", "update", "1", "61"],
+            ):
+                self.expect(f"the row {row}", shown.count(row), 1)
+            bad = re.findall(r'<tr(?: id="([^"]*)")? class="bad">', files["week.en.html"])
+            self.expect("what is marked: a target, and runs that ended badly", bad, ["t-bad"] + [""] * 11)
+            self.expect("what is open", re.findall("<details open>.*?<bdi>(.*?)</bdi>", files["week.en.html"]), ["bad"])
+            self.expect("a link to the target", page.links.count("#t-bad"), 1)
             self.expect("runs", len(re.findall(r'<th scope="row" class="m">', files["week.en.html"])), 12)
             self.expect(
                 "what needs her comes first", page.text.index("bad kept") < page.text.index("good has slips"), True
@@ -115,7 +135,105 @@ class Pages(Case):
                     ["away", "gone", "0", "0", "0"],
                 ],
             )
+            self.expect("its columns", rows[0], ["target", "state", "rows", "added", "gone", "table of", "lines"])
+            self.expect(
+                "days and lines",
+                [row[5:] for row in rows[1:]],
+                [
+                    ["", "bad: kept |   bad.txt: a web page, not a table"],
+                    ["2026-11-23", "good: 56 rows added, 7 gone"],
+                    ["", ""],
+                ],
+            )
             self.expect("the first page", files["index.html"], files["week.en.html"])
+            self.expect("when it was made", "Made on 2026-11-29 05:30 UTC" in page.text)
+
+    def test_first_of_many(self) -> None:
+        """Forty of what needs her, and how many more there are; without a version nothing is said to be well."""
+        with MadeDesk() as desk:
+            desk.records = [record(targets=tuple(TargetState(f"t{it}", "kept") for it in range(42)))]
+            page = Page(desk.make()["week.en.html"])
+            self.expect("more", "And 2 more, which are in the file." in page.text)
+            desk.records = [record()]
+            self.expect("all is well", "Nothing: all is well." in Page(desk.make()["week.en.html"]).text)
+            text = Page(desk.make(has_version=False)["week.en.html"]).text
+            said = [it in text for it in ("No version is in use yet.", "all is well")]
+            self.expect("no version", said, [True, False])
+
+    def test_year(self) -> None:
+        """The numbers of a month, and of each list, beside their names."""
+        with MadeDesk() as desk:
+            line = LINE.replace("{month}", "2026-10").replace("{targets}", "press")
+            lines = [line.format(found="1/2", source="WOS")] * 1005 + [line.format(found="0/2", source="WOS")] * 2
+            lines += [line.format(found="0/0", source="DB")]
+            lines += [line.format(found="1/1", source="WOS").replace("200 GET /find", "302 GET /go")] * 4
+            lines += [line.format(found="0/0", source="").replace(" 200 ", " 404 ")] * 2
+            desk.log("openlink.log", lines)
+            desk.log("openlink-wanted.log", ["2026-10 2901-0012 2019\n"] * 7)
+            files = desk.make()
+            check(self, "a year", files)
+            shown = cells_of(files["year.en.html"])
+            for row in (
+                ["Month", "Requests", "With full text", "Without full text", "Without a link", "Errors"],
+                ["2026-10", "1,012", "1,009", "3", "1", "2"],
+                ["WOS", "1,011", "2"],
+                ["DB", "1", "1"],
+                ["press", "1,008", "4"],
+                ["2901-0012", "7"],
+            ):
+                self.expect(f"the row {row}", shown.count(row), 1)
+            self.expect("its heading", re.findall("<h2>(.*?)</h2>", files["year.en.html"])[0], "2026-10")
+            captions = re.findall("<figcaption>.*?</figcaption>", files["year.en.html"])
+            self.expect(
+                "captions",
+                [" ".join(Page(it).text.split()) for it in captions],
+                ["With full text Without full text", "Requests Without full text", "Shown Followed", "Requests"],
+            )
+            labels = re.findall('role="img" aria-label="(.*?)"', files["year.en.html"])
+            self.expect("charts", labels, ["Requests, 2026-10", "By source", "By target", "Asked for in vain"])
+            self.expect("the table", files["year.tsv"].split("\n")[0], "month\tcounted\tname\tnumber")
+
+    def test_languages(self) -> None:
+        """Each page leads to the pages in its language, and to itself in the others."""
+        with MadeDesk() as desk:
+            desk.add_target("press")
+            files = desk.make(["en", "he"])
+            check(self, "two languages", files)
+            for name in ("week", "year", "collection", "rules", "target-press"):
+                text, page = files[f"{name}.he.html"], Page(files[f"{name}.he.html"])
+                self.expect(f"{name}: its language", text.split("\n")[1], '<html lang="he" dir="rtl">')
+                others = [it for it in ("week", "year", "collection", "rules") if it != name]
+                others += ["target-press"] * (name == "rules")
+                wanted = [*(f"{it}.he.html" for it in others), f"{name}.en.html"]
+                self.expect(f"{name}: links", [it for it in page.links if it.endswith(".html")], wanted)
+                self.expect(f"{name}: English", 'hreflang="en" lang="en">English</a>' in text)
+                self.expect(f"{name}: the library", page.text.count("Library"), 2)
+
+    def test_frames(self) -> None:
+        """The title and the heading of each page, its styles, and where its links lead beside other pages."""
+        with MadeDesk() as desk:
+            desk.add_target("press")
+            months = ["2025-01"] * 7 + [f"2025-{it:02}" for it in range(2, 13)] + ["2026-01"]
+            desk.log("openlink.log", [LINE.format(month=it, found="1/1", targets="press", source="s") for it in months])
+            files = desk.make()
+            head = '<meta charset="utf-8">\n<meta name="viewport" content="width=device-width, initial-scale=1">\n'
+            for name, title, tables in (
+                ("week", "This week", ["week.tsv"]),
+                ("year", "The year", ["year.tsv"]),
+                ("collection", "The collection", ["collection.tsv", "overlaps.tsv"]),
+                ("rules", "Rules", []),
+                ("target-press", "Rules: press", []),
+            ):
+                text, page = files[f"{name}.en.html"], Page(files[f"{name}.en.html"])
+                line = f"<title>{title} – Librarian’s desk, Library</title>\n"
+                self.expect(f"{name}: head", f"<head>\n{head}{line}" in text)
+                headings = [Page(it).text for it in re.findall("<h1>.*?</h1>", text)]
+                self.expect(f"{name}: heading", headings, [title])
+                links = [it for it in page.links if not it.endswith(".html")]
+                self.expect(f"{name}: links", links, ["/menu.css", "desk.css", "/why", *tables])
+            shown, headings = cells_of(files["year.en.html"]), re.findall("<h2>(.*?)</h2>", files["year.en.html"])
+            self.expect("the last months", headings[0], "The last 12 months")
+            self.expect("an earlier year", shown.count(["2025-01", "7", "7", "0", "0", "0"]), 1)
 
     def test_what_needs_her(self) -> None:
         self.expect("no record", first_of([], []), ["There is no record of an update yet."])
@@ -154,6 +272,34 @@ class Pages(Case):
             desk.make()
             self.expect("and again for others", desk.notes.read_text().count("lint"), 2)
 
+    def test_probes(self) -> None:
+        """The last result of those that name the target; lines of lint about no line of the rules are above them."""
+        with MadeDesk() as desk:
+            for name in ("press", "press-two"):
+                desk.add_target(name, rules=f"{RULES}rule\nlink https://{name}.example.org/\n")
+            desk.program.write_text(PROGRAM.replace("echo 'rules 1'", "echo 'rule 9, link: no host'"))
+            probes = ProbeResult(1, "issn=1", "press other", False), ProbeResult(2, "issn=2", "press-two", True)
+            desk.records = [record(work="walls"), record(probes=probes)]
+            desk.records.append(record(probes=(ProbeResult(1, "issn=1", "press", True),)))
+            files = desk.make()
+            for name, row, bad in (("press", ["issn=1", "does not hold"], 2), ("press-two", ["issn=2", "holds"], 1)):
+                text = files[f"target-{name}.en.html"]
+                self.expect(f"probes of {name}", cells_of(text)[-1:] + cells_of(text)[:1], [row, ["1", "rule"]])
+                self.expect(f"{name}: what is said of no line", text.count("rule 9, link: no host"), 1)
+                self.expect(f"{name}: its line of lint, and a probe that does not hold", text.count('class="bad"'), bad)
+
+    def test_metrics(self) -> None:
+        """Those of the month in which the desk is made, and the titles of all targets."""
+        with MadeDesk() as desk:
+            desk.add_target("press", rows=3)
+            desk.add_target("other", rows=2)
+            months = ["2026-10"] * 3 + ["2026-11"] * 2 + ["2025-11"] * 4
+            desk.log("openlink.log", [LINE.format(month=it, found="1/1", targets="press", source="s") for it in months])
+            desk.make()
+            lines = (desk.out / "state/metrics.txt").read_text("utf-8").splitlines()
+            for line in ("openlink_month_requests 2", "openlink_titles 1", 'openlink_target_rows{target="other"} 2'):
+                self.expect(line, lines.count(line), 1)
+
     def test_collection(self) -> None:
         """The titles of two targets that share one, by hand; the chart of decades, and the tables."""
         head = "publication_title\tprint_identifier\tcoverage_from\tcoverage_to\n"
@@ -169,7 +315,20 @@ class Pages(Case):
             check(self, "the collection", files)
             page = Page(files["collection.en.html"])
             self.expect("all titles", "Titles: 4" in page.text, True)
+            shown = [row for row in cells_of(files["collection.en.html"]) if row[0][:3] in ("one", "two")]
+            self.expect("numbers of titles, and of those alone", [row[1:] for row in shown], [["3", "2"], ["2", "1"]])
+            self.expect("shared", [row[0].split()[-2:] for row in shown], [["one:", "1"], ["two:", "1"]])
+            chart, decades, _ = files["collection.en.html"].split("</figure>")
+            self.expect("decades have one part", ("part-b" in chart, "part-b" in decades), (True, False))
+            bars = re.findall(r'<rect class="part-(.)" x="0" .*? width="([\d.]+)" .*? fill="(.*?)"', chart)
+            wanted = [("a", "340.0", "#005a96"), ("b", "226.7", "#e69f00"), ("a", "226.7", "#005a96")]
+            self.expect("bars", bars, [*wanted, ("b", "113.3", "#e69f00")])
+            texts = re.findall(r'<text x="([\d.]+)" .*? text-anchor="(.*?)" .*?>(.*?)</text>', chart)
+            self.expect("labels", texts[:2], [("0", "start", "two"), ("340", "end", "3 · 2")])
+            lines = re.findall(r'<line .*? y1="(.*?)" y2="(.*?)"', files["collection.en.html"])
+            self.expect("lines across", ([one for one, _ in lines] == [two for _, two in lines], len(lines)), (True, 3))
             table = list(csv.reader(io.StringIO(files["collection.tsv"]), dialect="excel-tab"))
+            self.expect("its columns", table[0][:3], ["target", "titles", "in no other target"])
             self.expect("the targets", [row[:3] for row in table[1:]], [["one", "2", "1"], ["two", "3", "2"]])
             self.expect(
                 "the decades",

@@ -7,6 +7,7 @@ import tempfile
 from pathlib import Path
 from unittest import mock
 
+from desk.made_desk import MadeDesk
 from desk.made_desk import NOW
 from desk.made_desk import record
 from fixtures.cases import Case
@@ -15,7 +16,11 @@ from openlink_update.desk import lint_lines
 from openlink_update.desk import logs
 from openlink_update.desk import site_files
 from openlink_update.desk import targets
+from openlink_update.desk import titles_page
 from openlink_update.desk import words_in
+from openlink_update.desk.collection import Collection
+from openlink_update.desk.collection import Holdings
+from openlink_update.desk.targets import Slip
 from openlink_update.desk.targets import Target
 from openlink_update.desk.week import week_of
 from openlink_update.desk.year import year_of
@@ -92,6 +97,17 @@ class Versions(Case):
             found = targets.targets_in(Path(folder))
         self.expect("its rows", [(it.name, it.rows, it.day, it.slips) for it in found], [("press", 0, "", ())])
 
+    def test_targets(self) -> None:
+        """A target has the rows of all its parts, its newest table, and no slips of another."""
+        with MadeDesk() as desk:
+            for name, rows in (("press", 3), ("press.2", 2), ("press-two", 4)):
+                desk.add_target(name, rows)
+            desk.write("slips.tsv", "press-two\tno first date\t1\t4\tAnnals\n")
+            desk.write("earlier.tsv", "press\tabc\t2026-11-02\npress\tdef\t2026-11-23\n")
+            found = [(it.parts, it.rows, it.day, it.sum, len(it.slips)) for it in targets.targets_in(desk.version)]
+        wanted = [(("press", "press.2"), 5, "2026-11-23", "def", 0), (("press-two",), 4, "", "", 1)]
+        self.expect("targets", found, wanted)
+
     def test_a_folder_of_logs_that_is_gone(self) -> None:
         folder = logs.LogFolder(Path("/nonexistent"), ["openlink.log"])
         self.expect("its files", list(logs.files_of(folder, "openlink.log")), [])
@@ -139,6 +155,24 @@ class Weeks(Case):
         ]
         self.expect("what needs her", [(it.target, it.lines) for it in week.first], first)
 
+    def test_states(self) -> None:
+        """What each state is called, and what needs her of it; a target of no update has none."""
+        for state, text, first in (
+            ("new", "new", []),
+            ("changed", "changed", []),
+            ("kept", "old table kept", ["press kept its old table."]),
+            ("unchanged", "unchanged", []),
+            ("left out", "left out", ["press was left out."]),
+            ("gone", "no longer in the list", []),
+        ):
+            week = week_of([record(targets=(TargetState("press", state),))], (), NOW, ENGLISH)
+            found = [it.state for it in week.rows], [it.text for it in week.first]
+            self.expect(state, found, ([text], first))
+        slips = (Slip("press", "no first date", 17, 1234, "Annals"),)
+        week = week_of([record()], [Target("press", ("press",), 1234, "", "sum", (), slips)], NOW, ENGLISH)
+        self.expect("none", [it.state for it in week.rows], ["unknown"])
+        self.expect("its slips", week.first[0].lines, ("no first date: 17 / 1234: Annals",))
+
 
 class Years(Case):
     def test_labels(self) -> None:
@@ -167,6 +201,36 @@ class Years(Case):
         self.expect("January beside the first month", names, ["2026"])
         self.expect("nothing was counted", year_of([]), None)
 
+    def test_counts_of_a_month(self) -> None:
+        """Each number is of its kind, and a column has the requests without full text on those with it."""
+        numbers = (("requests", 11), ("without full text", 5), ("without a link", 3), ("errors", 2))
+        found = year_of([("2026-01", kind, "", number) for kind, number in numbers])
+        assert found is not None
+        [month] = found.last.months
+        self.expect("without", (month.requests, month.without, month.without_link, month.errors), (11, 5, 3, 2))
+        self.expect("with full text", month.with_full_text, 6)
+        first, second = found.last.chart.bars
+        shown = (first.part, second.part, round(first.height / second.height, 2))
+        self.expect("the column", shown, ("a", "b", 1.2))
+
+    def test_lists(self) -> None:
+        """The names of each list, with both numbers, of the last twelve months alone."""
+        months = [f"2025-{it:02}" for it in range(1, 13)] + ["2026-01"]
+        rows = [(month, "requests", "", 9) for month in months]
+        for month in ("2025-01", "2025-02", "2026-01"):
+            rows += [(month, "source", "WOS", 4), (month, "source without full text", "WOS", 1)]
+            rows += [(month, "shown", "press", 3), (month, "followed", "press", 2)]
+            rows.append((month, "asked in vain", "2901-0012", 5))
+        found = year_of(rows)
+        assert found is not None
+        for name, names, row, label in (
+            ("sources", found.sources, ("WOS", 8, 2), "8 · 2"),
+            ("targets", found.targets, ("press", 6, 4), "6 · 4"),
+            ("in vain", found.vain, ("2901-0012", 10, 0), "10"),
+        ):
+            shown = names.rows, [(it.text, it.anchor) for it in names.chart.labels]
+            self.expect(name, shown, ((row,), [(row[0], "start"), (label, "end")]))
+
     def test_names(self) -> None:
         """The greatest first; of equal ones that with more of the second number, and then by name."""
         rows = [("2026-01", "source", name, 2) for name in "dcba"] + [("2026-01", "source", "e", 3)]
@@ -174,6 +238,16 @@ class Years(Case):
         found = year_of([*rows, ("2026-01", "requests", "", 11), ("2026-01", "without full text", "", 1)])
         self.expect("sources", found and [it[0] for it in found.sources.rows], list("ecabd"))
         self.expect("with full text", found and found.last.months[0].with_full_text, 10)
+
+
+class Titles(Case):
+    def test_chart(self) -> None:
+        """A bar for the titles of each target, the greatest first, and one for those that it alone has."""
+        targets = Holdings("one", 20, 5, (), ()), Holdings("two", 40, 10, (), ())
+        chart = titles_page.titles_of(Collection(60, targets, ())).chart
+        self.expect("labels", [it.text for it in chart.labels], ["two", "40 · 10", "one", "20 · 5"])
+        widths = [(it.part, chart.width / it.width) for it in chart.bars]
+        self.expect("bars", widths, [("a", 1), ("b", 4), ("a", 2), ("b", 8)])
 
 
 class Texts(Case):

@@ -19,6 +19,7 @@ from fixtures import TOP
 from fixtures import needs
 from fixtures.cases import Case
 from fixtures.fetch_input import TABLE
+from fixtures.modes import modes_below
 from fixtures.program import PATH
 from fixtures.updates import Library
 from openlink_update.desk import site_files
@@ -104,6 +105,16 @@ class Writing(Case):
                 path.stat().st_mode & 0o777 for path in Path(desk.library, "desk/current").iterdir() if path.is_file()
             }
             self.expect("modes", modes, {0o644})
+
+    def test_modes(self) -> None:
+        """nginx reads the pages as another user, whatever the umask."""
+        with Desk() as desk:
+            umask = os.umask(0o077)
+            try:
+                self.expect("the desk", desk.desk(), (0, ""))
+            finally:
+                os.umask(umask)
+            self.expect("folders, and files", modes_below(f"{desk.library}/desk"), ({0o755}, {0o644}))
 
     @needs.root()
     def test_rights(self) -> None:

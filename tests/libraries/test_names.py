@@ -45,6 +45,8 @@ BAD = (
     "shared",
     "delivery",
     "drain",
+    "sending",
+    "ssh",
     "updated",
 )
 BAD_HOSTS = (

@@ -10,7 +10,9 @@ import tempfile
 from pathlib import Path
 from unittest import mock
 
+from bounds.refusals import reason
 from fixtures.cases import Case
+from openlink_update import children
 from openlink_update.commands import library
 from openlink_update.machines import library_files
 from openlink_update.machines.library_files import Places
@@ -65,10 +67,12 @@ class Machines(Case):
             self.expect("to whom they belong", {it.args[1:] for it in chown.call_args_list}, {("www-data", "adm")})
             modes = {stat.S_IMODE((self.places.logs / name).stat().st_mode) for name in names}
             self.expect("their modes", modes, {0o640})
-        path = self.places.logs / "openlink.north.log"
+        path, other = (self.places.logs / f"openlink.north.{end}" for end in ("log", "wanted.log"))
         path.write_text("a line\n", encoding="utf-8")
+        other.unlink()
         library_files.write_logs(self.places, "north")
         self.expect("one that exists", path.read_text(encoding="utf-8"), "a line\n")
+        self.expect("one that does not", other.exists())
 
     def test_units(self) -> None:
         """Each library has the ports of its units; what else an operator has put beside one stays."""
@@ -77,6 +81,9 @@ class Machines(Case):
         library_files.write_units(self.places, "south", south, [8101])
         ports = [library_files.unit_ports(self.places, it) for it in (north, south, None)]
         self.expect("ports", ports, [[215, 216], [8101], [215, 216, 8101]])
+        with mock.patch.object(children, "is_open", lambda _: False):
+            found = library_files.ports_of(self.places, None, 1)
+        self.expect("a library without a site keeps its own", found, (217, [218]))
         folder = self.places.units / "openlink@215.service.d"
         (folder / "own.conf").write_text("[Service]\n", encoding="utf-8")
         library_files.remove_units(self.places, [215, 216])
@@ -86,23 +93,89 @@ class Machines(Case):
         self.expect("of no ports", library_files.unit_ports(self.places), [8101])
 
 
-class Removal(Case):
+    def test_processes_of_a_site(self) -> None:
+        """nginx asks a process that is restarted again at once."""
+        folder = self.places.libraries / "north"
+        library_files.write_library(self.places, folder, "north", "north.example.org", 214, [215, 216])
+        lines = [line.strip() for line in library_files.read(folder / "site.conf").splitlines()]
+        servers = [line for line in lines if line.startswith("server ") and "127.0.0.1" in line]
+        self.expect("processes", servers, ["server 127.0.0.1:215 max_fails=0;", "server 127.0.0.1:216 max_fails=0;"])
+
+    def test_hosts(self) -> None:
+        """A host is taken by the site that has it, and by no comment, part of a name or library that was removed."""
+        self.places.nginx.mkdir(parents=True)
+        (self.places.nginx / "other.conf").write_text(
+            "# server_name old.example.org;\nserver { server_name a.example.org\n    b.example.org; }\n"
+        )
+        for name in ("north", "south.removed", "west.new"):
+            (self.places.libraries / name).mkdir(parents=True)
+            site = f"server {{\n    server_name {name.partition('.')[0]}.example.org;\n}}\n"
+            (self.places.libraries / name / "site.conf").write_text(site)
+        for host in ("a.example.org", "b.example.org", "north.example.org"):
+            said = f"{host}: another site of this machine has this name"
+            self.expect(host, reason(library_files.check_host, self.places, host), said)
+        for host in ("old.example.org", "example.org", "south.example.org", "west.example.org"):
+            self.expect(host, reason(library_files.check_host, self.places, host), "")
+
+
+class Commands(Case):
+    """openlink-library on a machine whose systemctl notes what it is told."""
+
+    def setUp(self) -> None:
+        room = tempfile.TemporaryDirectory()
+        self.addCleanup(room.cleanup)
+        self.room, self.places = room.name, Places(room.name)
+        systemctl = Path(room.name, "bin/systemctl")
+        systemctl.parent.mkdir()
+        systemctl.write_text(f'#!/bin/sh\necho "$*" >>{room.name}/calls\n', encoding="utf-8")
+        systemctl.chmod(0o755)
+        self.enterContext(mock.patch.dict(os.environ, PATH=f"{systemctl.parent}:{os.environ['PATH']}"))
+
+    def library(self, *words: str) -> tuple[int, str]:
+        """The status of openlink-library, and what it prints."""
+        with contextlib.redirect_stdout(io.StringIO()) as said, contextlib.redirect_stderr(said):
+            status = library.main(["--root", self.room, *words])
+        return status, said.getvalue().replace(f"{self.places.libraries}", "FOLDER")
+
+    def test_what_add_says(self) -> None:
+        """Ports from 1024 on are open to others, also if they are not all of the library's."""
+        with mock.patch.object(children, "is_open", lambda _: False):
+            said = self.library("add", "north", "north.example.org", "--ports", "1022")
+        line = "FOLDER/north: north.example.org, local port 1022, processes openlink@1023 openlink@1024\n"
+        warning = "any user of this machine can take a port from 1024 on while its process restarts\n"
+        self.expect("lines", said, (0, f"{line}{warning}next: fill FOLDER/north/input, then openlink-update north\n"))
+        calls = Path(self.room, "calls").read_text(encoding="utf-8")
+        self.expect("what systemd is told", calls, "daemon-reload\nenable openlink@1023 openlink@1024\n")
+        (self.places.libraries / "north/versions/20261121T000000Z").mkdir(parents=True)
+        (self.places.libraries / "north/current").symlink_to("versions/20261121T000000Z")
+        listed = "north\tnorth.example.org\t1022\t1023 1024\t20261121T000000Z\n"
+        self.expect("the list", self.library("list"), (0, listed))
+
+    def test_a_full_disk(self) -> None:
+        """What was made of the library is removed."""
+        fault = OSError(28, "No space left on device", "/x")
+        with mock.patch.object(library_files, "write_units", side_effect=fault):
+            said = self.library("add", "north", "north.example.org")
+        self.expect("what is said", said, (4, "openlink-library: /x: No space left on device\n"))
+        self.expect("what is left", os.listdir(self.places.libraries), [])
+
+    def test_a_library_of_an_earlier_release(self) -> None:
+        """It may have a name that no new one can have. Its host is its own, and it can be removed."""
+        (self.places.libraries / "desk").mkdir(parents=True)
+        (self.places.libraries / "desk/site.conf").write_text("server { server_name desk.example.org; }\n")
+        said = "openlink-library: desk.example.org: another site of this machine has this name\n"
+        self.expect("its host", self.library("add", "north", "desk.example.org"), (3, said))
+        said = "desk is removed; its input and its site are in FOLDER/desk.removed\n"
+        self.expect("it is removed", self.library("remove", "desk"), (0, said))
+
     def test_links(self) -> None:
         """A library that is removed while a run of it was killed: neither link to a version stays."""
-        with tempfile.TemporaryDirectory() as room, contextlib.redirect_stdout(io.StringIO()):
-            systemctl = Path(room, "bin/systemctl")
-            systemctl.parent.mkdir()
-            systemctl.write_text("#!/bin/sh\n", encoding="utf-8")
-            systemctl.chmod(0o755)
-            with mock.patch.dict(os.environ, PATH=f"{systemctl.parent}:{os.environ['PATH']}"):
-                added = library.main(["--root", room, "add", "north", "north.example.org"])
-                folder = Places(room).libraries / "north"
-                for link in LINKS:
-                    (folder / link).symlink_to("versions/20261121T000000Z")
-                removed = library.main(["--root", room, "remove", "north"])
-            self.expect("the statuses", (added, removed), (0, 0))
-            names = os.listdir(f"{folder}.removed")
-            self.expect(f"{names}", ("site.conf" in names, [it for it in LINKS if it in names]), (True, []))
+        added, folder = self.library("add", "north", "north.example.org"), self.places.libraries / "north"
+        for link in LINKS:
+            (folder / link).symlink_to("versions/20261121T000000Z")
+        self.expect("the statuses", (added[0], self.library("remove", "north")[0]), (0, 0))
+        names = os.listdir(f"{folder}.removed")
+        self.expect(f"{names}", ("site.conf" in names, [it for it in LINKS if it in names]), (True, []))
 
     def test_names(self) -> None:
         """What can be no library's name is no name of one to remove either, whatever is at its path."""

@@ -103,5 +103,6 @@ class Readers(Case):
         ):
             self.site.start_again()
             self.expect(f"{name}: the first", reader_of(self, self.site, one).is_refused(SEARCH, 200))
-            status = reader_of(self, self.site, two).get(SEARCH)[0]
-            self.expect(f"{name}: the second", status, 429 if is_same else 200)
+            # Fewer than a reader may send at once, and more than are allowed again meanwhile on a slow machine.
+            is_refused = reader_of(self, self.site, two).is_refused(SEARCH, 5)
+            self.expect(f"{name}: whether the second is refused", is_refused, is_same)

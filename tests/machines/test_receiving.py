@@ -57,14 +57,16 @@ class Receiving(Case):
 
         versions = self.folder / "versions"
         for name in (*OLDER, BETWEEN, f"{NEW}.sent", f"{BETWEEN}.sent"):
-            (versions / name).mkdir()
+            (versions / name).mkdir(exist_ok=True)
         (versions / f"{NEW}.probes").write_text(probes, encoding="utf-8")
         (versions / f"{BETWEEN}.probes").touch()
-        with mock.patch.object(receiving, "ignore_signals") as signals:
+        with mock.patch.object(receiving, "ignore_signals") as signals, mock.patch.object(receiving, "sync") as sync:
             with mock.patch.multiple(self.receiver, create=True, try_and_use=use, put_in_use=move):
                 with contextlib.redirect_stdout(io.StringIO()) as printed:
                     status = self.receiver.receive(NEW, 3)
         self.expect("what is said", (status, printed.getvalue()), (0, f"{NEW} is in use\n"))
+        waited = [it.args[0] for it in sync.call_args_list]
+        self.expect("what has to be on the disk", waited, [versions / f"{NEW}.probes", self.folder])
         return tried[0], signals.call_count
 
     def test_a_version_that_was_sent(self) -> None:
@@ -79,6 +81,16 @@ class Receiving(Case):
         self.expect("what is left", sorted(os.listdir(self.folder)), ["current", "probes.tsv", "versions"])
         self.expect("the versions", sorted(os.listdir(self.folder / "versions")), [OLDER[1], OLD, NEW])
         self.expect("its probes", (self.folder / "probes.tsv").read_text(encoding="utf-8"), probes)
+
+    def test_files_of_another_library(self) -> None:
+        """A table that another library of the machine has too is on the disk once."""
+        table, other = Path("tables/press.txt"), self.folder / "other"
+        for folder in (other, self.folder / "versions" / f"{NEW}.sent"):
+            (folder / "tables").mkdir(parents=True)
+            (folder / table).write_text("rows\n", encoding="utf-8")
+        self.receiver.others = [other]
+        self.received("")
+        self.expect("one file", (self.folder / "versions" / NEW / table).samefile(other / table))
 
     def test_a_version_of_before(self) -> None:
         """It is there, so nothing is completed."""

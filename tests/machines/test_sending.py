@@ -2,6 +2,7 @@
 from __future__ import annotations
 
 import contextlib
+import fcntl
 import io
 import tempfile
 from collections.abc import Callable
@@ -197,6 +198,22 @@ class Deliveries(MachinesCase):
             text = "b: no connection\nmissed by b, which get no readers until they have it\n"
             self.expect("one misses it", (status, said), (1, text))
 
+    def test_one_at_a_time(self) -> None:
+        """A delivery waits until the one before has ended."""
+        tried = list[str]()
+
+        def sendable(_: object) -> list[object]:
+            with open(self.folder / "delivery.lock", "a", encoding="ascii") as lock:
+                try:
+                    fcntl.flock(lock, fcntl.LOCK_EX | fcntl.LOCK_NB)
+                except BlockingIOError:
+                    tried.append("it would wait")
+            return []
+
+        with mock.patch.object(machines, "_sendable", side_effect=sendable):
+            self.said(self.delivery().run)
+        self.expect("another one", tried, ["it would wait"])
+
     def test_deliver(self) -> None:
         """The worst status counts, however the updates have ended; without machines nothing is done."""
         alone = update_options.parse(["--library", str(self.folder)])
@@ -219,6 +236,7 @@ class Probes(MachinesCase):
         sendable = self.sendable("east")
         path = self.folder / "east/probes.tsv"
         (self.folder / "east/input").mkdir()
+        (self.folder / "east/sending").mkdir()  # of a run that was killed
         options = update_options.parse(["--library", str(self.folder), "--to", "b"])
         with mock.patch.object(machines, "sandbox_of", return_value=Sandbox(None, Limits())) as box:
             sendable.keep_probes(options)
@@ -226,6 +244,8 @@ class Probes(MachinesCase):
             self.expect("what is left", (self.folder / "east/sending").exists(), False)
             sendable.keep_probes(options)
             self.expect("how often", box.call_count, 1)
+            self.sendable("east", OLD).keep_probes(options)
+            self.expect("those of another version", path.read_text(encoding="utf-8"), f"# hold in {OLD}\n")
 
     def test_which_libraries(self) -> None:
         """Those with a version in use that no run is about to leave, and the one alone."""

@@ -169,6 +169,12 @@ class Allowed(Case):
                     library.allowed.chmod(mode)
                 self.expect(name, self.left_out(library), wanted.format(library.allowed))
 
+    def test_spaces_around_a_name(self) -> None:
+        with Filtered() as library:
+            library.allowed.write_text(" awk \n")
+            status, printed = library.update()
+            self.expect(f"it is allowed: {printed}", (status, rows_of(library.table("press"))), (0, ROWS))
+
     def test_files(self) -> None:
         """A filter is a regular file of the folder, and no link leads to another."""
         with Filtered() as library:
@@ -223,6 +229,8 @@ class Runs(_Run):
             self.shell('pwd; echo "$HOME" "$TMPDIR"'),
             f"{self.place.empty}\n" + f"{self.place.empty} {self.place.empty}\n",
         )
+        said = self.shell('echo "$LANG $PATH"')
+        self.expect("its language, and its programs", said, "C.UTF-8 /usr/local/bin:/usr/bin:/bin\n")
         with mock.patch.dict(os.environ, {"PASSWORD": "s3cr3t"}):
             self.expect("nothing of the environment", "s3cr3t" in self.shell("env"), False)
         self.expect("a second run begins anew", self.shell("ls -A | wc -l"), "0\n")
@@ -239,7 +247,8 @@ class Runs(_Run):
             "the folder above": "touch ../x",
             "what it gives": "echo x >../new",
             "other programs' processes": "cat /proc/1/cmdline",
-            "the settings of the machine": "cat /etc/hostname /etc/fstab",
+            "the settings of the machine": "cat /etc/hostname || cat /etc/fstab",
+            "folders of the machine": "ls / || ls /etc || ls /home || ls /root || ls /var || ls /proc || ls /sys",
             "the folder of all": f"touch {tempfile.gettempdir()}/{self.top.name}.filter",
             "a socket": "/usr/bin/python3 -c 'import socket; socket.socket()'",
         }
@@ -255,6 +264,9 @@ class Runs(_Run):
         closed.write_text("s3cr3t")
         closed.chmod(0o600)
         self.expect("secrets", self.shell(f"cat {closed} || echo none"), "none\n")
+        line = "stat -c '%n %a %u %g' ../program ../data ../out ../err ."
+        wanted = f"../program 550 0 {number}\n../data 440 0 {number}\n../out 620 0 {number}\n../err 620 0 {number}\n"
+        self.expect("who has its files", self.shell(line), f"{wanted}. 700 {number} {number}\n")
         for name in ("program", "out", "data"):
             line = f"chmod 777 ../{name} 2>/dev/null && echo open || echo closed"
             self.expect(f"{name} is root's", self.shell(line), "closed\n")

@@ -2,13 +2,18 @@
 from __future__ import annotations
 
 import contextlib
+import ctypes
+import errno
+import io
 import os
 import re
+import resource
 import shlex
 import shutil
 import socket
 import stat
 import subprocess
+import sys
 import tempfile
 import time
 from collections.abc import Callable
@@ -130,6 +135,21 @@ class Users(Rights):
         wanted = [str(number), str(number), "NoNewPrivs:", "1", "CapEff:", "0" * 16]
         self.expect("a command that it runs", shown, wanted)
 
+    def test_what_it_has_of_its_parent(self) -> None:
+        """Neither its input nor its terminal, and if memory runs out the kernel ends it first."""
+        reads, writes = os.pipe()
+        self.addCleanup(os.dup2, os.dup(0), 0)
+        os.dup2(reads, 0)
+        os.close(reads)
+        os.write(writes, b"of root")
+        os.close(writes)
+
+        def work(_: Parent) -> str:
+            score = Path("/proc/self/oom_score_adj").read_text().strip()
+            return f"{os.read(0, 100)!r} {os.getsid(0) == os.getpid()} {score}"
+
+        self.expect("its input, a session of its own, its score", self.run_of(work), "b'' True 1000")
+
     def test_what_it_reads_and_writes(self) -> None:
         """By its own rights it has neither the input nor a file of another library, and writes in its folder alone."""
         other = self.file("below/it.txt", "more")
@@ -243,6 +263,7 @@ class LentFiles(Rights):
         """Files below the folder are read, named and found; those that are closed, outside or no files are not."""
         os.mkfifo(self.input / "pipe")
         (self.input / "link").symlink_to("/etc/shadow")
+        self.file("below/secrets.tsv", "s3cr3t")
 
         def work(parent: Parent) -> str:
             root = parent.lent(RootFolder(self.input))
@@ -352,6 +373,14 @@ class LentFiles(Rights):
 
         self.expect("one that leaves", self.run_of(leave), "Failure 4: it was ended by status 0")
 
+    def test_a_run_that_has_ended(self) -> None:
+        """Nobody is there to lend a file."""
+        ours, its = socket.socketpair(socket.AF_UNIX, socket.SOCK_SEQPACKET)
+        its.shutdown(socket.SHUT_WR)
+        with ours, its, self.assertRaises(Failure) as raised:
+            lent_files.LentFolder(self.input, 0, ours).file(["it.txt"])
+        self.expect("what is said", (raised.exception.status, str(raised.exception)), (4, "the run has ended"))
+
     def test_requests_that_nobody_sends(self) -> None:
         """Whatever is asked for, root answers with a refusal, and reads nothing but regular files."""
         lender = lent_files.Lender([Lent(RootFolder(self.input), replaced=frozenset({("new.txt",)}))])
@@ -363,6 +392,7 @@ class LentFiles(Rights):
             b"f0\0..\0a",
             b"f0\0/etc/shadow",
             b"f0\0\0",
+            b"f0\0below/it.txt",
             b"z0\0a",
             b"r0\0new.txt",
         )
@@ -394,6 +424,13 @@ class LentFiles(Rights):
         got = self.run_of(lambda parent: str(parent.pause()), box, at_pause=lambda: time.sleep(1.5))
         self.expect("the time of root's part does not count", got, "None")
 
+        def filtered(name: str, data: bytes) -> bytes:
+            time.sleep(1.5)
+            return data.upper()
+
+        got = self.run_of(lambda parent: parent.filtered("awk", b"rows").decode(), box, filtered=filtered)
+        self.expect("nor that of a filter", got, "ROWS")
+
         def fail() -> None:
             raise Failure("no restart")
 
@@ -403,12 +440,21 @@ class LentFiles(Rights):
 
 WRONG = {
     ("secrets.tsv",): "PermissionError",
+    ("below", "secrets.tsv"): "PermissionError",
     ("..", "table.txt"): "OSError",
     ("pipe",): "Unusable",
     ("link",): "Unusable",
     ("none.txt",): "FileNotFoundError",
     ("below",): "IsADirectoryError",
 }
+
+
+# Calls getpid as programs of i386 do: push rbx; mov eax, 20; int 0x80; pop rbx; ret.
+CALL_OF_I386 = """import ctypes, mmap
+page = mmap.mmap(-1, 4096, prot=mmap.PROT_READ | mmap.PROT_WRITE | mmap.PROT_EXEC)
+page.write(bytes.fromhex("53 b8 14 00 00 00 cd 80 5b c3"))
+print(ctypes.CFUNCTYPE(ctypes.c_int)(ctypes.addressof(ctypes.c_char.from_buffer(page)))())
+"""
 
 
 class MostTaken(Rights):
@@ -436,7 +482,8 @@ class MostTaken(Rights):
         box = self.box_of(Limits(seconds=1)).longer(2)
         begun = time.monotonic()
         got = self.run_of(lambda _: str(time.sleep(1000)), box)
-        self.expect("in time", (got[:24], 2 <= time.monotonic() - begun), ("Exceeded 4: no end withi", True))
+        said = "Exceeded 4: no end within 0.0333333 minutes, so it was ended"
+        self.expect("in time", (got, 2 <= time.monotonic() - begun), (said, True))
 
     def test_memory(self) -> None:
         """A function may have the memory of its limit, and not more; the limit holds for what it runs too."""
@@ -447,6 +494,26 @@ class MostTaken(Rights):
         words = [*PYTHON, "-c", "bytearray(600 * 2**20)"]
         got = self.run_of(lambda _: subprocess.run(words, capture_output=True, text=True).stderr.strip()[-11:], box)
         self.expect("a command", got, "MemoryError")
+
+    def test_limits_of_the_machine(self) -> None:
+        """A limit that is lower already stays. No memory of a process that fails is written to the disk."""
+
+        def work(_: Parent) -> str:
+            resource.setrlimit(resource.RLIMIT_AS, (500 * MB, 500 * MB))
+            Limits(memory=600 * MB).apply()
+            return str([resource.getrlimit(kind) for kind in (resource.RLIMIT_AS, resource.RLIMIT_CORE)])
+
+        self.expect("memory, and a core", self.run_of(work), f"[({500 * MB}, {500 * MB}), (0, 0)]")
+
+    def test_limits_of_another(self) -> None:
+        """Another user has limits of its own, or the same."""
+
+        def work(_: Parent) -> str:
+            return f"{os.getuid() != self.user.number} {resource.getrlimit(resource.RLIMIT_AS)[0]}"
+
+        for limits_of_it, most in ((Limits(memory=500 * MB), 500 * MB), (None, 3584 * MB)):
+            other = self.box.other(self.top, "filter", limits_of_it)
+            self.expect(f"{most} bytes", self.run_of(work, other), f"True {most}")
 
     def test_processes(self) -> None:
         """It can start only so many."""
@@ -478,6 +545,18 @@ class MostTaken(Rights):
         beyond = "Exceeded 4: the library has more than 8 MB on the disk, so it was ended: LINE allows more"
         self.expect("beyond", self.run_of(lambda _: write(6), self.box_of(most)), beyond)
 
+    def test_what_is_on_the_disk(self) -> None:
+        """A file with several names is there once, and what a link leads to is not."""
+        (self.written / "file").write_bytes(b"x" * MB)
+        (self.input / "large").write_bytes(b"x" * 3 * MB)
+        os.link(self.written / "file", self.written / "again")
+        (self.written / "link").symlink_to(self.input / "large")
+        (self.written / "folder").symlink_to(self.input)
+        most = Limits(disk=3 * MB // 2, folders=(self.written,))
+        self.expect("a megabyte", DiskLimit(most, (self.written,)).fault(), None)
+        (self.written / "more").write_bytes(b"x" * MB)
+        self.expect("two", DiskLimit(most, (self.written,)).fault() is not None)
+
     def test_lines_of_a_site(self) -> None:
         """The line of a library, or of the machine, in any unit; a number has nine digits at most."""
         site, machine = self.top / "site.conf", self.top / "openlink.conf"
@@ -493,6 +572,7 @@ class MostTaken(Rights):
     def test_disk_without_a_line(self) -> None:
         """Without a line, it is what is written that is bounded."""
         self.expect("as it is", limits._MOST_ADDED, 20 * 2**30)
+        (self.written / "before").write_bytes(b"x" * MB)
         with mock.patch("openlink_update.rights.limits._MOST_ADDED", 2 * MB):
             disk = DiskLimit(Limits(folders=(self.input,)), (self.written,))
             for size, wanted in ((2 * MB, ""), (2 * MB + 1, "it writes more than 2 MB, so it was ended: ")):
@@ -514,6 +594,22 @@ class MostTaken(Rights):
         self.expect("without", self.run_of(work, has_network=False), f"{[closed, closed]} ")
         self.expect("with", self.run_of(work), "['', ''] open")
 
+    def test_other_ways_to_the_network(self) -> None:
+        """Neither io_uring nor the numbers of 32-bit programs lead to a socket."""
+
+        def called(number: int) -> str:
+            libc = ctypes.CDLL(None, use_errno=True)
+            found = libc.syscall(ctypes.c_long(number), 2, 1, 0)
+            return f"{found} {errno.errorcode[ctypes.get_errno()]}"
+
+        io_uring, socket_of_x32 = 425, 0x40000000 + 41
+        for number in (io_uring, socket_of_x32):
+            got = self.run_of(lambda _: called(number), has_network=False)
+            self.expect(f"the call {number}", got, "-1 EACCES")
+        words = [*PYTHON, "-c", CALL_OF_I386]
+        got = self.run_of(lambda _: subprocess.run(words, capture_output=True, text=True).stdout, has_network=False)
+        self.expect("a call of i386, if this kernel knows them", got in ("-13\n", ""), True)
+
     def test_ends_of_the_child(self) -> None:
         """However it ends, there is one line."""
         cases: dict[str, Callable[[Parent], str]] = {
@@ -529,6 +625,7 @@ class MostTaken(Rights):
             raise Failure("a line\nand \x1b[2J one more", 3)
 
         self.expect("its own failure", self.run_of(refuse), "Failure 3: a line\nand ?[2J one more")
+        self.expect("a text that is not UTF-8", self.run_of(lambda _: "a\udcff"), "a?")
         self.expect("a long text", len(self.run_of(lambda _: "x" * 10**6)), 30_000)
 
 
@@ -580,7 +677,13 @@ class Handover(Rights):
             (self.written / "a").write_text("x")
             os.link(self.written / "a", outside / "b")
 
+        def lead_out() -> None:
+            (outside / "own").touch()
+            (self.written / "own").symlink_to(outside / "own")
+
         cases: dict[str, Callable[[], object]] = {
+            "link to a file of the user": lead_out,
+            "link to a folder of the user": lambda: (self.written / "folder").symlink_to(outside),
             "link": lambda: (self.written / "link").symlink_to(other),
             "folder": lambda: (self.written / "folder").symlink_to(self.input),
             "pipe": lambda: os.mkfifo(self.written / "pipe"),
@@ -606,6 +709,32 @@ class Fallbacks(Case):
         with mock.patch("os.geteuid", lambda: 1000):
             self.expect("not root", sandbox.of(Path("/"), Path("/"), limits.Limits(), []).number, None)
         self.expect("an unusable file is one of the system", issubclass(Unusable, OSError))
+
+    @needs.root()
+    def test_files_that_a_user_needs(self) -> None:
+        """Python and the certificates that curl is told to use are among them; what does not exist is not."""
+        with tempfile.TemporaryDirectory() as name, contextlib.ExitStack() as stack:
+            top, said = Path(name), stack.enter_context(contextlib.redirect_stdout(io.StringIO()))
+            top.chmod(0o755)
+            closed = top / "closed"
+            closed.mkdir(0o700)
+            for module, attribute in ((sys, "executable"), (os, "__file__")):  # of a Python that may be closed here
+                stack.enter_context(mock.patch.object(module, attribute, "/usr/bin/env"))
+            found = sandbox.of(top, top / "east", Limits(), [top / "none"])
+            self.expect("all is well", (found.number is not None, said.getvalue()), (True, ""))
+            for patch in (
+                mock.patch.dict(os.environ, SSL_CERT_FILE=str(closed)),
+                mock.patch.dict(os.environ, CURL_CA_BUNDLE=str(closed)),
+                mock.patch.object(sys, "executable", str(closed)),
+                mock.patch.object(os, "__file__", str(closed / "os.py")),
+            ):
+                said.truncate(0)
+                said.seek(0)
+                with patch:
+                    found = sandbox.of(top, top / "east", Limits(), [])
+                line = f"files of providers are read with the rights of root: its user cannot read {closed}: "
+                shown = said.getvalue()
+                self.expect(f"closed: {shown}", (found.number, shown.startswith(line)), (None, True))
 
 
 # Notes who runs a command, and runs it.

@@ -9,7 +9,7 @@ import subprocess
 
 from openlink_update.disk import sync
 from openlink_update.machines import library_files as files
-from openlink_update.machines.libraries import LOCAL, MAIL, REPORT, SITE, Libraries, is_name
+from openlink_update.machines.libraries import LOCAL, MAIL, REPORT, SITE, Libraries, is_any_name, is_name
 from openlink_update.outcome import ALL_NEW, DEVICE, Failure
 from openlink_update.shown_text import report, report_cells
 from openlink_update.site.front_door import Site
@@ -63,7 +63,8 @@ def _parse(words: list[str] | None) -> _Options:
     mail = commands.add_parser("mail", help="send the reports of the last updates")
     mail.add_argument("--failed", action="store_true", help="only those of updates that failed")
     options = _Options(**vars(parser.parse_args(words)))
-    if options.command in ("add", "remove") and not is_name(options.name):
+    is_possible = {"add": is_name, "remove": is_any_name}.get(options.command)
+    if is_possible and not is_possible(options.name):
         parser.error(f"no library can have the name {options.name}")
     if options.command == "add" and not 1 <= options.processes <= files.MOST_PROCESSES:
         parser.error(f"--processes is at least 1 and at most {files.MOST_PROCESSES}")

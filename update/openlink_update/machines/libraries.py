@@ -43,6 +43,11 @@ def is_name(text: str) -> bool:
     return len(text) <= _MOST and _NAME.fullmatch(text) is not None and text not in (*_RESERVED, *_LATER)
 
 
+def is_any_name(text: str) -> bool:
+    """Whether a library may have this name, also one of an earlier release."""
+    return is_name(text) or text in _LATER
+
+
 class Libraries:
     def __init__(self, folder: str | Path, machine: str | Path) -> None:
         """Those in a folder. `machine` is the site that has what all of them have once, openlink.conf."""
@@ -54,7 +59,7 @@ class Libraries:
     def names(self) -> list[str]:
         """The names of all libraries in their order."""
         names = sorted(os.listdir(self.folder)) if self.folder.is_dir() else []
-        return [name for name in names if (is_name(name) or name in _LATER) and self.path(name, SITE).is_file()]
+        return [name for name in names if is_any_name(name) and self.path(name, SITE).is_file()]
 
     def check(self, names: Iterable[str]) -> None:
         """A Failure says which of these is no library."""

@@ -8,7 +8,7 @@ from pathlib import Path
 
 from openlink_update import children
 from openlink_update.disk import sync
-from openlink_update.machines.libraries import LOCAL, SITE, is_name
+from openlink_update.machines.libraries import LOCAL, SITE, is_any_name
 from openlink_update.outcome import Failure
 from openlink_update.places import FRONT_DOOR
 
@@ -81,7 +81,8 @@ def _filled(template: str, **values: str) -> str:
 
 def _all_sites(places: Places) -> list[str]:
     """The texts of all files of nginx that name ports or hosts of libraries."""
-    of_libraries = [path for path in map(Path, glob.glob(f"{places.libraries}/*/*.conf")) if is_name(path.parent.name)]
+    paths = map(Path, glob.glob(f"{places.libraries}/*/*.conf"))
+    of_libraries = [path for path in paths if is_any_name(path.parent.name)]
     return [read(path) for path in (*map(Path, glob.glob(f"{places.nginx}/*.conf")), *of_libraries)]
 
 
