@@ -262,6 +262,14 @@ class Privacy(SiteCase):
     def test_errors(self) -> None:
         for name, (text, status) in ERRORS.items():
             self.expect(f"{name}: status", self.reader.send(text), status)
+        # However slow the machine is, more than forty searches are too many.
+        edit_file(
+            self.site,
+            "openlink/http.conf",
+            "zone=openlink_search:128k rate=20r/s;",
+            "zone=openlink_search:128k rate=1r/m;",
+        )
+        self.site.reload()
         statuses = self.reader.at_once([f"/find?{QUERY}&x={'a' * 3000}"] * 40 + [f"/journals?q={TITLE}"] * 60)
         self.expect("too many: statuses", set(statuses), {200, 429})
         self.expect_statuses("200", "400", "403", "404", "405", "413", "414", "429")

@@ -155,6 +155,69 @@ class A(Case):
         self.expect("those that need none", self.given("--early")[1][-1], "3 passed, 0 failed")
 
 
+# A test of the program that fails unless it runs the second time, and one that notes when it ends.
+SECOND_TIME = """
+class {name}(Case):
+    def test_a(self):
+        with open("starts", "a") as file:
+            file.write("{name} " + str(os.path.exists("ended")) + "\\n")
+        self.expect("how often", open("starts").read().count("{name} ") == {times})
+"""
+ENDS_LATE = """
+class Late(Case):
+    def test_a(self):
+        time.sleep(1)
+        self.expect("made", open("ended", "w").close(), None)
+"""
+ALONE = "./test: once more, alone: other.test_second"
+PASSED_ALONE = "./test: failed beside others, passed alone: other.test_second"
+
+
+class RunsAgain(RunnerCase):
+    def setUp(self) -> None:
+        super().setUp()
+        self.other("late", ENDS_LATE)
+
+    def other(self, name: str, text: str) -> None:
+        """A module that is none of those that need no program."""
+        self.write("tests/other/__init__.py", "")
+        self.write(f"tests/other/test_{name}.py", IMPORTS + text)
+
+    def test_one_that_passes_alone(self) -> None:
+        """When all others have ended."""
+        self.other("second", SECOND_TIME.format(name="Second", times=2))
+        status, lines = self.given()
+        self.expect("the end", (status, lines[-1]), (0, "2 passed, 0 failed"))
+        self.expect("what is said", [it for it in lines if it.startswith("./test")], [ALONE, PASSED_ALONE])
+        self.expect("its failure", [it for it in lines if it.startswith("other.test_second: failed")] != [])
+        with open(f"{self.top}/starts", encoding="utf-8") as file:
+            self.expect("its starts", file.read().splitlines()[-1], "Second True")
+
+    def test_one_that_fails_again(self) -> None:
+        self.other("second", SECOND_TIME.format(name="Second", times=0))
+        status, lines = self.given()
+        self.expect("the end", (status, lines[-1]), (1, "1 passed, 1 failed"))
+        self.expect("what is said", [it for it in lines if it.startswith("./test")], [ALONE])
+
+    def test_one_that_ran_alone(self) -> None:
+        self.other("second", SECOND_TIME.format(name="Second", times=2))
+        self.expect("its end", self.given("second")[1][-1], "0 passed, 1 failed")
+
+    def test_one_without_the_program(self) -> None:
+        self.module("second", SECOND_TIME.format(name="Second", times=2))
+        status, lines = self.given()
+        self.expect("its end", (status, lines[-1]), (1, "1 passed, 1 failed"))
+
+    def test_many(self) -> None:
+        """Five run again, and of six none."""
+        for number in range(1, 7):
+            self.other(f"no_{number}", SECOND_TIME.format(name=f"No{number}", times=2))
+            if number >= 5:
+                end = self.given()[1][-1]
+                self.expect(f"{number} that fail", end, "6 passed, 0 failed" if number == 5 else "1 passed, 6 failed")
+                os.remove(f"{self.top}/starts")
+
+
 # Arguments, and the numbers of tests that pass.
 NAMES = [
     (["sources"], 6),

@@ -1,7 +1,6 @@
 """The processes of the tests: several at once, and a line for each that has ended."""
 from __future__ import annotations
 
-import collections
 import json
 import os
 import signal
@@ -16,6 +15,8 @@ from catalogue import Test
 # The limit of a process in seconds, and how many of its last lines are shown if it fails.
 MOST_SECONDS = 1200
 MOST_LINES = 40
+# How many tests run again if they fail.
+MOST_AGAIN = 5
 
 
 def counted(number: int, noun: str) -> str:
@@ -29,21 +30,26 @@ def processor_seconds() -> float:
 
 
 class Totals:
-    """The outcomes of all tests so far, and what lacks for those that were skipped."""
+    """The last outcome of each test so far, and what lacks for those that were skipped."""
 
     def __init__(self) -> None:
-        self.counts: collections.Counter[str] = collections.Counter()
+        self._results: dict[str, tuple[Test, dict[str, Any]]] = {}
         self.packages: dict[str, None] = {}
 
-    def add(self, result: dict[str, Any]) -> None:
-        for end in ("passed", "failed", "skipped"):
-            self.counts[end] += result[end]
+    def add(self, test: Test, result: dict[str, Any]) -> None:
+        self._results[test.title()] = test, result
         for reason in result["reasons"]:
             self.packages.update(dict.fromkeys(packages.named_in(reason)))
 
+    def number(self, end: str) -> int:
+        return sum(result[end] for _, result in self._results.values())
+
+    def failed(self) -> list[Test]:
+        return [test for test, result in self._results.values() if result["failed"]]
+
     def line(self) -> str:
-        told = [f"{self.counts['passed']} passed", f"{self.counts['failed']} failed"]
-        return ", ".join(told + [f"{self.counts['skipped']} skipped"] * (self.counts["skipped"] > 0))
+        told = [f"{self.number('passed')} passed", f"{self.number('failed')} failed"]
+        return ", ".join(told + [f"{self.number('skipped')} skipped"] * (self.number("skipped") > 0))
 
 
 class Run:
@@ -127,6 +133,22 @@ def run_all(tests: list[Test], jobs: int, totals: Totals) -> None:
                 time.sleep(0.05)
                 for run in [it for it in running if it.has_ended()]:
                     running.remove(run)
-                    totals.add(run.report())
+                    totals.add(run.test, run.report())
         finally:
             stop([it.process for it in running])
+
+
+def run_again(totals: Totals) -> None:
+    """Runs the tests of the program that failed once more, one after another, and takes what comes of that: beside
+    others one can fail only because a process got too little of a processor before a time-out of the program. If many
+    failed, that is not why, and none runs again."""
+    late = [it for it in totals.failed() if it.group() == "--program"]
+    if not 0 < len(late) <= MOST_AGAIN:
+        return
+    for test in late:
+        print(f"./test: once more, alone: {test.title()}", flush=True)
+        run_all([test], 1, totals)
+    failed = totals.failed()
+    passed = [it.title() for it in late if it not in failed]
+    if passed:
+        print(f"./test: failed beside others, passed alone: {' '.join(passed)}", flush=True)
