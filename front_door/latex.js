@@ -31,7 +31,7 @@ const LETTERS = {
 // characters that LaTeX escapes.
 const LETTER = '(\\\\[ij](?![A-Za-z])|[A-Za-z])';
 const COMMAND = texts.lazy('\\$[^$]*\\$|(?<=\\b[OD])\\\\(\')(?=[A-Z])'
-    + '|\\\\(?:(?:emph|text[a-z]{2})(?=\\{)|(?:it|bf|em|sc|rm|sl)(?![A-Za-z]) ?)'
+    + '|\\\\(?:(?:emph|text(?:[a-z]{2}|(?:sub|super)script))(?=\\{)|(?:it|bf|em|sc|rm|sl)(?![A-Za-z]) ?)'
     + '|\\\\(["\'`^~=.]) ?(?:\\{ ?' + LETTER + ' ?\\}|' + LETTER + '(?:\\{\\})?)'
     + '|\\\\([cvuHkrdb])(?: ?\\{ ?' + LETTER + ' ?\\}| ' + LETTER + ')'
     + '|\\\\(ss|SS|ae|AE|oe|OE|aa|AA|dh|DH|th|TH|dj|DJ|ng|NG|[oOlLij])(?![A-Za-z])(?:\\{\\}| )?'

@@ -414,6 +414,8 @@ const LATEX = [
     ['an ampersand', 'rft_val_fmt=x&rft.jtitle=Harbour+%5C%26+Coast', 'rft.jtitle=Harbour+&+Coast', 'rft_val_fmt=x'],
     ['a font', 'rft_val_fmt=x&rft.atitle=%5Cemph%7BZostera%7D+and+%7B%5Cit+Ruppia%7D', 'rft.atitle=Zostera+and+Ruppia',
         'rft_val_fmt=x'],
+    ['letters below and above the line', 'rft_val_fmt=x&rft.atitle=CO%5Ctextsubscript%7B2%7D+and+x%5Ctextsuperscript%7Bn%7D',
+        'rft.atitle=CO2+and+xn', 'rft_val_fmt=x'],
     ['an apostrophe', 'rft_val_fmt=x&rft.aulast=O%5C%27Neill', 'rft.aulast=O\'Neill', 'rft_val_fmt=x'],
     ['a formula', 'rft_val_fmt=x&rft.atitle=On+$%5Calpha_%7Bn%7D$', ''],
     ['a formula and an accent', 'rft_val_fmt=x&rft.atitle=$%5Ctilde%7Bo%7D$+by+G%5C%22odel',

@@ -1,6 +1,7 @@
 """Cells of vendors that have one reading, and those that have two, which stay."""
 from __future__ import annotations
 
+import gzip
 from unittest import mock
 
 from fixtures.cases import Case
@@ -262,6 +263,13 @@ class Zips(Case):
             ("a readme", {"readme.txt": b"read me", "t.txt": good}, ""),
             ("a page", {"readme.html": b"<html>", "t.txt": good}, ""),
             ("a picture", {"logo.png": b"\x89PNG\r\n\x1a\n" + bytes(99), "t.txt": good}, ""),
+            ("a packed table", {"t.txt.gz": gzip.compress(good)}, ""),
+            ("a packed table and a readme", {"readme.txt": b"read me", "t.txt.gz": gzip.compress(good)}, ""),
+            (
+                "half of a packed table",
+                {"t.txt.gz": gzip.compress(good)[:-9]},
+                "file: a gzip file that is cut short or damaged",
+            ),
             ("two tables", {"a.txt": good, "b.txt": good}, refused.format(2)),
             ("a table and an archive", {"a.txt": good, "b.zip": archive_of({"c": good})}, refused.format(2)),
             ("none", {"a.txt": b"x", "b.txt": b"y"}, refused.format(2)),

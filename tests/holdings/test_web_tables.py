@@ -79,6 +79,7 @@ class Tables(Case):
             ("attributes of a script", "<td data-colspan=2 data-rowspan=2 x-colspan=3>Tides", "Tides"),
             ("parts of the page", "<td>Tides<div>and Piers</div>", "Tides and Piers"),
             ("a list", "<td><li>Tides<li>and Piers", "Tides and Piers"),
+            ("attributes in a value", "<td title=' colspan=2 ' data-x='rowspan=3'>Tides", "Tides"),
             ("a span of none", "<td colspan=0 rowspan='0'>Tides", "Tides"),
             ("a sign in quotes", "<td title='a > b'>Tides", "Tides"),
             ("a lone sign", "<td>1 < 2", "1 < 2"),
@@ -118,6 +119,16 @@ class Tables(Case):
             (
                 "an attribute of a script",
                 "<td><a data-href='https://b.example.com/' href='https://a.example.com/'>open</a>",
+                "https://a.example.com/",
+            ),
+            (
+                "another in a value",
+                "<td><a title='href=https://b.example.com/' href='https://a.example.com/'>open</a>",
+                "https://a.example.com/",
+            ),
+            (
+                "two",
+                "<td><a href='https://a.example.com/' href='https://b.example.com/'>open</a>",
                 "https://a.example.com/",
             ),
             ("no space before it", '<td><a class="x"href="https://a.example.com/">open</a>', "https://a.example.com/"),

@@ -191,6 +191,7 @@ class Names(Case):
                 ("--mail", ""),
                 ("--mail", "a b"),
                 ("--mail", "-s"),
+                ("--mail=-s",),
             ):
                 self.expect(f"{words}", machine.library("add", "west", "west.example.org", *words)[0], 2)
             ports = set()

@@ -199,9 +199,12 @@ class RunsAgain(RunnerCase):
         self.expect("the end", (status, lines[-1]), (1, "1 passed, 1 failed"))
         self.expect("what is said", [it for it in lines if it.startswith("./test")], [ALONE])
 
-    def test_one_that_ran_alone(self) -> None:
+    def test_chosen_ones(self) -> None:
+        """Whoever names tests sees at once what fails."""
         self.other("second", SECOND_TIME.format(name="Second", times=2))
-        self.expect("its end", self.given("second")[1][-1], "0 passed, 1 failed")
+        for arguments in (["second", "late"], ["-k", "test_a"]):
+            self.expect(f"{arguments}", self.given(*arguments)[1][-1], "1 passed, 1 failed")
+            os.remove(f"{self.top}/starts")
 
     def test_one_without_the_program(self) -> None:
         self.module("second", SECOND_TIME.format(name="Second", times=2))

@@ -16,7 +16,7 @@ from openlink_update.site.front_door import Site
 from openlink_update.site.processes import run
 from openlink_update.versions.library import Library
 
-_ADDRESS = re.compile(r"[\w.+-]+(@[\w.-]+)?", re.A)
+_ADDRESS = re.compile(r"[\w.+][\w.+-]*(@[\w.-]+)?", re.A)  # `mail` takes what begins with a hyphen for an option
 
 
 @dataclasses.dataclass(frozen=True)

@@ -1,5 +1,5 @@
-"""Archives, which are known by their first bytes: the file in a .gz, and a member of a .zip. What they unpack to is
-counted while it is unpacked, a chunk at a time."""
+"""Archives, which are known by their first bytes: the file in a .gz, and a member of a .zip, which may be a .gz. What
+they unpack to is counted while it is unpacked, a chunk at a time."""
 import gzip
 import io
 import zipfile
@@ -36,7 +36,8 @@ def opened(
         return data, []
     if not data.startswith(_ZIP) or member == "*" and is_spreadsheet(data):
         return data, []
-    return _unzipped(data, member, is_table)
+    data, lines = _unzipped(data, member, is_table)
+    return _gunzipped(data) if data.startswith(_GZIP) else data, lines
 
 
 def begins_archive(data: bytes) -> bool:

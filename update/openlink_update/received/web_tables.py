@@ -1,6 +1,5 @@
 """The table of a web page. Pages come from strangers, and the parser of the standard library looks at the rest of a
-page
-again and again if its marks are never closed, so a page is divided into tags and texts here, in one pass."""
+page again and again if its marks are never closed, so a page is divided into tags and texts here, in one pass."""
 import html
 import re
 from collections.abc import Iterator, Sequence
@@ -19,13 +18,11 @@ _LEAST = 2  # rows, and cells of a row, of a table that is one
 _TAG = re.compile(r"</?([a-zA-Z][a-zA-Z0-9]{0,30})")
 _SKIPPED = {"<!--": "-->", "<!": ">", "<?": ">"}  # how what is no text begins and ends
 _RAW = ("script", "style", "textarea", "title", "template", "noscript")  # elements whose text is none of the page
-_LINK = re.compile(r"""(?<![^\s/"'])href\s*=\s*(?:"([^"<>]*)"|'([^'<>]*)'|([^\s"'<>]+))""", re.I)
-_COLUMNS = re.compile(r"""(?<![^\s/"'])colspan\s*=\s*["']?(\d{1,9})""", re.I | re.A)
-_ROWS = re.compile(r"""(?<![^\s/"'])rowspan\s*=\s*["']?(\d{1,9})""", re.I | re.A)
+_ATTRIBUTE = re.compile(r"""([^\s"'<>/=]+)(?:\s*=\s*(?:"([^"]*)"|'([^']*)'|([^\s"'<>]+)))?""")
+_NUMBER = re.compile(r"\s*(\d{1,9})", re.A)
 _WHOLE = re.compile(r"""(?:[^>"']|"[^"]*"|'[^']*')*>""")
 _MOST_OPEN = 1000  # tags with a quotation mark that is not closed in them
 _MOST_DEPTH = 64  # of tables in tables
-_PASSWORD = re.compile(r"""(?<![^\s/"'])type\s*=\s*["']?password\b""", re.I)
 _WEB = ("http://", "https://", "www.")
 _ADDRESS = "title_url"
 
@@ -63,13 +60,12 @@ class _Table:
         if not self._is_open:
             self.begin_row()
         self._pieces, self._link = [], ""
-        self._columns, self._rows = _span(_COLUMNS, tag), _span(_ROWS, tag)
+        self._columns, self._rows = _span(tag, "colspan"), _span(tag, "rowspan")
 
     def link(self, tag: str) -> None:
         """Takes the first address in a cell."""
-        found = _LINK.search(tag)
-        if found and not self._link:
-            address = _unescaped(next(filter(None, found.groups()), "")).strip()
+        if not self._link:
+            address = _unescaped(_attribute(tag, "href")).strip()
             self._link = address if address.lower().startswith(_WEB) else ""
 
     def end_cell(self) -> None:
@@ -107,9 +103,18 @@ class _Table:
         self._is_open = False
 
 
-def _span(pattern: "re.Pattern[str]", tag: str) -> int:
+def _attribute(tag: str, name: str) -> str:
+    """The value of the first attribute of a tag with this name; "" if there is none."""
+    if name not in tag.lower():
+        return ""
+    attributes = _ATTRIBUTE.finditer(tag)
+    next(attributes)  # the tag's own name
+    return next((it[2] or it[3] or it[4] or "" for it in attributes if it[1].lower() == name), "")
+
+
+def _span(tag: str, name: str) -> int:
     """Over how many columns or rows a cell goes."""
-    found = pattern.search(tag)
+    found = _NUMBER.match(_attribute(tag, name))
     return max(int(found[1]), 1) if found else 1
 
 
@@ -159,7 +164,7 @@ def _tables_of(page: str) -> list[Sheet]:
     """The tables of a page that have rows and columns. Unreadable if it asks for a password."""
     open_tables, found = list[_Table](), list[Sheet]()
     for name, whole in _marks(page):
-        if name == "input" and _PASSWORD.search(whole):
+        if name == "input" and _attribute(whole, "type").lower() == "password":
             raise Unreadable("a web page that asks for a password")
         if name == "table":
             if open_tables:

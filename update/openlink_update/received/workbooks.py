@@ -194,7 +194,7 @@ class _Rows:
                 self._sheet.errors += 1
                 return ""
             case "b":
-                return "TRUE" if text == "1" else "FALSE"
+                return "TRUE" if text.strip() in ("1", "true") else "FALSE"
         return _unescaped(text)
 
     def _length(self) -> int:
