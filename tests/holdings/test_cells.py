@@ -279,6 +279,8 @@ class Zips(Case):
             except Refused as refusal:
                 got = refusal.reasons[0].replace("file 0", "file")
             self.expect(name, got, wanted)
+        packed = archive_of({"readme.txt": b"read me", "t.txt.gz": gzip.compress(good)})
+        self.expect("what is said", said(packed), ["other members of the zip file, left out: 1 file"])
 
 
 class Rows(Case):

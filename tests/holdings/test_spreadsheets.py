@@ -143,6 +143,7 @@ class Cells(Case):
             ("in two lines", "<c><v>no&#10;number</v></c>", "no number"),
             ("true", '<c t="b"><v>1</v></c>', "TRUE"),
             ("true as a word", '<c t="b"><v>true</v></c>', "TRUE"),
+            ("true between spaces", '<c t="b"><v> 1 </v></c>', "TRUE"),
             ("a date of its own kind", '<c t="d"><v>2005-03-01T00:00:00</v></c>', "2005-03-01T00:00:00"),
             ("other ends of lines", '<c t="inlineStr"><is><t>A&#133;B&#8232;C&#8233;D</t></is></c>', "A B C D"),
             ("an escaped character in small letters", '<c t="str"><v>A_x00e9_</v></c>', "Aé"),

@@ -94,7 +94,7 @@ class Tables(Case):
     def test_spans(self) -> None:
         rows = (
             "<tr><td rowspan=3>Tides<td rowspan='2'>2901-0012<td>2908-0142<td>a</tr>"
-            "<tr><td COLSPAN=2>b</tr><tr><td>2915-0272<td><td>c</tr><tr><td>d<td>2922-0408</tr>"
+            "<tr><td COLSPAN=' 2'>b</tr><tr><td>2915-0272<td><td>c</tr><tr><td>d<td>2922-0408</tr>"
         )
         wanted = [
             ["Tides", "2901-0012", "2908-0142", "a"],
@@ -132,6 +132,7 @@ class Tables(Case):
                 "https://a.example.com/",
             ),
             ("no space before it", '<td><a class="x"href="https://a.example.com/">open</a>', "https://a.example.com/"),
+            ("a slash before it", "<td><a/href='https://a.example.com/'>open</a>", "https://a.example.com/"),
             ("spaces", '<td><a href = "https://a.example.com/">open</a>', "https://a.example.com/"),
             ("spaces around it", "<td><a href=' https://a.example.com/ '>open</a>", "https://a.example.com/"),
             ("a line end in it", "<td><a href='https://a.example.com/&#10;x'>open</a>", "https://a.example.com/ x"),
@@ -170,7 +171,7 @@ class Tables(Case):
         tight = LOGIN.replace("<input type", "<input class='x'type")
         self.expect("a login without spaces", read(tight), "a web page that asks for a password")
         self.expect("a login beside one", read(PAGE + LOGIN), "a web page that asks for a password")
-        for kind in ("type=search", "data-type=password", "type=text class=password"):
+        for kind in ("type=search", "data-type=password", "type=text class=password", "title='type=password'"):
             self.expect(f"a search beside one, {kind}", read(f"{PAGE}<input {kind}>"), [CELLS])
         says = "a web page with 2 tables, of which {} have a header of known names"
         self.expect("two without a header", read(other + other), says.format(0))

@@ -18,7 +18,7 @@ _LEAST = 2  # rows, and cells of a row, of a table that is one
 _TAG = re.compile(r"</?([a-zA-Z][a-zA-Z0-9]{0,30})")
 _SKIPPED = {"<!--": "-->", "<!": ">", "<?": ">"}  # how what is no text begins and ends
 _RAW = ("script", "style", "textarea", "title", "template", "noscript")  # elements whose text is none of the page
-_ATTRIBUTE = re.compile(r"""([^\s"'<>/=]+)(?:\s*=\s*(?:"([^"]*)"|'([^']*)'|([^\s"'<>]+)))?""")
+_ATTRIBUTE = re.compile(r"""([^\s<>/=]+)(?:\s*=\s*(?:"([^"]*)"|'([^']*)'|([^\s"'<>]+)))?""")
 _NUMBER = re.compile(r"\s*(\d{1,9})", re.A)
 _WHOLE = re.compile(r"""(?:[^>"']|"[^"]*"|'[^']*')*>""")
 _MOST_OPEN = 1000  # tags with a quotation mark that is not closed in them
@@ -107,9 +107,7 @@ def _attribute(tag: str, name: str) -> str:
     """The value of the first attribute of a tag with this name; "" if there is none."""
     if name not in tag.lower():
         return ""
-    attributes = _ATTRIBUTE.finditer(tag)
-    next(attributes)  # the tag's own name
-    return next((it[2] or it[3] or it[4] or "" for it in attributes if it[1].lower() == name), "")
+    return next((it[2] or it[3] or it[4] or "" for it in _ATTRIBUTE.finditer(tag) if it[1].lower() == name), "")
 
 
 def _span(tag: str, name: str) -> int:
