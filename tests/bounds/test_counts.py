@@ -164,7 +164,8 @@ class Reports(Case):
                 self.expect(f"{count}", reason(titles_in, data.ljust(count)), wanted)
 
     def test_rows(self) -> None:
-        row = ROW.format("a", "2901-0012", 1)
+        """Also those of another metric, which are soonest read."""
+        row = "a,2901-0012,Total_Item_Investigations,1,\n"
         for count, wanted in ((500_000, ""), (500_001, "line 500005: more than 500,000 rows")):
             self.expect(f"{count}", reason(titles_in, report(row * count)), wanted)
 

@@ -14,8 +14,8 @@ LONGEST_LINK = code([], [("link", "a" * 32768)], ["EMIT l0"] * 32 + ["HALT"])
 # A web link nearly as long as links may be, of apostrophes, each of which takes five bytes in a page.
 APOSTROPHES = code([], [("link", "http://e.org/"), ("link", "'" * 32768)], ["EMIT l0"] + ["EMIT l1"] * 31 + ["HALT"])
 
-# A page of 256 such links has 1.3 GB.
-PAGE_LIMIT = 800_000_000
+# A page of 64 such links has 330 MB.
+PAGE_LINKS, PAGE_LIMIT = 64, 200_000_000
 
 REFUSED = reply_of(503, "out of memory\n")
 
@@ -92,7 +92,7 @@ class Memory(ProgramCase):
 
     def test_a_page_too_large_for_memory(self):
         small = [("small", ANY_LINK, "print_identifier\n1\n")]
-        write_registry(self.program, small + [(f"t{n}", APOSTROPHES, "print_identifier\n2\n") for n in range(255)])
+        write_registry(self.program, small + [(f"t{n}", APOSTROPHES, "print_identifier\n2\n") for n in range(PAGE_LINKS)])
         with Service(self.program, 3) as service:
             resource.prlimit(service.process.pid, resource.RLIMIT_AS, (PAGE_LIMIT, PAGE_LIMIT))
             page = service.reply(request_of("/openurl?rft.issn=2"))
