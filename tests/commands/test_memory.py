@@ -92,7 +92,8 @@ class Memory(ProgramCase):
 
     def test_a_page_too_large_for_memory(self):
         small = [("small", ANY_LINK, "print_identifier\n1\n")]
-        write_registry(self.program, small + [(f"t{n}", APOSTROPHES, "print_identifier\n2\n") for n in range(PAGE_LINKS)])
+        large = [(f"t{n}", APOSTROPHES, "print_identifier\n2\n") for n in range(PAGE_LINKS)]
+        write_registry(self.program, small + large)
         with Service(self.program, 3) as service:
             resource.prlimit(service.process.pid, resource.RLIMIT_AS, (PAGE_LIMIT, PAGE_LIMIT))
             page = service.reply(request_of("/openurl?rft.issn=2"))
