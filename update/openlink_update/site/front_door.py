@@ -35,16 +35,19 @@ http {{
     uwsgi_temp_path {folder}/temp;
     scgi_temp_path {folder}/temp;
     large_client_header_buffers 4 8k;
-    {module_lines}
-{doors}}}
+    {variables}
+    map $server_port $openlink_upstream {{
+{upstreams}    }}
+    map $server_port $openlink_folder {{
+{versions}    }}
+{doors}{servers}}}
 """
 _DOOR = """    upstream door{port} {{
 {servers}    }}
-    server {{
-        listen 127.0.0.1:{port};
-        {targets_line}
-        set $openlink_upstream door{port};
-        set $openlink_folder "{version}";
+"""
+# Of doors with the same targets.json: nginx compiles the module for each server that has lines about it.
+_SERVER = """    server {{
+{listen}        {module_lines}
         include "{processes}";
         location = /find.json {{ js_content door.json; }}
         location = /report.txt {{ js_content door.report; }}
@@ -133,7 +136,6 @@ class _Door:
     servers: str
     version: Path
     targets_line: str
-    processes: str
 
 
 class FrontDoor:
@@ -164,17 +166,14 @@ class FrontDoor:
         port = children.free_port()
         servers = "".join(f"        server 127.0.0.1:{each} max_fails=0;\n" for each in ports)
         line = f'js_preload_object targets from "{targets}";' if targets else ""
-        self._doors.append(_Door(port, servers, version, line, self._site.processes))
+        self._doors.append(_Door(port, servers, version, line))
         return f"http://127.0.0.1:{port}"
 
     def start(self) -> None:
         self._folder.mkdir(0o755, exist_ok=True)  # root makes it for a user who may make none beside it
         os.chmod(self._folder, 0o755)
         path, log = self._folder / "nginx.conf", self._folder / "start.log"
-        doors = "".join(_DOOR.format(**vars(door)) for door in self._doors)
-        lines = "\n    ".join(line for line in self._site.module_lines if not re.match(_TARGETS, line))
-        text = _CONFIGURATION.format(module=self._module, folder=self._folder, doors=doors, module_lines=lines)
-        path.write_text(text, encoding="utf-8")
+        path.write_text(self._configuration(), encoding="utf-8")
         self._child = children.start(
             [self._nginx, "-e", log, "-p", self._folder, "-c", path],
             self._folder,
@@ -184,6 +183,26 @@ class FrontDoor:
         if not self._has_begun(self._child):
             reasons = " ".join(text for text in map(_read, (log, self._folder / "error.log")) if text)
             raise Failure(f"the front door for probes does not start: {reasons or 'nginx gives no reason'}", DEVICE)
+
+    def _configuration(self) -> str:
+        lines = [line for line in self._site.module_lines if not re.match(_TARGETS, line)]
+        variables = [line for line in lines if line.startswith("js_var")]
+        shared = [line for line in lines if line not in variables]
+        servers = ""
+        for targets_line in dict.fromkeys(door.targets_line for door in self._doors):
+            ports = [door.port for door in self._doors if door.targets_line == targets_line]
+            listen = "".join(f"        listen 127.0.0.1:{port};\n" for port in ports)
+            module_lines = "\n        ".join([*shared, targets_line])
+            servers += _SERVER.format(listen=listen, module_lines=module_lines, processes=self._site.processes)
+        return _CONFIGURATION.format(
+            module=self._module,
+            folder=self._folder,
+            variables="\n    ".join(variables),
+            upstreams="".join(f"        {door.port} door{door.port};\n" for door in self._doors),
+            versions="".join(f'        {door.port} "{door.version}";\n' for door in self._doors),
+            doors="".join(_DOOR.format(**vars(door)) for door in self._doors),
+            servers=servers,
+        )
 
     def _has_begun(self, child: "subprocess.Popen[bytes]") -> bool:
         """Whether nginx serves: it listens before it writes its number, and ends if it cannot write it."""
