@@ -16,9 +16,11 @@ from unittest import mock
 from desk.made_desk import LINE
 from fixtures import INTERPRETER
 from fixtures import TOP
+from fixtures import forked_runs
 from fixtures import needs
 from fixtures.cases import Case
 from fixtures.fetch_input import TABLE
+from fixtures.fetch_input import ended
 from fixtures.modes import modes_below
 from fixtures.program import PATH
 from fixtures.updates import Library
@@ -33,6 +35,7 @@ from openlink_update.site.front_door import Site
 from openlink_update.versions import library as libraries
 
 KILLED = f"{TOP}/tests/fixtures/killed.py"
+WITH_PACKAGES = (INTERPRETER, "-B")
 
 
 class Desk(Library):
@@ -52,21 +55,14 @@ class Desk(Library):
         self.targets = {"press": ("press.txt", "")}
         self.write_targets()
 
-    def desk(self, *words: str, options: tuple[str, ...] = ("-B",)) -> tuple[int, str]:
-        """The status of openlink-desk, and what it prints."""
-        command = [
-            INTERPRETER,
-            *options,
-            "update/desk",
-            "--library",
-            self.library,
-            "--site",
-            str(self.site),
-            "--program",
-            PATH,
-            *words,
-        ]
-        done = subprocess.run(command, capture_output=True, text=True, check=False)
+    def desk(self, *words: str, before: tuple[str, ...] = (), is_command: bool = False) -> tuple[int | None, str]:
+        """The status of openlink-desk, and what it prints: of a forked run, by a script that comes before its own, or
+        of the command."""
+        options = ["--library", self.library, "--site", str(self.site), "--program", PATH]
+        command = [*before, "update/desk", *options, *words]
+        if not is_command:
+            return ended(forked_runs.begin(command, python=WITH_PACKAGES))
+        done = subprocess.run([*WITH_PACKAGES, *command], capture_output=True, text=True, check=False)
         return done.returncode, done.stdout + done.stderr
 
     def shown(self, name: str) -> str | None:
@@ -88,7 +84,7 @@ class Writing(Case):
         with Desk() as desk:
             self.expect(
                 "before the first update",
-                (desk.desk()[0], "No version is in use" in (desk.shown("index.html") or "")),
+                (desk.desk(is_command=True)[0], "No version is in use" in (desk.shown("index.html") or "")),
                 (0, True),
             )
             self.expect("the update", desk.update()[0], 0)
@@ -198,7 +194,7 @@ class Writing(Case):
             first, number = os.readlink(f"{desk.library}/desk/current"), 0
             moments = Path(desk.top, "moments")
             while not moments.exists():
-                status = desk.desk(options=("-B", KILLED, str(number), str(moments)))[0]
+                status = desk.desk(before=(KILLED, str(number), str(moments)))[0]
                 text, stamp = desk.shown("index.html") or "", os.readlink(f"{desk.library}/desk/current")
                 expected = (0 if moments.exists() else -signal.SIGKILL, True, number < 5)
                 found = (status, text.endswith("</html>\n"), stamp == first)

@@ -13,6 +13,7 @@ from fixtures import PYTHON
 from fixtures import forked_runs
 from fixtures.cases import Case
 from fixtures.patience import patience
+from fixtures.patience import wait_until
 
 # What a script finds: all but its number and what counts its time.
 FINDS = """import json, os, resource, signal, sys
@@ -88,13 +89,16 @@ class ForkedRuns(Case):
         )
 
     def test_signals_from_a_test(self) -> None:
-        self.script.write_text("import time\nprint('begun', flush=True)\ntime.sleep(1000)\n", encoding="utf-8")
+        text = "import sys, time\nprint('begun', flush=True)\nopen(sys.argv[1], 'w')\ntime.sleep(1000)\n"
+        self.script.write_text(text, encoding="utf-8")
         for send, number in (
             (forked_runs.Forked.terminate, signal.SIGTERM),
             (forked_runs.Forked.kill, signal.SIGKILL),
             (lambda it: it.send_signal(signal.SIGUSR2), signal.SIGUSR2),
         ):
-            child, other = (forked_runs.begin([str(self.script)]) for _ in "12")
+            begun = [self.script.with_name(f"{number} {it}") for it in "12"]
+            child, other = (forked_runs.begin([str(self.script), str(it)]) for it in begun)
+            self.expect("they run", wait_until(lambda: all(it.exists() for it in begun)), True)
             self.expect("it runs", child.poll(), None)
             with self.assertRaises(subprocess.TimeoutExpired):
                 child.communicate(timeout=0.2)

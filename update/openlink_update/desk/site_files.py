@@ -8,10 +8,21 @@ from pathlib import Path
 
 from openlink_update import shown_text
 from openlink_update.counts.log_counts import Row
-from openlink_update.desk import collection, lint_lines, metrics, months, targets, titles_page, week, words_in, year
+from openlink_update.desk import (
+    collection,
+    lint_lines,
+    metrics,
+    months,
+    targets,
+    templates_in,
+    titles_page,
+    week,
+    words_in,
+    year,
+)
 from openlink_update.desk.lint_lines import LintLines
 from openlink_update.desk.months import Months
-from openlink_update.desk.templates_in import FOLDER, Templates
+from openlink_update.desk.templates_in import FOLDER
 from openlink_update.desk.words_in import Language
 from openlink_update.root_folder import RootFolder
 from openlink_update.run_records import RunRecord
@@ -44,7 +55,7 @@ class _Files:
     """Writes the pages of one desk into a folder."""
 
     def __init__(self, folder: Path, source: Source) -> None:
-        self._folder, self._source, self._templates = folder, source, Templates()
+        self._folder, self._source = folder, source
         self._site = _site_in(source.targets)
         self._languages = words_in.languages_of(_languages_in(self._site))
         self._targets = targets.targets_in(source.version) if source.version else []
@@ -69,7 +80,7 @@ class _Files:
         """Writes a page in each language. Values that are made for a language are functions of it."""
         for t in self._languages:
             made = {name: value(t) if callable(value) else value for name, value in values.items()}
-            text = self._templates.page(
+            text = templates_in.page(
                 template,
                 **made,
                 moment=_moment,

@@ -1,4 +1,5 @@
 """The templates of the pages, by python3-jinja2, which nothing else of the update needs."""
+import functools
 import importlib
 import importlib.util
 from pathlib import Path
@@ -32,19 +33,21 @@ def are_there() -> bool:
     return importlib.util.find_spec(_MODULE) is not None
 
 
-class Templates:
-    def __init__(self) -> None:
-        module = importlib.import_module(_MODULE)
-        made: _Environment = module.Environment(
-            loader=module.FileSystemLoader(str(FOLDER)),
-            autoescape=True,
-            finalize=_shown,
-            undefined=module.StrictUndefined,
-            trim_blocks=True,
-            lstrip_blocks=True,
-            keep_trailing_newline=True,
-        )
-        self._environment = made
+@functools.cache
+def _environment() -> _Environment:
+    """That of this process, which compiles each template once."""
+    module = importlib.import_module(_MODULE)
+    made: _Environment = module.Environment(
+        loader=module.FileSystemLoader(str(FOLDER)),
+        autoescape=True,
+        finalize=_shown,
+        undefined=module.StrictUndefined,
+        trim_blocks=True,
+        lstrip_blocks=True,
+        keep_trailing_newline=True,
+    )
+    return made
 
-    def page(self, name: str, **values: object) -> str:
-        return self._environment.get_template(name).render(**values)
+
+def page(name: str, **values: object) -> str:
+    return _environment().get_template(name).render(**values)
