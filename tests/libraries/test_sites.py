@@ -12,6 +12,7 @@ import socket
 
 from fixtures import needs
 from fixtures.cases import Case
+from fixtures.machine_of_libraries import Library
 from fixtures.machine_of_libraries import Machine
 from fixtures.machine_of_libraries import ended
 from fixtures.machine_of_libraries import read
@@ -78,11 +79,24 @@ def check_limits_of_each(case, machine, wing):
 @needs.nginx()
 @needs.program()
 class Sites(Case):
+    """Each test finds the libraries as they were when they came in use."""
+
+    machine: Machine
+    is_made = False
+    east: Library
+    wing: Library
+
     def setUp(self) -> None:
         super().setUp()
-        self.machine = Machine()
-        self.addCleanup(self.machine.close)
-        self.east, self.wing = start(self, self.machine)
+        kind = type(self)
+        if kind.is_made:
+            kind.machine.restore()
+            return
+        kind.machine = machine = Machine()
+        kind.addClassCleanup(machine.close)
+        kind.east, kind.wing = start(self, machine)
+        machine.keep()
+        kind.is_made = True
 
     def test_readers(self) -> None:
         """What a reader of each gets."""

@@ -9,6 +9,7 @@ import socket
 from fixtures import needs
 from fixtures.cases import Case
 from fixtures.machine_of_libraries import NAMES
+from fixtures.machine_of_libraries import Library
 from fixtures.machine_of_libraries import Machine
 from fixtures.machine_of_libraries import deliver
 from fixtures.machine_of_libraries import ended
@@ -27,11 +28,23 @@ def children_of(number):
 @needs.nginx()
 @needs.program()
 class Turns(Case):
+    """Each test finds the libraries in week A."""
+
+    machine: Machine
+    is_made = False
+    libraries: list[Library]
+
     def setUp(self) -> None:
         super().setUp()
-        self.machine = Machine(has_desk=False)
-        self.addCleanup(self.machine.close)
-        self.libraries = started(self, self.machine)
+        kind = type(self)
+        if kind.is_made:
+            kind.machine.restore()
+            return
+        kind.machine = machine = Machine(has_desk=False)
+        kind.addClassCleanup(machine.close)
+        kind.libraries = started(self, machine)
+        machine.keep()
+        kind.is_made = True
 
     def test_some(self) -> None:
         """Only the libraries that are named, and each once."""

@@ -72,7 +72,7 @@ def everything() -> list[Test]:
                        for each in it.body if isinstance(each, ast.FunctionDef) and each.name.startswith("test_")]
             name = path[len("tests/") : -len(".py")].replace("/", ".")
             python = python_of(name.split(".")[0])
-            found.append(Test(name, [python, "-B", MODULE], methods))
+            found.append(Test(name, [python, "-S", "-B", MODULE], methods))
     return found
 
 

@@ -1,16 +1,24 @@
 """Runs the tests of one module: module.py RESULT MODULE[:PART/PARTS] [CLASS[.METHOD]..]. With :2/3 it runs every third
 test from the second on. Prints each failure, and writes to the file RESULT, as JSON, how many tests passed, failed and
 were skipped, the reasons of skips, and the number of comparisons. What is not run, or cannot be, fails.
-`module.py --reasons` prints the reasons of all skips of all modules."""
+`module.py --reasons` prints the reasons of all skips of all modules.
+
+A Python that is started with -S gets its packages here, but no .pth file is read: one can make each start take five
+times as long."""
 from __future__ import annotations
 
+import site
+import sys
+
+if sys.flags.no_site:
+    setattr(site, "addpackage", lambda *_: None)
+    site.main()
 import ast
 import collections
 import importlib
 import json
 import os
 import signal
-import sys
 import traceback
 import unittest
 from types import ModuleType
