@@ -1,0 +1,14 @@
+pub mod PlaceSteps
+pub mod Frees
+pub mod Settled
+pub mod Characters
+pub mod BaseLetters
+pub mod TakenCommands
+pub mod AccentsTaken
+pub mod NamesTaken
+pub mod SignsTaken
+pub mod Taken
+pub mod Cuts
+pub mod Reading
+pub mod Accents
+pub mod NamedLetters

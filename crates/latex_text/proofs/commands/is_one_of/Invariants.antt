@@ -1,0 +1,7 @@
+use Rattle.std.proofs.Common.{◌≡◌, drop}
+use Rattle.text_model.specs.Texts.{texts_of}
+use Rattle.latex_text.specs.Commands as spec
+use Rattle.latex_text.proofs.commands.is_one_of.Given as goal
+
+abbrev pub invariant-loop-other : goal.invariant-loop-other
+invariant-loop-other l = spec.is_one_of (texts_of (drop l.other-index l.names)) l.name ≡ spec.is_one_of (texts_of l.names) l.name

@@ -1,0 +1,8 @@
+use Rattle.latex_text.proofs.Reading.{free_stays, unmarked_stays}
+use Rattle.latex_text.proofs.laws.plain_texts_stay.Goals as goal
+
+pub returns-clause-free : goal.returns-clause-free
+returns-clause-free c = free_stays
+
+pub returns-clause-unmarked : goal.returns-clause-unmarked
+returns-clause-unmarked c = unmarked_stays

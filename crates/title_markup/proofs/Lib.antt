@@ -1,0 +1,10 @@
+pub mod TextEnds
+pub mod Numbers
+pub mod Denoted
+pub mod Shortening
+pub mod Settling
+pub mod Reading
+pub mod Appending
+pub mod TagsGo
+pub mod ReferencesRead
+pub mod Words
