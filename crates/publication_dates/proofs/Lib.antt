@@ -4,3 +4,5 @@ pub mod MonthNames
 pub mod Written
 pub mod Read
 pub mod AsciiDates
+pub mod AsciiDays
+pub mod DaysOfDates

@@ -26,7 +26,7 @@ fn digit_value(byte: u8) -> u32
     u32::from(byte.saturating_sub(b'0'))
 }
 
-fn year_value(year: &[u8]) -> u32
+pub(crate) fn year_value(year: &[u8]) -> u32
     requires { length year.now ≡ 4 }
     ensures value { result ≡ spec.year_value year.now }
 {
@@ -71,8 +71,10 @@ fn is_leap(year: u32) -> bool
     year % 4 == 0 && (year % 100 != 0 || year % 400 == 0)
 }
 
-fn days_of(year: u32, month: u32) -> u32
-    ensures { result ≡ spec.days_of year month }
+/// How many days a month has.
+pub(crate) fn days_of(year: u32, month: u32) -> u32
+    ensures value { result ≡ spec.days_of year month }
+    ensures bound { result ≤ 31 }
 {
     match month {
         2 if is_leap(year) => 29,

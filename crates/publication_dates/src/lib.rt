@@ -17,8 +17,10 @@
 
 mod calendar;
 mod dates;
+mod days;
 pub mod laws;
 mod months;
 mod parts;
 
 pub use dates::date_in;
+pub use days::{Days, days_in};
