@@ -1,121 +1,75 @@
 -- Pairs that count still count after all steps.
 use Rattle.std.proofs.Common.{◌≡◌, ℕ, List, [], ◌∷◌, ◌++◌, map, take, Bool, true, false, cond, not, ◌&&◌, ◌||◌}
-use Rattle.std.proofs.Common.{Option, Some, None, refl, sym, subst, get_or, arith}
+use Rattle.std.proofs.Common.{Option, Some, None, refl, sym, subst, get_or, arith, inl, inr}
 use Rattle.std.specs.Prelude.{codes, nat_eq, nat_le}
 use Rattle.std.specs.Char.{is_ascii_digit, to_ascii_lowercase, to_ascii_uppercase}
 use Rattle.std.specs.List.{All, starts_with}
 use Rattle.std.specs.Str.{bytes_eq}
 use Rattle.std.proofs.lemmas.Bool.{and_parts, and_from, not-true}
 use Rattle.std.proofs.lemmas.Bool.Decides.{nat_tests}
-use Rattle.std.proofs.lemmas.List.Sums.{AllPass-from_list_all}
-use Rattle.std.proofs.lemmas.List.Elements.{All-cons, All-head, All-tail, All-take, All-map}
+use Rattle.std.proofs.lemmas.List.Elements.{All-take, All-map}
 use Rattle.text_model.specs.Texts.{Text}
 use Rattle.kev_read.specs.Pairs.{KeyValue, all_of, first_of}
-use Rattle.kev_read.specs.Refusal.{is_other_version}
-use Rattle.openurl_reading.specs.Counting.{is_free, is_void, is_blank, is_any, is_prefix, is_one_of, row_keys, is_accepted, accepted, counting, most_pairs}
+use Rattle.openurl_reading.specs.Counting.{is_void, is_blank, is_any, is_one_of, row_keys}
 use Rattle.work_identifiers.specs.declared.namespace.Namespace.{Namespace}
 use Rattle.work_identifiers.specs.declared.namespace.Namespace.TheVariants.{Doi, Pmid, Oclc}
 use Rattle.work_identifiers.specs.Forms.{IsIdentifier}
 use Rattle.openurl_reading.specs.Identifiers.{first_identifier, uri_of, naming, namings}
-use Rattle.openurl_reading.specs.Steps.{Step, unchanged, replacing, taken, after}
-use Rattle.openurl_reading.specs.Values.{most_values, led}
-use Rattle.openurl_reading.specs.Versions.{version, correction}
-use Rattle.openurl_reading.specs.OldKeys.{OldKey, old_keys, copy, copies}
+use Rattle.openurl_reading.specs.Steps.{taken, after}
+use Rattle.openurl_reading.specs.Values.{led}
+use Rattle.openurl_reading.specs.Versions.{correction}
+use Rattle.openurl_reading.specs.OldKeys.{OldKey, old_keys, copies}
+use Rattle.openurl_reading.specs.declared.kinds.Kind.{Kind}
+use Rattle.openurl_reading.specs.declared.kinds.Kind.TheVariants.{Book, Dissertation, Journal}
+use Rattle.openurl_reading.specs.Kinds.{kind_of}
+use Rattle.openurl_reading.specs.DublinCore.{core_steps}
+use Rattle.openurl_reading.specs.Titles.{title_key, of_title, titlings}
+use Rattle.openurl_reading.specs.Formats.{format_of, format_step}
 use Rattle.openurl_reading.specs.Referrers.{namespace, referrer_of, referrer_step}
 use Rattle.openurl_reading.specs.Numbers.{first_issn, first_eissn, first_isbn, issn_step, eissn_step, isbn_step}
 use Rattle.openurl_reading.specs.Dates.{date_keys, first_date, led_or_none, date_step}
 use Rattle.openurl_reading.specs.Pages.{first_page, last_page, first_page_step, last_page_step, page_steps}
 use Rattle.openurl_reading.specs.Volumes.{added_issue, volume, issue, added_issue_step, volume_step, issue_step, volume_steps}
 use Rattle.openurl_reading.specs.Reading.{normal_form}
-use Rattle.openurl_reading.proofs.Each.{none_has, one_has, each_taken, each_of_key, each_filled, each_led, each_named}
+use Rattle.openurl_reading.proofs.CoreCopied.{core_pass}
+use Rattle.openurl_reading.proofs.Each.{none_has, one_has, each_filled, each_led, each_named}
+use Rattle.openurl_reading.proofs.FieldsCopied.{fields_pass}
 use Rattle.openurl_reading.proofs.FoundAre.{AreFound}
 use Rattle.openurl_reading.proofs.Identified.{AreIdentified, first_is, of_is}
 use Rattle.openurl_reading.proofs.IdentifierForms.{BeginsWithDigit, identifier_digit}
 use Rattle.openurl_reading.proofs.PagesFound.{AreFoundPages, IsNotBlank, first_page_is, last_page_is}
-use Rattle.openurl_reading.proofs.Stages.{last_steps, with_versions, normal_form-is}
+use Rattle.openurl_reading.proofs.Passing.{AreAccepted, allows, Passes, not_blank, under_pass, step_passes, version_passes, copies_pass, old_keys_allow}
+use Rattle.openurl_reading.proofs.Stages.{kind_steps, last_steps, with_versions, with_fields, normal_form-is}
+use Rattle.openurl_reading.proofs.Titled.{titlings-are}
 use Rattle.openurl_reading.proofs.VolumeLaws.{AreFoundNumbers, added_issue_is, found_volume_is, found_issue_is}
-use Rattle.openurl_reading.proofs.Values.{same_key}
 
-abbrev pub AreAccepted : List KeyValue → Type 0
-AreAccepted pairs = All (λ pair. is_accepted pair ≡ true) pairs
-
-pub accepted_pass : (pairs : List KeyValue) → AreAccepted (accepted pairs)
-accepted_pass [] = none_has (λ pair. is_accepted pair ≡ true)
-accepted_pass (pair ∷ pairs) = by_test (is_accepted pair) refl (accepted_pass pairs)
+titlings_pass : (pairs : List KeyValue) → AreAccepted pairs → AreAccepted (after titlings pairs)
+titlings_pass pairs all =
+    let kind = kind_of pairs in
+    let key = of_title (title_key kind) in
+    elim (titlings-are pairs) [
+      | inl same ↦ subst AreAccepted (sym same) all
+      | inr one ↦ subst AreAccepted (sym one)
+          (copies_pass (key ∷ []) pairs (one_has (λ (key : OldKey). allows key.old key.new ≡ true) key (title_allows kind)) all)
+    ]
   where
-    by_test : (b : Bool) → is_accepted pair ≡ b → AreAccepted (accepted pairs) → AreAccepted (cond b (pair ∷ accepted pairs) (accepted pairs))
-    by_test true h rest = All-cons (λ p. is_accepted p ≡ true) pair (accepted pairs) h rest
-    by_test false h rest = rest
+    title_allows : (kind : Kind) → allows (codes "title") (title_key kind) ≡ true
+    title_allows Book = refl
+    title_allows Dissertation = refl
+    title_allows Journal = refl
 
-pub counting_pass : (pairs : List KeyValue) → AreAccepted (counting pairs)
-counting_pass pairs = All-take (λ p. is_accepted p ≡ true) most_pairs (accepted pairs) (accepted_pass pairs)
-
--- ---- a value that counts under a key counts under another one
-
--- the other key is free, is a key of rows only if the first is one, and is no `rft_id`
-abbrev allows : Text → Text → Bool
-allows old new = is_free new && (not (is_one_of row_keys new) || is_one_of row_keys old) && not (bytes_eq new (codes "rft_id"))
-
-three_false : (a b c : Bool) → not (a || b || c) ≡ true → (a ≡ false) × (b ≡ false) × (c ≡ false)
-three_false true b c h = cc
-three_false false true c h = cc
-three_false false false true h = cc
-three_false false false false h = (refl, refl, refl)
-
-row_false : (row any other : Bool) → row && any ≡ false → not other || row ≡ true → other && any ≡ false
-row_false true any true h g = h
-row_false false any true h g = cc
-row_false row any false h g = refl
-
-passes_on : (old new v : Text) → allows old new ≡ true → is_accepted (record { key = old; value = v }) ≡ true
-    → is_accepted (record { key = new; value = v }) ≡ true
-passes_on old new v h g =
-    let may = and_parts _ _ h in
-    let keys = and_parts _ _ may.0 in
-    let no = three_false (is_blank v) (is_one_of row_keys old && is_any v) (bytes_eq old (codes "rft_id") && is_prefix v) (and_parts _ _ g).1 in
-    let row = row_false (is_one_of row_keys old) (is_any v) (is_one_of row_keys new) no.1 keys.1 in
-    let id : bytes_eq new (codes "rft_id") ≡ false = not-true _ may.1 in
-    let void : not (is_void (record { key = new; value = v })) ≡ true = rw (no.0, row, id) refl in
-    and_from _ _ keys.0 void
-
-not_blank : (key v : Text) → is_accepted (record { key = key; value = v }) ≡ true → is_blank v ≡ false
-not_blank key v g = (three_false (is_blank v) _ _ (and_parts _ _ g).1).0
-
--- ---- values that steps give
-
-abbrev Passes : Text → Text → Type 0
-Passes key value = is_accepted (record { key = key; value = value }) ≡ true
-
-under_pass : (pairs : List KeyValue) (key : Text) → AreAccepted pairs → All (Passes key) (all_of pairs key)
-under_pass pairs key all =
-    each_of_key (λ pair. is_accepted pair ≡ true) (Passes key) key
-    (λ pair has passes. subst (λ k. is_accepted (record { key = k; value = pair.value }) ≡ true) (same_key pair.key key has) passes) pairs all
-
-step_passes : (step : Step) (pairs : List KeyValue) → All (Passes step.key) (step.change pairs).values → AreAccepted pairs → AreAccepted (taken pairs step)
-step_passes step pairs values all = each_taken (λ pair. is_accepted pair ≡ true) step pairs values all
-
-version_passes : (key : Text) (pairs : List KeyValue) → Passes key version → AreAccepted pairs → AreAccepted (taken pairs (correction key))
-version_passes key pairs passes all = step_passes (correction key) pairs (by_test (is_other_version (first_of pairs key))) all
+format_passes : (pairs : List KeyValue) → AreAccepted pairs → AreAccepted (taken pairs format_step)
+format_passes [] all = all
+format_passes (pair ∷ pairs) all =
+    let key = codes "rft_val_fmt" in
+    let kind = kind_of (pair ∷ pairs) in
+    step_passes format_step (pair ∷ pairs)
+    (each_filled (Passes key) (format_of kind ∷ []) (all_of (pair ∷ pairs) key) (one_has (Passes key) (format_of kind) (format_counts kind))) all
   where
-    by_test : (b : Bool) → All (Passes key) (cond b (replacing (version ∷ [])) unchanged).values
-    by_test true = one_has (Passes key) version passes
-    by_test false = none_has (Passes key)
-
-copies_pass : (keys : List OldKey) (pairs : List KeyValue) → All (λ key. allows key.old key.new ≡ true) keys → AreAccepted pairs
-    → AreAccepted (after (map copy keys) pairs)
-copies_pass [] pairs allowed all = all
-copies_pass (key ∷ keys) pairs allowed all =
-    let P : OldKey → Type 0 = λ key. allows key.old key.new ≡ true in
-    let values = all_of pairs key.old in
-    let may = All-head P key keys allowed in
-    let old = under_pass pairs key.old all in
-    let new : All (Passes key.new) (take most_values values) =
-    All-take (Passes key.new) most_values values (λ k d h. passes_on key.old key.new (get_or values k d) may (old k d h)) in
-    copies_pass keys (taken pairs (copy key)) (All-tail P key keys allowed)
-    (step_passes (copy key) pairs (each_filled (Passes key.new) (take most_values values) (all_of pairs key.new) new) all)
-
-old_keys_allow : All (λ key. allows key.old key.new ≡ true) old_keys
-old_keys_allow = AllPass-from_list_all (λ key. allows key.old key.new) old_keys refl
+    format_counts : (kind : Kind) → Passes (codes "rft_val_fmt") (format_of kind)
+    format_counts Book = refl
+    format_counts Dissertation = refl
+    format_counts Journal = refl
 
 referrer_passes_at : (sid : Text) (b : Bool) → starts_with nat_eq sid namespace ≡ b → is_blank sid ≡ false
     → Passes (codes "rfr_id") (cond b sid (namespace ++ sid))
@@ -215,7 +169,8 @@ pages_pass : AreFoundPages IsNotBlank
     → (pairs : List KeyValue) → AreAccepted pairs → AreAccepted (after page_steps pairs)
 pages_pass found pairs all =
     let next = taken pairs last_page_step in
-    step_passes first_page_step next (page_passes (first_page next) (first_of next (codes "rft.spage")) (first_page_is IsNotBlank found.first next))
+    step_passes first_page_step next (page_passes (first_page next) (first_of next (codes "rft.spage"))
+    (first_page_is IsNotBlank found.first found.article next))
     (step_passes last_page_step pairs (end_passes (last_page pairs) (first_of pairs (codes "rft.epage")) (last_page_is IsNotBlank found pairs)) all)
 
 -- ---- all
@@ -242,7 +197,14 @@ pub normal_form_passes : AreIdentified → AreFound BeginsWithDigit → AreFound
     → (pairs : List KeyValue) → AreAccepted pairs → AreAccepted (normal_form pairs)
 normal_form_passes identified found numbers pages pairs all =
     let first = taken pairs (correction (codes "ctx_ver")) in
+    let fields = with_fields pairs in
+    let copied = after copies fields in
+    let core = after core_steps copied in
     subst AreAccepted (sym (normal_form-is pairs))
-    (last_pass identified found numbers pages (after copies (with_versions pairs))
-    (copies_pass old_keys (with_versions pairs) old_keys_allow
-    (version_passes (codes "url_ver") first refl (version_passes (codes "ctx_ver") pairs refl all))))
+    (last_pass identified found numbers pages (after kind_steps copied)
+    (format_passes (after titlings core)
+    (titlings_pass core
+    (core_pass copied
+    (copies_pass old_keys fields old_keys_allow
+    (fields_pass (with_versions pairs)
+    (version_passes (codes "url_ver") first refl (version_passes (codes "ctx_ver") pairs refl all))))))))

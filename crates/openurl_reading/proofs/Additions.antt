@@ -1,15 +1,18 @@
 -- The pairs that the resolver adds, as a list of keys and values.
-use Rattle.std.proofs.Common.{◌≡◌, List, [], ◌∷◌, ◌++◌, Option, Some, None, refl, append_assoc, append-nil}
+use Rattle.std.proofs.Common.{◌≡◌, List, [], ◌∷◌, ◌++◌, Option, Some, None, refl, subst, append_assoc, append-nil}
+use Rattle.std.specs.Option.{option_map}
 use Rattle.std.specs.Prelude.{codes}
 use Rattle.std.specs.List.{All, flat_map}
 use Rattle.std.proofs.lemmas.List.Elements.{All-append, All-head, All-tail, All-same}
 use Rattle.text_model.specs.Texts.{Text}
 use Rattle.kev_read.specs.Pairs.{KeyValue}
+use Rattle.publication_dates.specs.Days.{Days, first_day, last_day, first_and_last}
 use Rattle.work_identifiers.specs.declared.namespace.Namespace.{Namespace}
 use Rattle.work_identifiers.specs.declared.namespace.Namespace.TheVariants.{Doi, Pmid, Oclc}
 use Rattle.openurl_reading.specs.Identifiers.{first_under}
 use Rattle.openurl_reading.specs.Numbers.{first_number, first_isbn}
-use Rattle.openurl_reading.specs.Reading.{added, issns_of, second_issn, derived}
+use Rattle.openurl_reading.specs.Dates.{date_under}
+use Rattle.openurl_reading.specs.Reading.{added, issns_of, second_issn, days_of, derived}
 use Rattle.openurl_reading.proofs.Each.{none_has, one_has}
 use Rattle.openurl_reading.proofs.FoundAre.{IsAll}
 
@@ -25,19 +28,22 @@ additions pairs =
     ∷ record { key = codes "x.issn"; value = first_number (issns_of pairs) }
     ∷ record { key = codes "x.eissn"; value = second_issn pairs }
     ∷ record { key = codes "x.isbn"; value = first_isbn pairs }
+    ∷ record { key = codes "x.from"; value = option_map (λ days. days.first) (days_of pairs) }
+    ∷ record { key = codes "x.to"; value = option_map (λ days. days.last) (days_of pairs) }
     ∷ []
 
 abbrev pub pairs_added : List Addition → List KeyValue
 pairs_added list = flat_map (λ addition. added addition.key addition.value) list
 
-six : (a b c d e f : List KeyValue) → a ++ b ++ c ++ d ++ e ++ f ≡ a ++ (b ++ (c ++ (d ++ (e ++ (f ++ [])))))
-six a b c d e f = simp (append_assoc, append-nil)
+eight : (a b c d e f g h : List KeyValue) → a ++ b ++ c ++ d ++ e ++ f ++ g ++ h ≡ a ++ (b ++ (c ++ (d ++ (e ++ (f ++ (g ++ (h ++ [])))))))
+eight a b c d e f g h = simp (append_assoc, append-nil)
 
 pub derived-is : (pairs : List KeyValue) → derived pairs ≡ pairs_added (additions pairs)
 derived-is pairs =
-    six (added (codes "x.doi") (first_under Doi pairs (codes "rft_id"))) (added (codes "x.pmid") (first_under Pmid pairs (codes "rft_id")))
+    eight (added (codes "x.doi") (first_under Doi pairs (codes "rft_id"))) (added (codes "x.pmid") (first_under Pmid pairs (codes "rft_id")))
     (added (codes "x.oclc") (first_under Oclc pairs (codes "rft_id"))) (added (codes "x.issn") (first_number (issns_of pairs)))
     (added (codes "x.eissn") (second_issn pairs)) (added (codes "x.isbn") (first_isbn pairs))
+    (added (codes "x.from") (option_map (λ days. days.first) (days_of pairs))) (added (codes "x.to") (option_map (λ days. days.last) (days_of pairs)))
 
 -- what holds of each value that is added
 abbrev pub IsEach : (KeyValue → Type 0) → Addition → Type 0
@@ -57,12 +63,25 @@ all_added P (one ∷ list) all =
 pub all_derived : (P : KeyValue → Type 0) (pairs : List KeyValue) → All (IsEach P) (additions pairs) → All P (derived pairs)
 all_derived P pairs all = All-same P (derived pairs) (pairs_added (additions pairs)) (derived-is pairs) (all_added P (additions pairs) all)
 
+-- what holds of the first and the last day of a date
+abbrev pub AreDaysAll : (Text → Type 0) → List KeyValue → Type 0
+AreDaysAll P pairs = (date : Text) → date_under pairs (codes "rft.date") ≡ Some date → P (first_day date) × P (last_day date)
+
+pub day_is : (P : Text → Type 0) (found : Option Text) (day : Days → Text) → ((date : Text) → found ≡ Some date → P (day (first_and_last date)))
+    → IsAll P (option_map day (option_map first_and_last found))
+day_is P None day h n e = cc
+day_is P (Some date) day h n e = let same : day (first_and_last date) ≡ n = cc in subst P same (h date refl)
+
 -- what holds of the values that are derived
 pub derived_values : (P : Text → Type 0) (pairs : List KeyValue) → ((namespace : Namespace) → IsAll P (first_under namespace pairs (codes "rft_id")))
-    → IsAll P (first_number (issns_of pairs)) → IsAll P (second_issn pairs) → IsAll P (first_isbn pairs) → All (λ pair. P pair.value) (derived pairs)
-derived_values P pairs identifiers issn eissn isbn =
+    → IsAll P (first_number (issns_of pairs)) → IsAll P (second_issn pairs) → IsAll P (first_isbn pairs) → AreDaysAll P pairs
+    → All (λ pair. P pair.value) (derived pairs)
+derived_values P pairs identifiers issn eissn isbn days =
     let Q : KeyValue → Type 0 = λ pair. P pair.value in
+    let date = date_under pairs (codes "rft.date") in
     All-append Q _ _
+    (All-append Q _ _
+    (All-append Q _ _
     (All-append Q _ _
     (All-append Q _ _
     (All-append Q _ _
@@ -71,4 +90,7 @@ derived_values P pairs identifiers issn eissn isbn =
     (each_added Q (codes "x.oclc") (first_under Oclc pairs (codes "rft_id")) (identifiers Oclc)))
     (each_added Q (codes "x.issn") (first_number (issns_of pairs)) issn))
     (each_added Q (codes "x.eissn") (second_issn pairs) eissn))
-    (each_added Q (codes "x.isbn") (first_isbn pairs) isbn)
+    (each_added Q (codes "x.isbn") (first_isbn pairs) isbn))
+    (each_added Q (codes "x.from") (option_map (λ days. days.first) (days_of pairs))
+    (day_is P date (λ days. days.first) (λ d e. (days d e).0))))
+    (each_added Q (codes "x.to") (option_map (λ days. days.last) (days_of pairs)) (day_is P date (λ days. days.last) (λ d e. (days d e).1)))

@@ -7,7 +7,7 @@ use Rattle.std.proofs.lemmas.List.Sums.{AllPass-from_list_all}
 use Rattle.kev_read.specs.Pairs.{KeyValue}
 use Rattle.openurl_reading.specs.Counting.{is_free, is_void, accepted, is_accepted, counting, most_pairs}
 use Rattle.openurl_reading.specs.Reading.{normal_form, derived, with_derived, reading_of}
-use Rattle.openurl_reading.proofs.Accepted.{AreAccepted, counting_pass, normal_form_passes}
+use Rattle.openurl_reading.proofs.Accepted.{normal_form_passes}
 use Rattle.openurl_reading.proofs.Additions.{additions, all_derived}
 use Rattle.openurl_reading.proofs.Each.{all_stay, none_stays}
 use Rattle.openurl_reading.proofs.FoundAre.{AreFound}
@@ -15,6 +15,7 @@ use Rattle.openurl_reading.proofs.Identified.{AreIdentified}
 use Rattle.openurl_reading.proofs.IdentifierForms.{BeginsWithDigit}
 use Rattle.openurl_reading.proofs.VolumeLaws.{AreFoundNumbers}
 use Rattle.openurl_reading.proofs.PagesFound.{AreFoundPages, IsNotBlank}
+use Rattle.openurl_reading.proofs.Passing.{AreAccepted, counting_pass}
 
 -- no pair that the resolver adds counts
 derived_out : (pairs : List KeyValue) → accepted (derived pairs) ≡ []

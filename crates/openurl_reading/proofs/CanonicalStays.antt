@@ -1,8 +1,8 @@
 -- A request that is OpenURL 1.0 stays as it is.
-use Rattle.std.proofs.Common.{◌≡◌, List, [], ◌∷◌, ◌++◌, false, None, Some, Option, refl, ap, ◌∙◌, inl, inr, ◌⊎◌, get_or, take, drop, map}
+use Rattle.std.proofs.Common.{◌≡◌, List, [], ◌∷◌, ◌++◌, true, false, None, Some, Option, refl, ap, ◌∙◌, inl, inr, ◌⊎◌, get_or, take, drop, map, not}
 use Rattle.std.specs.Prelude.{codes, slice_get}
 use Rattle.std.specs.List.{All, flat_map}
-use Rattle.std.proofs.lemmas.List.Elements.{All-head, All-tail, All-take}
+use Rattle.std.proofs.lemmas.List.Elements.{All-append, All-head, All-tail, All-take}
 use Rattle.text_model.specs.Texts.{Text}
 use Rattle.kev_read.specs.Pairs.{KeyValue, all_of}
 use Rattle.kev_read.specs.Refusal.{is_other_version}
@@ -10,18 +10,31 @@ use Rattle.standard_numbers.specs.Issn.{issns_in}
 use Rattle.standard_numbers.specs.Isbn.{isbns_in}
 use Rattle.publication_dates.specs.Dates.{date_in}
 use Rattle.work_identifiers.specs.declared.namespace.Namespace.{Namespace}
-use Rattle.openurl_reading.specs.Steps.{unchanged, replacing}
+use Rattle.openurl_reading.specs.Steps.{Step, unchanged, replacing}
+use Rattle.openurl_reading.specs.Kinds.{has}
+use Rattle.openurl_reading.specs.DublinCore.{is_core, core_steps}
+use Rattle.openurl_reading.specs.Titles.{titlings}
+use Rattle.openurl_reading.specs.Formats.{format_step}
 use Rattle.openurl_reading.specs.Values.{most_values, searched, led}
 use Rattle.openurl_reading.specs.OldKeys.{OldKey, old_keys, filled, copied}
+use Rattle.openurl_reading.specs.Fields.{is_of_book, of_number, number_fields, is_of_pubmed, of_identifier, identifier_fields, fields}
 use Rattle.openurl_reading.specs.Referrers.{referrer_of, referred}
 use Rattle.openurl_reading.specs.Numbers.{eissn_among, other_than}
 use Rattle.openurl_reading.specs.Dates.{led_or_none}
+use Rattle.openurl_reading.specs.ArticleNumbers.{article_in}
 use Rattle.openurl_reading.specs.Canonical.{Lacks, Under, IsVersion, IsDesignation, IsPage, ArePagesApart}
+use Rattle.openurl_reading.proofs.Copied.{copying-none, both_unchanged}
+use Rattle.openurl_reading.proofs.CoreSettles.{not_core_stays}
 use Rattle.openurl_reading.proofs.DateLed.{date_among, rest_of, IsSettledAmong}
+use Rattle.openurl_reading.proofs.Each.{one_has}
+use Rattle.openurl_reading.proofs.Firsts.{of_first}
+use Rattle.openurl_reading.proofs.Formatted.{format-stays, some_value}
 use Rattle.openurl_reading.proofs.FoundAgain.{issn_among, further_among, isbn_among}
 use Rattle.openurl_reading.proofs.PagesStay.{first_page_stays, last_page_stays}
 use Rattle.openurl_reading.proofs.Settled.{IsSettled, IsNamed, led-same, filled-none}
 use Rattle.openurl_reading.proofs.Others.{bytes_eq-same}
+use Rattle.openurl_reading.proofs.Stages.{kind_steps}
+use Rattle.openurl_reading.proofs.Titled.{untitled-stays}
 use Rattle.openurl_reading.proofs.VolumesLed.{designations_settle}
 
 -- versions
@@ -34,6 +47,25 @@ copies_settled : (keys : List OldKey) (pairs : List KeyValue) → All (λ key. L
 copies_settled keys pairs all k d h =
     let key = get_or keys k d in
     ap (λ values. filled (take most_values values) (all_of pairs key.new)) (all k d h) ∙ filled-none (all_of pairs key.new)
+
+kinds_settled : (pairs : List KeyValue) → is_core pairs ≡ false → Lacks pairs (codes "title") → has pairs (codes "rft_val_fmt") ≡ true
+    → All (λ step. step.change pairs ≡ unchanged) kind_steps
+kinds_settled pairs core none format =
+    let P : Step → Type 0 = λ step. step.change pairs ≡ unchanged in
+    All-append P core_steps (titlings ++ format_step ∷ []) (not_core_stays pairs core)
+    (All-append P titlings (format_step ∷ []) (untitled-stays pairs none)
+    (one_has P format_step (format-stays pairs (some_value (all_of pairs (codes "rft_val_fmt")) format))))
+
+fields_settled : (pairs : List KeyValue) → Lacks pairs (codes "number") → Lacks pairs (codes "identifier")
+    → All (λ step. step.change pairs ≡ unchanged) fields
+fields_settled pairs number identifier =
+    All-append (λ step. step.change pairs ≡ unchanged) number_fields identifier_fields
+    (both_unchanged is_of_book (of_number (codes "rft.isbn")) (of_number (codes "rft.issn")) pairs
+    (copying-none is_of_book (of_number (codes "rft.isbn")) pairs number)
+    (copying-none (λ p. not (is_of_book p)) (of_number (codes "rft.issn")) pairs number))
+    (both_unchanged is_of_pubmed (of_identifier (codes "pmid")) (of_identifier (codes "id")) pairs
+    (copying-none is_of_pubmed (of_identifier (codes "pmid")) pairs identifier)
+    (copying-none (λ p. not (is_of_pubmed p)) (of_identifier (codes "id")) pairs identifier))
 
 referrer_settled : (pairs : List KeyValue) → Lacks pairs (codes "sid") → referred pairs ≡ unchanged
 referrer_settled pairs none =
@@ -104,6 +136,11 @@ pub record HasKept (pairs : List KeyValue) : Type 0 where
   pub context : Under pairs (codes "ctx_ver") IsVersion
   pub transport : Under pairs (codes "url_ver") IsVersion
   pub no_old_keys : All (λ key. Lacks pairs key.old) old_keys
+  pub no_number : Lacks pairs (codes "number")
+  pub no_identifier : Lacks pairs (codes "identifier")
+  pub no_core : is_core pairs ≡ false
+  pub no_title : Lacks pairs (codes "title")
+  pub format : has pairs (codes "rft_val_fmt") ≡ true
   pub no_source : Lacks pairs (codes "sid")
   pub no_date : Lacks pairs (codes "date")
   pub no_year : Lacks pairs (codes "rft.year")
@@ -121,21 +158,24 @@ pub record HasKept (pairs : List KeyValue) : Type 0 where
   pub works : (namespace : Namespace) → IsNamed pairs namespace
 
 pub kept_settled : (pairs : List KeyValue) → HasKept pairs → IsSettled pairs
-kept_settled pairs has =
+kept_settled pairs kept =
     let issns = all_of pairs (codes "rft.issn") in
     let eissns = all_of pairs (codes "rft.eissn") in
     let isbns = all_of pairs (codes "rft.isbn") in
     record {
-      context = version-known (all_of pairs (codes "ctx_ver")) has.context;
-      transport = version-known (all_of pairs (codes "url_ver")) has.transport;
-      copies = copies_settled old_keys pairs has.no_old_keys;
-      referrer = referrer_settled pairs has.no_source;
-      issn = ap (λ n. led n (slice_get issns 0)) (issn_leads issns has.issns) ∙ led-same (slice_get issns 0);
-      eissn = ap (λ n. led n (slice_get eissns 0)) (eissn_leads issns eissns has.issns has.eissns) ∙ led-same (slice_get eissns 0);
-      isbn = ap (λ n. led n (slice_get isbns 0)) (isbn_leads (all_of pairs (codes "rft.eisbn")) isbns has.no_eisbn has.isbns) ∙ led-same (slice_get isbns 0);
-      date = date_settled (all_of pairs (codes "rft.date")) _ _ _ has.no_year has.no_date has.no_old_year has.dates;
-      volumes = designations_settle (all_of pairs (codes "rft.issue")) (all_of pairs (codes "rft.volume")) has.issues has.volumes;
-      last_page = last_page_stays (all_of pairs (codes "rft.spage")) (all_of pairs (codes "rft.epage")) has.spages has.epages;
-      first_page = first_page_stays pairs has.spages has.pages;
-      works = has.works;
+      context = version-known (all_of pairs (codes "ctx_ver")) kept.context;
+      transport = version-known (all_of pairs (codes "url_ver")) kept.transport;
+      fields = fields_settled pairs kept.no_number kept.no_identifier;
+      copies = copies_settled old_keys pairs kept.no_old_keys;
+      kinds = kinds_settled pairs kept.no_core kept.no_title kept.format;
+      referrer = referrer_settled pairs kept.no_source;
+      issn = ap (λ n. led n (slice_get issns 0)) (issn_leads issns kept.issns) ∙ led-same (slice_get issns 0);
+      eissn = ap (λ n. led n (slice_get eissns 0)) (eissn_leads issns eissns kept.issns kept.eissns) ∙ led-same (slice_get eissns 0);
+      isbn = ap (λ n. led n (slice_get isbns 0)) (isbn_leads (all_of pairs (codes "rft.eisbn")) isbns kept.no_eisbn kept.isbns) ∙ led-same (slice_get isbns 0);
+      date = date_settled (all_of pairs (codes "rft.date")) _ _ _ kept.no_year kept.no_date kept.no_old_year kept.dates;
+      volumes = designations_settle (all_of pairs (codes "rft.issue")) (all_of pairs (codes "rft.volume")) kept.issues kept.volumes;
+      last_page = last_page_stays (of_first article_in (all_of pairs (codes "rft.artnum"))) (all_of pairs (codes "rft.spage"))
+          (all_of pairs (codes "rft.epage")) kept.spages kept.epages;
+      first_page = first_page_stays pairs kept.spages kept.pages;
+      works = kept.works;
     }

@@ -14,7 +14,7 @@ use Rattle.openurl_reading.proofs.Values.{same_key, values_after, all_of-taken, 
 abbrev pub HasSome : List Text → Type 0
 HasSome values = (v : Text) × (vs : List Text) × (values ≡ v ∷ vs)
 
-pub IsFilled : OldKey → List KeyValue → Type 0
+unfoldable pub IsFilled : OldKey → List KeyValue → Type 0
 IsFilled key pairs = (all_of pairs key.old ≡ []) ⊎ HasSome (all_of pairs key.new)
 
 -- a step that fills the new key with what a function makes of the old values
@@ -37,7 +37,7 @@ begins (w ∷ ws) values some = (w, ws ++ values, refl)
 abbrev pub KeepsKey : Text → Step → Type 0
 KeepsKey key step = (bytes_eq step.key key ≡ false) ⊎ ((pairs : List KeyValue) → (step.change pairs).keeps ≡ true)
 
-kept_filled : (key : OldKey) (step : Step) (pairs : List KeyValue) (b : Bool) → bytes_eq step.key key.new ≡ b → (step.change pairs).keeps ≡ true
+pub kept_filled : (key : OldKey) (step : Step) (pairs : List KeyValue) (b : Bool) → bytes_eq step.key key.new ≡ b → (step.change pairs).keeps ≡ true
     → HasSome (all_of pairs key.new) → HasSome (all_of (taken pairs step) key.new)
 kept_filled key step pairs false t keeps some =
     subst HasSome (sym (all_of-taken step pairs key.new t)) some

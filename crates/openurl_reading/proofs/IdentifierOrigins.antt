@@ -64,6 +64,7 @@ identifiers_under sent copied is =
     (sent_under sent copied key (
       not-true _ (AllPass-from_list_all (λ key. not (bytes_eq key (codes "ctx_ver"))) identifier_keys refl k d h),
       not-true _ (AllPass-from_list_all (λ key. not (bytes_eq key (codes "url_ver"))) identifier_keys refl k d h),
+      not-true _ (AllPass-from_list_all (λ key. not (bytes_eq key (codes "rft_val_fmt"))) identifier_keys refl k d h),
     ) is))
 
 -- ---- what a request has

@@ -1,18 +1,22 @@
 -- After all steps, those of versions and old keys change nothing.
-use Rattle.std.proofs.Common.{◌≡◌, List, [], ◌∷◌, Bool, true, false, cond, not, refl, sym, ◌∙◌, subst, inl, inr, get_or, take, map}
+use Rattle.std.proofs.Common.{◌≡◌, List, [], ◌∷◌, ◌++◌, Bool, true, false, cond, not, ◌&&◌, refl, sym, ◌∙◌, subst, inl, inr, get_or, take, map}
 use Rattle.std.specs.Prelude.{codes, slice_get}
 use Rattle.std.specs.List.{All, list_all}
 use Rattle.std.specs.Str.{bytes_eq}
 use Rattle.std.proofs.lemmas.Bool.{not-true}
 use Rattle.std.proofs.lemmas.List.Sums.{AllPass-from_list_all}
-use Rattle.std.proofs.lemmas.List.Elements.{All-cons}
+use Rattle.std.proofs.lemmas.List.Elements.{All-append, All-cons, All-map}
 use Rattle.text_model.specs.Texts.{Text}
 use Rattle.kev_read.specs.Pairs.{KeyValue, all_of, first_of}
 use Rattle.kev_read.specs.Refusal.{is_other_version}
 use Rattle.openurl_reading.specs.Steps.{Step, unchanged, replacing, taken, after}
 use Rattle.openurl_reading.specs.Values.{most_values}
 use Rattle.openurl_reading.specs.Versions.{version, correction}
-use Rattle.openurl_reading.specs.OldKeys.{OldKey, old_keys, copies, copied}
+use Rattle.openurl_reading.specs.OldKeys.{OldKey, old_keys, copies, copied, copying}
+use Rattle.openurl_reading.specs.DublinCore.{is_core, creator, is_typed, core_type, of_core_title, is_in_journal, is_of_core_book, core_titles, core_steps}
+use Rattle.openurl_reading.specs.Titles.{is_titled, title_key, title_keys, of_title, titling, titlings}
+use Rattle.openurl_reading.specs.Formats.{formatted, format_of, format_step}
+use Rattle.openurl_reading.specs.Kinds.{kind_of}
 use Rattle.openurl_reading.specs.Referrers.{referrer_of, referrer_step}
 use Rattle.openurl_reading.specs.Numbers.{first_issn, first_eissn, first_isbn, issn_step, eissn_step, isbn_step}
 use Rattle.openurl_reading.specs.Dates.{date_step}
@@ -21,11 +25,12 @@ use Rattle.work_identifiers.specs.declared.namespace.Namespace.TheVariants.{Doi,
 use Rattle.openurl_reading.specs.Identifiers.{first_identifier, naming, namings}
 use Rattle.openurl_reading.specs.Pages.{first_page, last_page, first_page_step, last_page_step}
 use Rattle.openurl_reading.specs.Volumes.{added_issue, volume, issue, added_issue_step, volume_step, issue_step}
+use Rattle.openurl_reading.proofs.Copied.{copied-keeps, copying_keeps}
 use Rattle.openurl_reading.proofs.Each.{one_has}
 use Rattle.openurl_reading.proofs.Filled.{MakesSome, KeepsKey, filled_unchanged, filled-keeps, all_keep_filled, copies_fill}
 use Rattle.openurl_reading.proofs.Led.{led-keeps}
 use Rattle.openurl_reading.proofs.Named.{named-keeps}
-use Rattle.openurl_reading.proofs.Stages.{after_dates, after_volumes, last_steps}
+use Rattle.openurl_reading.proofs.Stages.{after_dates, after_volumes, kind_steps, last_steps}
 use Rattle.openurl_reading.proofs.Values.{values_after, all_of-taken-own, all_of-after}
 
 -- steps of other keys, by a test over a list
@@ -82,8 +87,45 @@ last_keep key h =
     (All-cons (KeepsKey key) last_page_step (first_page_step ∷ namings) (inr (λ p. led-keeps (last_page p) (first_of p (codes "rft.epage"))))
     (All-cons (KeepsKey key) first_page_step namings (inr (λ p. led-keeps (first_page p) (first_of p (codes "rft.spage")))) (namings_keep key))))))))))
 
-old_apart : All (λ key. list_all (λ step. not (bytes_eq step.key key.old)) last_steps ≡ true) old_keys
-old_apart = AllPass-from_list_all (λ key. list_all (λ step. not (bytes_eq step.key key.old)) last_steps) old_keys refl
+formatted-keeps : (pairs : List KeyValue) → (formatted pairs).keeps ≡ true
+formatted-keeps [] = refl
+formatted-keeps (pair ∷ pairs) = filled-keeps (format_of (kind_of (pair ∷ pairs)) ∷ []) (all_of (pair ∷ pairs) (codes "rft_val_fmt"))
+
+titling_keeps : (key title : Text) → KeepsKey key (titling title)
+titling_keeps key title = inr (λ p. copied-keeps (not (is_titled p) && bytes_eq title (title_key (kind_of p))) (of_title title) p)
+
+pub titlings_keep : (key : Text) → All (KeepsKey key) titlings
+titlings_keep key = All-map (KeepsKey key) titling title_keys (λ k d h. titling_keeps key (get_or title_keys k d))
+
+pub format_keeps : (key : Text) → KeepsKey key format_step
+format_keeps key = inr formatted-keeps
+
+core_steps_keep : (key : Text) → All (KeepsKey key) core_steps
+core_steps_keep key =
+    All-cons (KeepsKey key) (copying is_core creator) (copying is_typed core_type ∷ core_titles) (copying_keeps key is_core creator)
+    (All-cons (KeepsKey key) (copying is_typed core_type) core_titles (copying_keeps key is_typed core_type)
+    (All-cons (KeepsKey key) (copying is_in_journal (of_core_title (codes "rft.atitle"))) (copying is_of_core_book (of_core_title (codes "rft.btitle")) ∷ [])
+    (copying_keeps key is_in_journal (of_core_title (codes "rft.atitle")))
+    (one_has (KeepsKey key) (copying is_of_core_book (of_core_title (codes "rft.btitle")))
+    (copying_keeps key is_of_core_book (of_core_title (codes "rft.btitle"))))))
+
+-- the steps after those of Dublin Core
+abbrev pub after_core : List Step
+after_core = titlings ++ format_step ∷ last_steps
+
+pub after_core_keep : (key : Text) → bytes_eq (codes "rft.date") key ≡ false → All (KeepsKey key) after_core
+after_core_keep key h =
+    All-append (KeepsKey key) titlings (format_step ∷ last_steps) (titlings_keep key)
+    (All-cons (KeepsKey key) format_step last_steps (format_keeps key) (last_keep key h))
+
+abbrev pub later_steps : List Step
+later_steps = core_steps ++ after_core
+
+pub later_keep : (key : Text) → bytes_eq (codes "rft.date") key ≡ false → All (KeepsKey key) later_steps
+later_keep key h = All-append (KeepsKey key) core_steps after_core (core_steps_keep key) (after_core_keep key h)
+
+old_apart : All (λ key. list_all (λ step. not (bytes_eq step.key key.old)) later_steps ≡ true) old_keys
+old_apart = AllPass-from_list_all (λ key. list_all (λ step. not (bytes_eq step.key key.old)) later_steps) old_keys refl
 
 new_apart : All (λ key. bytes_eq (codes "rft.date") key.new ≡ false) old_keys
 new_apart k d h = not-true _ (AllPass-from_list_all (λ key. not (bytes_eq (codes "rft.date") key.new)) old_keys refl k d h)
@@ -94,10 +136,10 @@ all_apart k d h j e g =
     not-true _ (AllPass-from_list_all (λ other. not (bytes_eq other.new key.old)) old_keys
     (AllPass-from_list_all (λ key. list_all (λ other. not (bytes_eq other.new key.old)) old_keys) old_keys refl k d h) j e g)
 
-pub copies_settle : (before : List KeyValue) → All (λ key. copied key (after last_steps (after copies before)) ≡ unchanged) old_keys
+pub copies_settle : (before : List KeyValue) → All (λ key. copied key (after last_steps (after kind_steps (after copies before))) ≡ unchanged) old_keys
 copies_settle before k d h =
     let key = get_or old_keys k d in
     let copied_all = after copies before in
-    filled_unchanged (take most_values) key (after last_steps copied_all) refl
-    (all_keep_filled key last_steps copied_all (apart last_steps key.old (old_apart k d h)) (last_keep key.new (new_apart k d h))
+    filled_unchanged (take most_values) key (after later_steps copied_all) refl
+    (all_keep_filled key later_steps copied_all (apart later_steps key.old (old_apart k d h)) (later_keep key.new (new_apart k d h))
     (copies_fill old_keys before first_values all_apart k d h))

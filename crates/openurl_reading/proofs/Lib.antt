@@ -3,11 +3,17 @@ pub mod Additions
 pub mod Again
 pub mod AnyTexts
 pub mod CanonicalStays
+pub mod Copied
+pub mod CoreCopied
+pub mod CoreFalls
+pub mod CoreSettles
 pub mod CountedPairs
 pub mod DateLed
 pub mod Each
+pub mod FieldsCopied
 pub mod Filled
 pub mod Firsts
+pub mod Formatted
 pub mod FoundAgain
 pub mod FoundAre
 pub mod Free
@@ -15,6 +21,8 @@ pub mod IdentifierForms
 pub mod IdentifierOrigins
 pub mod Identified
 pub mod KeysSettle
+pub mod KeysWeigh
+pub mod KindStays
 pub mod Led
 pub mod LowerLaws
 pub mod Named
@@ -24,12 +32,14 @@ pub mod Others
 pub mod PagesFound
 pub mod PagesLed
 pub mod PagesStay
+pub mod Passing
 pub mod ReadOnce
 pub mod ReadValues
 pub mod Sent
 pub mod Settled
 pub mod Sizes
 pub mod Stages
+pub mod Titled
 pub mod Totals
 pub mod Values
 pub mod VolumeLaws
@@ -37,3 +47,4 @@ pub mod VolumeForms
 pub mod VolumeOrigins
 pub mod VolumesFound
 pub mod VolumesLed
+pub mod DaysLed

@@ -1,19 +1,24 @@
 -- What follows for the steps from the laws of numbers and dates.
-use Rattle.std.proofs.Common.{◌≡◌, ℕ, ◌-◌, ◌<◌, ◌≤◌, [], ◌∷◌, ◌++◌, take, drop, length, get_or, true, false, ◌⊎◌, Some}
+use Rattle.std.proofs.Common.{◌≡◌, ℕ, ◌-◌, ◌<◌, ◌≤◌, [], ◌∷◌, ◌++◌, take, drop, length, get_or, true, false, ◌⊎◌, List, Option, Some, None}
 use Rattle.std.proofs.Common.{refl, sym, ap, ◌∙◌, subst, arith, zero, suc, append-nil, append_assoc}
 use Rattle.std.specs.Char.{is_ascii_digit}
 use Rattle.std.specs.List.{All, list_all}
+use Rattle.std.specs.Option.{option_and_then}
+use Rattle.std.specs.Prelude.{codes}
 use Rattle.std.proofs.lemmas.Bool.{and_parts, eqb-true, leb-true}
 use Rattle.std.proofs.lemmas.List.{take_all, length-drop, length-append}
 use Rattle.std.proofs.lemmas.List.Elements.{All-head}
 use Rattle.text_model.specs.Texts.{Text}
+use Rattle.kev_read.specs.Pairs.{KeyValue, first_of}
 use Rattle.standard_numbers.specs.Spellings.{are_digits}
 use Rattle.standard_numbers.specs.Issn.{issns_in, IsIssn, is_doubtful}
 use Rattle.standard_numbers.specs.Isbn.{isbns_in, IsIsbn}
 use Rattle.publication_dates.specs.Calendar.{hyphen}
 use Rattle.publication_dates.specs.Dates.{date_in}
+use Rattle.publication_dates.specs.Days.{IsDay, day_of, IsOf, first_day, last_day}
 use Rattle.publication_dates.specs.Forms.{IsYear, IsDate, year_alone, with_month, with_day}
 use Rattle.openurl_reading.specs.Values.{most_bytes, searched}
+use Rattle.openurl_reading.proofs.Additions.{AreDaysAll}
 use Rattle.openurl_reading.proofs.CanonicalStays.{IsKept, IsDateKept}
 use Rattle.openurl_reading.proofs.FoundAgain.{AreFoundAgain}
 use Rattle.openurl_reading.proofs.FoundAre.{AreFoundIn}
@@ -76,6 +81,24 @@ isbn_whole isbn is = whole isbn (omega (arith, isbn_long isbn is))
 
 date_whole : (date : Text) → IsDate date → searched date ≡ date
 date_whole date is = whole date (omega (arith, date_short date is))
+
+-- the days of a date have eight digits
+day_long : (day : Text) → IsDay day → length day ≡ 8
+day_long _ (day_of y m d year month day) = omega (arith, length-append (y ++ m) d, length-append y m, year_long y year, month.two, day.two)
+
+-- what the law of days says
+abbrev pub AreDays : (Text → Text) → Type 0
+AreDays day = (date : Text) → IsDate date → IsDay (day date) × IsOf date (day date)
+
+pub days_short : DatesAre → AreDays first_day → AreDays last_day → (pairs : List KeyValue) → AreDaysAll (λ n. length n ≤ 13) pairs
+days_short dates first last pairs date e = by_first (first_of pairs (codes "rft.date")) e
+  where
+    by_first : (value : Option Text) → option_and_then (λ v. date_in (searched v)) value ≡ Some date
+        → (length (first_day date) ≤ 13) × (length (last_day date) ≤ 13)
+    by_first None e = cc
+    by_first (Some v) e =
+        let is = dates (searched v) date e in
+        (omega (arith, day_long (first_day date) (first date is).0), omega (arith, day_long (last_day date) (last date is).0))
 
 pub found_short : IssnsAre → IsbnsAre → DatesAre → AreFoundIn (λ n. length n ≤ 13)
 found_short issns isbns dates = record {

@@ -12,18 +12,23 @@ use Rattle.openurl_reading.specs.Counting.{counting}
 use Rattle.openurl_reading.specs.Steps.{taken, after}
 use Rattle.openurl_reading.specs.Versions.{correction}
 use Rattle.openurl_reading.specs.OldKeys.{old_keys, copies}
+use Rattle.openurl_reading.specs.DublinCore.{core_steps}
+use Rattle.openurl_reading.specs.Titles.{titlings}
 use Rattle.openurl_reading.specs.Referrers.{referrer_step}
 use Rattle.openurl_reading.specs.Numbers.{first_number, issn_step, eissn_step, isbn_step}
 use Rattle.openurl_reading.specs.Dates.{date_step}
 use Rattle.work_identifiers.specs.declared.namespace.Namespace.{Namespace}
 use Rattle.work_identifiers.specs.declared.namespace.Namespace.TheVariants.{Doi, Pmid, Oclc}
 use Rattle.openurl_reading.specs.Identifiers.{first_under, first_identifier, naming, namings}
+use Rattle.openurl_reading.specs.ArticleNumbers.{article_in}
 use Rattle.openurl_reading.specs.Pages.{first_page, last_page, first_page_step, last_page_step, page_steps}
 use Rattle.openurl_reading.specs.Volumes.{added_issue, volume, issue, added_issue_step, volume_step, issue_step, volume_steps}
 use Rattle.openurl_reading.specs.Reading.{normal_form, issns_of, derived, with_derived}
 use Rattle.openurl_reading.specs.Origins.{HasOrigin, from_request, all_values}
-use Rattle.openurl_reading.proofs.Additions.{derived_values}
+use Rattle.openurl_reading.proofs.Additions.{AreDaysAll, derived_values}
+use Rattle.openurl_reading.proofs.DaysLed.{days_have}
 use Rattle.openurl_reading.proofs.Each.{each_led, each_named}
+use Rattle.openurl_reading.proofs.Firsts.{of_first}
 use Rattle.openurl_reading.proofs.FoundAgain.{AreFoundAgain, first_has}
 use Rattle.openurl_reading.proofs.Identified.{AreIdentified}
 use Rattle.openurl_reading.proofs.IdentifierOrigins.{AreRead, identifiers_under, first_read, referent_read, naming_read, identifier_has_origin}
@@ -32,18 +37,20 @@ use Rattle.openurl_reading.proofs.KeysSettle.{same_after}
 use Rattle.openurl_reading.proofs.Origins.{no_number}
 use Rattle.openurl_reading.proofs.Origins.{isbn_has}
 use Rattle.openurl_reading.proofs.Origins.{page_keys, first_page_has, last_page_has, issns_have, second_has}
-use Rattle.openurl_reading.proofs.Sent.{IsNoVersion, IsSent, counting_values, sent_under, copied_sent}
-use Rattle.openurl_reading.proofs.Stages.{last_steps, with_versions, normal_form-is}
+use Rattle.openurl_reading.proofs.Sent.{IsNoConstant, IsSent, counting_values, sent_under, kind_sent}
+use Rattle.openurl_reading.proofs.Stages.{kind_steps, last_steps, with_versions, with_fields, normal_form-is}
 use Rattle.openurl_reading.proofs.VolumesFound.{AreNumbersAgain}
 use Rattle.openurl_reading.proofs.VolumeOrigins.{GivesIssues, issues_give, added_has, volume_has, issue_has}
 use Rattle.openurl_reading.proofs.Values.{all_of-taken, all_of-taken-own}
-use Rattle.openurl_reading.proofs.ReadValues.{HaveOrigin, version_has, copies_have, Reads, other_reads, referrer_reads, issn_reads, eissn_reads}
+use Rattle.openurl_reading.proofs.ReadValues.{HaveOrigin, version_has, copies_have, fields_have, core_has, titlings_have, format_has}
+use Rattle.openurl_reading.proofs.ReadValues.{Reads, other_reads, referrer_reads, issn_reads}
+use Rattle.openurl_reading.proofs.ReadValues.{eissn_reads}
 use Rattle.openurl_reading.proofs.ReadValues.{isbn_reads, dates_under, date_reads}
 
 -- ---- volume and issue
 
 -- the values of volume and issue, before their steps
-sent_before : (sent : List Text) (copied : List KeyValue) → All (IsSent sent) copied → (key : Text) → IsNoVersion key
+sent_before : (sent : List Text) (copied : List KeyValue) → All (IsSent sent) copied → (key : Text) → IsNoConstant key
     → let steps = referrer_step ∷ issn_step ∷ eissn_step ∷ isbn_step ∷ date_step ∷ [] in
     list_all (λ step. not (bytes_eq step.key key)) steps ≡ true → All (Contains sent) (all_of (after steps copied) key)
 sent_before sent copied is key other h =
@@ -84,6 +91,7 @@ pages_under sent copied is =
     (sent_under sent copied key (
       not-true _ (AllPass-from_list_all (λ key. not (bytes_eq key (codes "ctx_ver"))) page_keys refl k d h),
       not-true _ (AllPass-from_list_all (λ key. not (bytes_eq key (codes "url_ver"))) page_keys refl k d h),
+      not-true _ (AllPass-from_list_all (λ key. not (bytes_eq key (codes "rft_val_fmt"))) page_keys refl k d h),
     ) is)
 
 pages_read : (sent : List Text) (pairs : List KeyValue) → All (λ key. All (Contains sent) (all_of pairs key)) page_keys → Reads sent pairs
@@ -93,14 +101,17 @@ pages_read sent pairs all reads =
     let firsts = all 0 [] (lit< tt) in
     let lasts = all 1 [] (lit< tt) in
     let pages = all 2 [] (lit< tt) in
+    let numbers = all 3 [] (lit< tt) in
     let firsts' = subst (All (Contains sent)) (sym (all_of-taken last_page_step pairs (codes "rft.spage") refl)) firsts in
     let pages' = subst (All (Contains sent)) (sym (all_of-taken last_page_step pairs (codes "rft.pages") refl)) pages in
+    let numbers' = subst (All (Contains sent)) (sym (all_of-taken last_page_step pairs (codes "rft.artnum") refl)) numbers in
     other_reads sent first_page_step next (no_number (codes "rft.spage") refl)
     (each_led (HasOrigin sent) (first_page next) (first_of next (codes "rft.spage"))
-    (first_page_has sent (all_of next (codes "rft.spage")) (all_of next (codes "rft.pages")) firsts' pages'))
+    (first_page_has sent (all_of next (codes "rft.spage")) (all_of next (codes "rft.pages")) (all_of next (codes "rft.artnum")) firsts' pages' numbers'))
     (other_reads sent last_page_step pairs (no_number (codes "rft.epage") refl)
     (each_led (HasOrigin sent) (last_page pairs) (first_of pairs (codes "rft.epage"))
-    (last_page_has sent (all_of pairs (codes "rft.spage")) (all_of pairs (codes "rft.epage")) firsts lasts)) reads)
+    (last_page_has sent (all_of pairs (codes "rft.spage")) (all_of pairs (codes "rft.epage"))
+    (of_first article_in (all_of pairs (codes "rft.artnum"))) firsts lasts)) reads)
 
 -- ---- identifiers
 
@@ -131,8 +142,8 @@ last_reads : AreFoundAgain → AreNumbersAgain → AreIdentified → (sent : Lis
 last_reads laws numbers identified sent copied is all =
     namings_read identified sent _ record {
       numbers = pages_read sent _ (pages_under sent copied is)
-          (volumes_read numbers sent _ (sent_before sent copied is (codes "rft.volume") (refl, refl) refl)
-          (sent_before sent copied is (codes "rft.issue") (refl, refl) refl)
+          (volumes_read numbers sent _ (sent_before sent copied is (codes "rft.volume") (refl, refl, refl) refl)
+          (sent_before sent copied is (codes "rft.issue") (refl, refl, refl) refl)
           (date_reads sent _ (dates_under sent copied is)
           (isbn_reads laws sent _ (eissn_reads laws sent _ (issn_reads laws sent _ (referrer_reads sent copied is all))))));
       identifiers = identifiers_under sent copied is;
@@ -140,8 +151,8 @@ last_reads laws numbers identified sent copied is all =
 
 -- ---- all
 
-derived_have : (sent : List Text) (pairs : List KeyValue) → ReadAll sent pairs → HaveOrigin sent (with_derived pairs)
-derived_have sent pairs reads =
+derived_have : (sent : List Text) (pairs : List KeyValue) → ReadAll sent pairs → AreDaysAll (HasOrigin sent) pairs → HaveOrigin sent (with_derived pairs)
+derived_have sent pairs reads days =
     let P : KeyValue → Type 0 = λ pair. HasOrigin sent pair.value in
     let numbers = reads.numbers in
     let issns = all_of pairs (codes "rft.issn") in
@@ -152,7 +163,7 @@ derived_have sent pairs reads =
     All-append P (derived pairs) pairs
     (derived_values (HasOrigin sent) pairs identifier (λ n e. first_has (HasOrigin sent) (issns_of pairs) n found e)
     (second_has sent issns eissns (first_number (issns_of pairs)) numbers.issns numbers.eissns)
-    (isbn_has sent (all_of pairs (codes "rft.eisbn")) (all_of pairs (codes "rft.isbn")) numbers.eisbns numbers.isbns))
+    (isbn_has sent (all_of pairs (codes "rft.eisbn")) (all_of pairs (codes "rft.isbn")) numbers.eisbns numbers.isbns) days)
     numbers.all
 
 pub nothing_invented : AreFoundAgain → AreNumbersAgain → AreIdentified → (request : List KeyValue)
@@ -163,6 +174,11 @@ nothing_invented laws numbers identified request =
     let known = counting_values request in
     let origins : HaveOrigin sent first = λ k d h. from_request (get_or first k d).value (known k d h) in
     let versions = version_has sent (codes "url_ver") (taken first (correction (codes "ctx_ver"))) (version_has sent (codes "ctx_ver") first origins) in
-    let copied = after copies (with_versions first) in
-    let reads = last_reads laws numbers identified sent copied (copied_sent sent first known) (copies_have sent old_keys (with_versions first) versions) in
-    subst (λ pairs. HaveOrigin sent (with_derived pairs)) (sym (normal_form-is first)) (derived_have sent _ reads)
+    let copied = after copies (with_fields first) in
+    let core = after core_steps copied in
+    let origins' = format_has sent (after titlings core)
+    (titlings_have sent core (core_has sent copied (copies_have sent old_keys (with_fields first) (fields_have sent (with_versions first) versions)))) in
+    let is = kind_sent sent first known in
+    let reads = last_reads laws numbers identified sent (after kind_steps copied) is origins' in
+    let days = days_have laws sent (after kind_steps copied) is in
+    subst (λ pairs. HaveOrigin sent (with_derived pairs)) (sym (normal_form-is first)) (derived_have sent _ reads days)

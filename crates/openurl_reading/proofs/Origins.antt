@@ -1,6 +1,6 @@
 -- Nothing in a reading is invented.
-use Rattle.std.proofs.Common.{◌≡◌, List, [], ◌∷◌, ◌++◌, take, drop, false, true, not, Option, Some, None, sym, subst, inl, inr, get_or, arith}
-use Rattle.std.specs.Prelude.{codes, Contains}
+use Rattle.std.proofs.Common.{◌≡◌, List, [], ◌∷◌, ◌++◌, take, drop, Bool, false, true, cond, not, Option, Some, None, sym, subst, inl, inr, get_or, arith}
+use Rattle.std.specs.Prelude.{codes, slice_get, Contains}
 use Rattle.std.specs.List.{All, flat_map, list_all}
 use Rattle.std.specs.Option.{option_or}
 use Rattle.std.specs.Str.{bytes_eq}
@@ -12,13 +12,14 @@ use Rattle.standard_numbers.specs.Issn.{issns_in}
 use Rattle.standard_numbers.specs.Isbn.{isbns_in}
 use Rattle.openurl_reading.specs.Values.{most_values, searched, led}
 use Rattle.openurl_reading.specs.Numbers.{eissn_among, other_than}
-use Rattle.openurl_reading.specs.Origins.{HasOrigin, issn_in, isbn_in, date_of, page_in, last_page_in}
+use Rattle.openurl_reading.specs.Origins.{HasOrigin, issn_in, isbn_in, date_of, page_in, last_page_in, article_number_in}
+use Rattle.openurl_reading.specs.ArticleNumbers.{article_in, is_article}
 use Rattle.openurl_reading.specs.Pages.{first_in, last_in, last_among}
 use Rattle.openurl_reading.proofs.Firsts.{of_first}
 use Rattle.openurl_reading.proofs.DateLed.{date_of_first}
 use Rattle.openurl_reading.proofs.Each.{none_has, one_has, each_after, each_found}
 use Rattle.openurl_reading.proofs.FoundAgain.{IsIssnAgain, IsIsbnAgain, first_has, other_has, issn_among, further_among, isbn_among}
-use Rattle.openurl_reading.proofs.PagesLed.{first_among}
+use Rattle.openurl_reading.proofs.PagesLed.{first_of_values, end_of_values}
 use Rattle.openurl_reading.proofs.Values.{values_after}
 
 -- ---- the keys of numbers
@@ -110,7 +111,7 @@ dates_have sent dates years old old_years a b c d =
 -- ---- pages
 
 abbrev pub page_keys : List Text
-page_keys = codes "rft.spage" ∷ codes "rft.epage" ∷ codes "rft.pages" ∷ []
+page_keys = codes "rft.spage" ∷ codes "rft.epage" ∷ codes "rft.pages" ∷ codes "rft.artnum" ∷ []
 
 first_of_has : (sent values : List Text) → All (Contains sent) values → Has sent (of_first first_in values)
 first_of_has sent [] all n e = none_found sent n e
@@ -120,13 +121,32 @@ last_of_has : (sent values : List Text) → All (Contains sent) values → Has s
 last_of_has sent [] all n e = none_found sent n e
 last_of_has sent (v ∷ vs) all n e = last_page_in v n (all 0 v (omega arith)) e
 
-pub first_page_has : (sent firsts pages : List Text) → All (Contains sent) firsts → All (Contains sent) pages → Has sent (first_among pages firsts)
-first_page_has sent firsts pages a b = or_has sent _ _ (first_of_has sent firsts a) (first_of_has sent pages b)
+pub article_has : (sent values : List Text) → All (Contains sent) values → Has sent (of_first article_in values)
+article_has sent [] all n e = none_found sent n e
+article_has sent (v ∷ vs) all n e = article_number_in v n (all 0 v (omega arith)) e
 
-pub last_page_has : (sent firsts values : List Text) → All (Contains sent) firsts → All (Contains sent) values
-    → Has sent (last_among values (of_first last_in firsts))
-last_page_has sent firsts [] a b = last_of_has sent firsts a
-last_page_has sent firsts (v ∷ vs) a b =
+pub first_page_has : (sent firsts pages numbers : List Text) → All (Contains sent) firsts → All (Contains sent) pages → All (Contains sent) numbers
+    → Has sent (first_of_values (of_first article_in numbers) pages firsts)
+first_page_has sent firsts pages numbers a b c = by_test (is_article number (slice_get firsts 0))
+  where
+    number : Option Text
+    number = of_first article_in numbers
+
+    by_test : (t : Bool) → Has sent (cond t number (option_or (of_first first_in firsts) (option_or (of_first first_in pages) number)))
+    by_test true = article_has sent numbers c
+    by_test false = or_has sent _ _ (first_of_has sent firsts a) (or_has sent _ _ (first_of_has sent pages b) (article_has sent numbers c))
+
+end_has : (sent firsts : List Text) (number : Option Text) → All (Contains sent) firsts → Has sent (end_of_values number firsts)
+end_has sent firsts number a = by_test (is_article number (slice_get firsts 0))
+  where
+    by_test : (t : Bool) → Has sent (cond t None (of_first last_in firsts))
+    by_test true = none_found sent
+    by_test false = last_of_has sent firsts a
+
+pub last_page_has : (sent firsts values : List Text) (number : Option Text) → All (Contains sent) firsts → All (Contains sent) values
+    → Has sent (last_among values (end_of_values number firsts))
+last_page_has sent firsts [] number a b = end_has sent firsts number a
+last_page_has sent firsts (v ∷ vs) number a b =
     let known = b 0 v (omega arith) in or_has sent (last_in v) (first_in v) (λ n e. last_page_in v n known e) (λ n e. page_in v n known e)
 
 -- ---- values after a number leads them

@@ -1,31 +1,45 @@
 -- After all steps, no step changes anything: each has done its work, and the later ones do not undo it.
-use Rattle.std.proofs.Common.{◌≡◌, List, ◌∷◌, refl, sym, ap, ◌∙◌, subst, take, map}
+use Rattle.std.proofs.Common.{◌≡◌, List, [], ◌∷◌, ◌++◌, false, refl, sym, ap, ◌∙◌, subst, take, map}
 use Rattle.std.specs.Prelude.{codes, slice_get}
-use Rattle.std.proofs.lemmas.List.Elements.{All-tail}
+use Rattle.std.specs.List.{All}
+use Rattle.std.specs.Str.{bytes_eq}
+use Rattle.std.proofs.lemmas.List.Elements.{All-append, All-cons, All-tail}
 use Rattle.text_model.specs.Texts.{Text}
 use Rattle.kev_read.specs.Pairs.{KeyValue, all_of, first_of}
-use Rattle.openurl_reading.specs.Steps.{unchanged, taken, after}
+use Rattle.openurl_reading.specs.declared.kinds.Kind.{Kind}
+use Rattle.openurl_reading.specs.declared.kinds.Kind.TheVariants.{Book, Dissertation, Journal}
+use Rattle.openurl_reading.specs.DublinCore.{core_steps}
+use Rattle.openurl_reading.specs.Titles.{title_key, title_keys, of_title, titlings}
+use Rattle.openurl_reading.specs.Formats.{format_step}
+use Rattle.openurl_reading.specs.Steps.{Step, unchanged, taken, after}
 use Rattle.openurl_reading.specs.Values.{led, searched}
 use Rattle.openurl_reading.specs.Versions.{correction}
+use Rattle.openurl_reading.specs.Fields.{fields}
 use Rattle.openurl_reading.specs.OldKeys.{copies}
 use Rattle.openurl_reading.specs.Referrers.{referrer_of, referrer_step, referred}
 use Rattle.openurl_reading.specs.Numbers.{first_issn, first_eissn, first_isbn, eissn_among, issn_step, eissn_step, isbn_step}
 use Rattle.openurl_reading.specs.Dates.{date_keys, first_date, led_or_none, date_step}
+use Rattle.openurl_reading.specs.ArticleNumbers.{article_in}
 use Rattle.openurl_reading.specs.Identifiers.{namings}
-use Rattle.openurl_reading.specs.Pages.{last_in, last_among, first_page, last_page, first_page_step, last_page_step, page_steps}
+use Rattle.openurl_reading.specs.Pages.{last_among, first_page, last_page, first_page_step, last_page_step, page_steps}
 use Rattle.openurl_reading.specs.Volumes.{added_issue_step, volume_step, issue_step, volume_steps}
 use Rattle.openurl_reading.specs.Reading.{normal_form}
 use Rattle.openurl_reading.proofs.Firsts.{of_first}
 use Rattle.openurl_reading.proofs.DateLed.{rest_of, IsSettledAmong, date_settles, found_again}
+use Rattle.openurl_reading.proofs.CoreSettles.{core_settles}
+use Rattle.openurl_reading.proofs.FieldsCopied.{fields_settle}
 use Rattle.openurl_reading.proofs.Filled.{KeepsKey, filled_unchanged, fill-fills, all_keep_filled}
 use Rattle.openurl_reading.proofs.FoundAgain.{AreFoundAgain, issn_among, issn_again, further_among, eissn_again, isbn_among, isbn_again}
 use Rattle.openurl_reading.proofs.Identified.{AreIdentified}
-use Rattle.openurl_reading.proofs.KeysSettle.{apart, same_after, version_settles, first_referrer, referral, last_keep, copies_settle}
+use Rattle.openurl_reading.proofs.Each.{one_has}
+use Rattle.openurl_reading.proofs.Formatted.{format_settles}
+use Rattle.openurl_reading.proofs.KeysSettle.{apart, same_after, version_settles, first_referrer, referral, format_keeps, last_keep, copies_settle}
 use Rattle.openurl_reading.proofs.Led.{led_settles}
 use Rattle.openurl_reading.proofs.Named.{works_named}
-use Rattle.openurl_reading.proofs.PagesLed.{ArePagesAgain, first_among, first_again, same_leading, last_settles}
+use Rattle.openurl_reading.proofs.PagesLed.{ArePagesAgain, first_of_values, end_of_values, first_again, same_leading, last_settles}
 use Rattle.openurl_reading.proofs.Settled.{AreVolumesSettled, IsSettled, IsDateSettled, settled_stays}
-use Rattle.openurl_reading.proofs.Stages.{after_dates, after_volumes, last_steps, with_versions, normal_form-is}
+use Rattle.openurl_reading.proofs.Stages.{after_dates, after_volumes, kind_steps, last_steps, with_versions, with_fields, normal_form-is}
+use Rattle.openurl_reading.proofs.Titled.{all_unchanged, titlings_fill}
 use Rattle.openurl_reading.proofs.Values.{values_after, all_of-taken, all_of-taken-own}
 use Rattle.openurl_reading.proofs.VolumesFound.{AreNumbersAgain}
 use Rattle.openurl_reading.proofs.VolumesLed.{with_added, with_volume, with_issue, volumes_settle}
@@ -122,52 +136,89 @@ last_page_settles again before =
     let values = all_of before (codes "rft.epage") in
     let pages = all_of before (codes "rft.pages") in
     let firsts = all_of before (codes "rft.spage") in
+    let number = of_first article_in (all_of before (codes "rft.artnum")) in
     let next = taken before last_page_step in
     let now = after after_volumes before in
-    let own : all_of now (codes "rft.epage") ≡ values_after (led (last_among values (of_first last_in firsts)) (slice_get values 0)) values =
+    let led_values = values_after (led (last_among values (end_of_values number firsts)) (slice_get values 0)) values in
+    let own : all_of now (codes "rft.epage") ≡ led_values =
     same_after (first_page_step ∷ namings) next (codes "rft.epage") refl ∙ all_of-taken-own last_page_step before in
-    let others : all_of now (codes "rft.spage") ≡ values_after (led (first_among pages firsts) (slice_get firsts 0)) firsts =
+    let others : all_of now (codes "rft.spage") ≡ values_after (led (first_of_values number pages firsts) (slice_get firsts 0)) firsts =
     same_after namings (taken next first_page_step) (codes "rft.spage") refl ∙ all_of-taken-own first_page_step next
-    ∙ same_leading pages firsts (all_of next (codes "rft.pages")) (all_of next (codes "rft.spage"))
+    ∙ same_leading number (of_first article_in (all_of next (codes "rft.artnum"))) pages firsts (all_of next (codes "rft.pages"))
+    (all_of next (codes "rft.spage"))
+    (ap (of_first article_in) (all_of-taken last_page_step before (codes "rft.artnum") refl))
     (all_of-taken last_page_step before (codes "rft.pages") refl) (all_of-taken last_page_step before (codes "rft.spage") refl) in
-    subst (λ vs. led (last_among vs (of_first last_in (all_of now (codes "rft.spage")))) (slice_get vs 0) ≡ unchanged) (sym own)
-    (subst (λ vs. let led_values = values_after (led (last_among values (of_first last_in firsts)) (slice_get values 0)) values in
-    led (last_among led_values (of_first last_in vs)) (slice_get led_values 0) ≡ unchanged) (sym others)
-    (last_settles again pages firsts values))
+    let numbers : all_of now (codes "rft.artnum") ≡ all_of before (codes "rft.artnum") = same_after after_volumes before (codes "rft.artnum") refl in
+    subst (λ ns. led (last_among (all_of now (codes "rft.epage")) (end_of_values (of_first article_in ns) (all_of now (codes "rft.spage"))))
+    (slice_get (all_of now (codes "rft.epage")) 0) ≡ unchanged) (sym numbers)
+    (subst (λ vs. led (last_among vs (end_of_values number (all_of now (codes "rft.spage")))) (slice_get vs 0) ≡ unchanged) (sym own)
+    (subst (λ vs. led (last_among led_values (end_of_values number vs)) (slice_get led_values 0) ≡ unchanged) (sym others)
+    (last_settles again number pages firsts values)))
 
 first_page_settles : ArePagesAgain → (before : List KeyValue) → let now = after (first_page_step ∷ namings) before in
     led (first_page now) (first_of now (codes "rft.spage")) ≡ unchanged
 first_page_settles again before =
     let key = codes "rft.spage" in
+    let steps = first_page_step ∷ namings in
     let values = all_of before key in
     let pages = all_of before (codes "rft.pages") in
-    let now = after (first_page_step ∷ namings) before in
-    subst (λ pages'. led (first_among pages' (all_of now key)) (slice_get (all_of now key) 0) ≡ unchanged)
-    (sym (same_after (first_page_step ∷ namings) before (codes "rft.pages") refl))
-    (subst (λ vs. led (first_among pages vs) (slice_get vs 0) ≡ unchanged)
+    let number = of_first article_in (all_of before (codes "rft.artnum")) in
+    let now = after steps before in
+    subst (λ ns. led (first_of_values (of_first article_in ns) (all_of now (codes "rft.pages")) (all_of now key)) (slice_get (all_of now key) 0) ≡ unchanged)
+    (sym (same_after steps before (codes "rft.artnum") refl))
+    (subst (λ pages'. led (first_of_values number pages' (all_of now key)) (slice_get (all_of now key) 0) ≡ unchanged)
+    (sym (same_after steps before (codes "rft.pages") refl))
+    (subst (λ vs. led (first_of_values number pages vs) (slice_get vs 0) ≡ unchanged)
     (sym (same_after namings (taken before first_page_step) key refl ∙ all_of-taken-own first_page_step before))
-    (led_settles (first_among pages) values (first_again again pages values)))
+    (led_settles (first_of_values number pages) values (first_again again number pages values))))
+
+-- the elements of Dublin Core, the titles, and then the format
+kinds_settle : (before : List KeyValue) → All (λ step. step.change (after last_steps (after kind_steps before)) ≡ unchanged) kind_steps
+kinds_settle before =
+    let core = after core_steps before in
+    let titled = after titlings core in
+    let now = after last_steps (taken titled format_step) in
+    let one = titlings_fill core in
+    let key = of_title (title_key one.0) in
+    let P : Step → Type 0 = λ step. step.change now ≡ unchanged in
+    All-append P core_steps (titlings ++ format_step ∷ []) (core_settles before)
+    (All-append P titlings (format_step ∷ [])
+    (all_unchanged title_keys one.0 now
+    (all_keep_filled key (format_step ∷ last_steps) titled (apart (format_step ∷ last_steps) (codes "title") refl)
+    (All-cons (KeepsKey key.new) format_step last_steps (format_keeps key.new) (last_keep key.new (date_apart one.0))) one.1))
+    (one_has P format_step (format_settles titled)))
+  where
+    date_apart : (kind : Kind) → bytes_eq (codes "rft.date") (title_key kind) ≡ false
+    date_apart Book = refl
+    date_apart Dissertation = refl
+    date_apart Journal = refl
 
 settled_stages : AreFoundAgain → AreNumbersAgain → ArePagesAgain → AreIdentified → (pairs : List KeyValue)
-    → IsSettled (after last_steps (after copies (with_versions pairs)))
+    → IsSettled (after last_steps (after kind_steps (after copies (with_fields pairs))))
 settled_stages laws numbers pages identified pairs =
     let first = taken pairs (correction (codes "ctx_ver")) in
     let second = with_versions pairs in
-    let copied_all = after copies second in
-    let named = taken copied_all referrer_step in
+    let third = with_fields pairs in
+    let copied_all = after copies third in
+    let kinds = after kind_steps copied_all in
+    let named = taken kinds referrer_step in
     let issns = taken named issn_step in
     let eissns = taken issns eissn_step in
     let isbns = taken eissns isbn_step in
     let dates = taken isbns date_step in
     let placed = after volume_steps dates in
     record {
-      context = version_settles (codes "ctx_ver") pairs (after last_steps copied_all)
-          (same_after last_steps copied_all (codes "ctx_ver") refl ∙ same_after copies second (codes "ctx_ver") refl
+      context = version_settles (codes "ctx_ver") pairs (after last_steps kinds)
+          (same_after last_steps kinds (codes "ctx_ver") refl ∙ same_after kind_steps copied_all (codes "ctx_ver") refl
+          ∙ same_after copies third (codes "ctx_ver") refl ∙ same_after fields second (codes "ctx_ver") refl
           ∙ all_of-taken (correction (codes "url_ver")) first (codes "ctx_ver") refl);
-      transport = version_settles (codes "url_ver") first (after last_steps copied_all)
-          (same_after last_steps copied_all (codes "url_ver") refl ∙ same_after copies second (codes "url_ver") refl);
-      copies = copies_settle second;
-      referrer = referrer_settles copied_all;
+      transport = version_settles (codes "url_ver") first (after last_steps kinds)
+          (same_after last_steps kinds (codes "url_ver") refl ∙ same_after kind_steps copied_all (codes "url_ver") refl
+          ∙ same_after copies third (codes "url_ver") refl ∙ same_after fields second (codes "url_ver") refl);
+      fields = fields_settle second;
+      copies = copies_settle third;
+      kinds = kinds_settle copied_all;
+      referrer = referrer_settles kinds;
       issn = issn_settles laws named;
       eissn = eissn_settles laws issns;
       isbn = isbn_settles laws eissns;

@@ -1,5 +1,5 @@
 -- What steps read, and what they write, has an origin.
-use Rattle.std.proofs.Common.{◌≡◌, List, [], ◌∷◌, map, take, Bool, true, false, cond, not, Option, Some, None, refl, sym, subst, get_or, lit<}
+use Rattle.std.proofs.Common.{◌≡◌, List, [], ◌∷◌, map, take, Bool, true, false, cond, not, Option, Some, None, refl, sym, subst, get_or, lit<, inl, inr}
 use Rattle.std.specs.Prelude.{codes, Contains}
 use Rattle.std.specs.List.{All, list_all}
 use Rattle.std.specs.Str.{bytes_eq}
@@ -10,18 +10,27 @@ use Rattle.kev_read.specs.Refusal.{is_other_version}
 use Rattle.openurl_reading.specs.Steps.{Step, unchanged, replacing, taken, after}
 use Rattle.openurl_reading.specs.Values.{most_values}
 use Rattle.openurl_reading.specs.Versions.{version, correction}
-use Rattle.openurl_reading.specs.OldKeys.{OldKey, copy}
+use Rattle.openurl_reading.specs.Fields.{number_fields, identifier_fields, fields}
+use Rattle.openurl_reading.specs.OldKeys.{OldKey, copy, copying}
 use Rattle.openurl_reading.specs.Referrers.{referrer_of, referrer_step}
 use Rattle.openurl_reading.specs.Numbers.{first_issn, first_eissn, first_isbn, issn_step, eissn_step, isbn_step}
 use Rattle.openurl_reading.specs.Dates.{date_keys, first_date, led_or_none, date_step}
-use Rattle.openurl_reading.specs.Origins.{HasOrigin, version_of_openurl, source_in}
+use Rattle.openurl_reading.specs.Kinds.{kind_of}
+use Rattle.openurl_reading.specs.DublinCore.{is_core, creator, is_typed, core_type, core_titles, core_steps}
+use Rattle.openurl_reading.specs.Titles.{title_key, of_title, titlings}
+use Rattle.openurl_reading.specs.Formats.{format_of, format_step}
+use Rattle.openurl_reading.specs.Origins.{HasOrigin, version_of_openurl, format_of_kind, source_in}
+use Rattle.openurl_reading.proofs.Copied.{IsCopyOf, no_copy, one_copy}
+use Rattle.openurl_reading.proofs.CoreCopied.{creator-is, type-is, titles-is}
 use Rattle.openurl_reading.proofs.Each.{none_has, one_has, each_taken, each_of_key, each_filled, each_led}
+use Rattle.openurl_reading.proofs.FieldsCopied.{number-is, identifier-is}
 use Rattle.openurl_reading.proofs.FoundAgain.{AreFoundAgain, issn_among_again, eissn_among_again, isbn_among_again}
 use Rattle.openurl_reading.proofs.KeysSettle.{same_after}
 use Rattle.openurl_reading.proofs.Origins.{number_keys, no_number}
 use Rattle.openurl_reading.proofs.Origins.{GivesIssns, GivesIsbns, sent_gives_issns, sent_gives_isbns, issn_has, eissn_has, isbn_has}
 use Rattle.openurl_reading.proofs.Origins.{dates_have, led_gives_issns, led_gives_isbns}
-use Rattle.openurl_reading.proofs.Sent.{IsNoVersion, IsSent, sent_under}
+use Rattle.openurl_reading.proofs.Sent.{IsNoConstant, IsSent, sent_under}
+use Rattle.openurl_reading.proofs.Titled.{titlings-are}
 use Rattle.openurl_reading.proofs.Values.{all_of-taken, all_of-taken-own}
 
 abbrev pub HaveOrigin : List Text → List KeyValue → Type 0
@@ -52,10 +61,43 @@ copies_have sent (key ∷ keys) pairs all =
     (each_filled (HasOrigin sent) (take most_values values) (all_of pairs key.new)
     (All-take (HasOrigin sent) most_values values (under_has sent pairs key.old all))) all)
 
+pub copy_of_has : (sent : List Text) (old : Text) (pairs next : List KeyValue) → IsCopyOf old pairs next → HaveOrigin sent pairs → HaveOrigin sent next
+copy_of_has sent old pairs next (no_copy same) all = subst (HaveOrigin sent) (sym same) all
+copy_of_has sent old pairs next (one_copy new may one) all =
+    subst (HaveOrigin sent) (sym one) (copies_have sent (record { old = old; new = new } ∷ []) pairs all)
+
+pub fields_have : (sent : List Text) (pairs : List KeyValue) → HaveOrigin sent pairs → HaveOrigin sent (after fields pairs)
+fields_have sent pairs all =
+    let next = after number_fields pairs in
+    copy_of_has sent (codes "identifier") next (after identifier_fields next) (identifier-is next)
+    (copy_of_has sent (codes "number") pairs next (number-is pairs) all)
+
+pub core_has : (sent : List Text) (pairs : List KeyValue) → HaveOrigin sent pairs → HaveOrigin sent (after core_steps pairs)
+core_has sent pairs all =
+    let first = taken pairs (copying is_core creator) in
+    let second = taken first (copying is_typed core_type) in
+    copy_of_has sent (codes "rft.title") second (after core_titles second) (titles-is second)
+    (copy_of_has sent (codes "rft.type") first second (type-is first) (copy_of_has sent (codes "rft.creator") pairs first (creator-is pairs) all))
+
+pub titlings_have : (sent : List Text) (pairs : List KeyValue) → HaveOrigin sent pairs → HaveOrigin sent (after titlings pairs)
+titlings_have sent pairs all =
+    elim (titlings-are pairs) [
+      | inl same ↦ subst (HaveOrigin sent) (sym same) all
+      | inr one ↦ subst (HaveOrigin sent) (sym one) (copies_have sent (of_title (title_key (kind_of pairs)) ∷ []) pairs all)
+    ]
+
+pub format_has : (sent : List Text) (pairs : List KeyValue) → HaveOrigin sent pairs → HaveOrigin sent (taken pairs format_step)
+format_has sent [] all = all
+format_has sent (pair ∷ pairs) all =
+    let kind = kind_of (pair ∷ pairs) in
+    step_has sent format_step (pair ∷ pairs)
+    (each_filled (HasOrigin sent) (format_of kind ∷ []) (all_of (pair ∷ pairs) (codes "rft_val_fmt"))
+    (one_has (HasOrigin sent) (format_of kind) (format_of_kind kind))) all
+
 referrer_has : (sent : List Text) (pairs : List KeyValue) → All (IsSent sent) pairs → HaveOrigin sent pairs → HaveOrigin sent (taken pairs referrer_step)
 referrer_has sent pairs is all =
     let sids = take 1 (all_of pairs (codes "sid")) in
-    let known = All-take (Contains sent) 1 (all_of pairs (codes "sid")) (sent_under sent pairs (codes "sid") (refl, refl) is) in
+    let known = All-take (Contains sent) 1 (all_of pairs (codes "sid")) (sent_under sent pairs (codes "sid") (refl, refl, refl) is) in
     step_has sent referrer_step pairs
     (each_filled (HasOrigin sent) (map referrer_of sids) (all_of pairs (codes "rfr_id"))
     (All-map (HasOrigin sent) referrer_of sids (λ k d h. source_in (get_or sids k d) (known k d h)))) all
@@ -101,12 +143,12 @@ step_reads sent step pairs apart values reads issns eissns isbns = record {
 
 pub referrer_reads : (sent : List Text) (pairs : List KeyValue) → All (IsSent sent) pairs → HaveOrigin sent pairs → Reads sent (taken pairs referrer_step)
 referrer_reads sent pairs is all =
-    let under : (key : Text) → IsNoVersion key → All (Contains sent) (all_of pairs key) = λ key other. sent_under sent pairs key other is in
+    let under : (key : Text) → IsNoConstant key → All (Contains sent) (all_of pairs key) = λ key other. sent_under sent pairs key other is in
     record {
-      issns = kept_under (GivesIssns sent) referrer_step pairs (codes "rft.issn") refl (give_issns sent _ (under (codes "rft.issn") (refl, refl)));
-      eissns = kept_under (GivesIssns sent) referrer_step pairs (codes "rft.eissn") refl (give_issns sent _ (under (codes "rft.eissn") (refl, refl)));
-      isbns = kept_under (GivesIsbns sent) referrer_step pairs (codes "rft.isbn") refl (give_isbns sent _ (under (codes "rft.isbn") (refl, refl)));
-      eisbns = kept_under (GivesIsbns sent) referrer_step pairs (codes "rft.eisbn") refl (give_isbns sent _ (under (codes "rft.eisbn") (refl, refl)));
+      issns = kept_under (GivesIssns sent) referrer_step pairs (codes "rft.issn") refl (give_issns sent _ (under (codes "rft.issn") (refl, refl, refl)));
+      eissns = kept_under (GivesIssns sent) referrer_step pairs (codes "rft.eissn") refl (give_issns sent _ (under (codes "rft.eissn") (refl, refl, refl)));
+      isbns = kept_under (GivesIsbns sent) referrer_step pairs (codes "rft.isbn") refl (give_isbns sent _ (under (codes "rft.isbn") (refl, refl, refl)));
+      eisbns = kept_under (GivesIsbns sent) referrer_step pairs (codes "rft.eisbn") refl (give_isbns sent _ (under (codes "rft.eisbn") (refl, refl, refl)));
       all = referrer_has sent pairs is all;
     }
 
@@ -151,11 +193,11 @@ pub dates_under : (sent : List Text) (copied : List KeyValue) → All (IsSent se
     (n : Text) → first_date date_keys pairs ≡ Some n → HasOrigin sent n
 dates_under sent copied is =
     let steps = referrer_step ∷ issn_step ∷ eissn_step ∷ isbn_step ∷ [] in
-    let under : (key : Text) → IsNoVersion key → list_all (λ step. not (bytes_eq step.key key)) steps ≡ true
+    let under : (key : Text) → IsNoConstant key → list_all (λ step. not (bytes_eq step.key key)) steps ≡ true
     → All (Contains sent) (all_of (after steps copied) key) =
     λ key other h. subst (All (Contains sent)) (sym (same_after steps copied key h)) (sent_under sent copied key other is) in
-    dates_have sent _ _ _ _ (under (codes "rft.date") (refl, refl) refl) (under (codes "rft.year") (refl, refl) refl)
-    (under (codes "date") (refl, refl) refl) (under (codes "year") (refl, refl) refl)
+    dates_have sent _ _ _ _ (under (codes "rft.date") (refl, refl, refl) refl) (under (codes "rft.year") (refl, refl, refl) refl)
+    (under (codes "date") (refl, refl, refl) refl) (under (codes "year") (refl, refl, refl) refl)
 
 -- a step of another key
 pub other_reads : (sent : List Text) (step : Step) (pairs : List KeyValue) → All (λ key. bytes_eq step.key key ≡ false) number_keys

@@ -1,5 +1,5 @@
 -- The values that steps read are those of the request.
-use Rattle.std.proofs.Common.{◌≡◌, List, [], ◌∷◌, map, Bool, true, false, cond, not, refl, subst, sym, take, ◌<◌, length}
+use Rattle.std.proofs.Common.{◌≡◌, List, [], ◌∷◌, map, Bool, true, false, cond, not, refl, subst, sym, take, ◌<◌, length, inl, inr}
 use Rattle.std.specs.Prelude.{codes, Contains}
 use Rattle.std.specs.List.{All}
 use Rattle.std.specs.Str.{bytes_eq}
@@ -14,18 +14,27 @@ use Rattle.openurl_reading.specs.Counting.{is_accepted, most_pairs, accepted, co
 use Rattle.openurl_reading.specs.Steps.{unchanged, replacing, taken, after}
 use Rattle.openurl_reading.specs.Values.{most_values}
 use Rattle.openurl_reading.specs.Versions.{version, correction}
-use Rattle.openurl_reading.specs.OldKeys.{OldKey, old_keys, copy, copies}
+use Rattle.openurl_reading.specs.Fields.{number_fields, identifier_fields, fields}
+use Rattle.openurl_reading.specs.OldKeys.{OldKey, old_keys, copy, copying, copies}
+use Rattle.openurl_reading.specs.Kinds.{kind_of}
+use Rattle.openurl_reading.specs.DublinCore.{is_core, creator, is_typed, core_type, core_titles, core_steps}
+use Rattle.openurl_reading.specs.Titles.{title_key, of_title, titlings}
+use Rattle.openurl_reading.specs.Formats.{format_of, format_step}
 use Rattle.openurl_reading.specs.Origins.{all_values}
+use Rattle.openurl_reading.proofs.Copied.{IsCopyOf, no_copy, one_copy}
+use Rattle.openurl_reading.proofs.CoreCopied.{creator-is, type-is, titles-is}
 use Rattle.openurl_reading.proofs.Each.{none_has, one_has, each_taken, each_of_key, each_filled}
-use Rattle.openurl_reading.proofs.Stages.{with_versions}
+use Rattle.openurl_reading.proofs.FieldsCopied.{number-is, identifier-is}
+use Rattle.openurl_reading.proofs.Stages.{kind_steps, with_versions, with_fields}
+use Rattle.openurl_reading.proofs.Titled.{titlings-are}
 use Rattle.openurl_reading.proofs.Values.{same_key}
 
-abbrev pub IsNoVersion : Text → Type 0
-IsNoVersion key = (bytes_eq key (codes "ctx_ver") ≡ false) × (bytes_eq key (codes "url_ver") ≡ false)
+abbrev pub IsNoConstant : Text → Type 0
+IsNoConstant key = (bytes_eq key (codes "ctx_ver") ≡ false) × (bytes_eq key (codes "url_ver") ≡ false) × (bytes_eq key (codes "rft_val_fmt") ≡ false)
 
--- unless it is a version, the value is one of these
+-- unless it is a version or a format, the value is one of these
 abbrev pub IsSent : List Text → KeyValue → Type 0
-IsSent sent pair = IsNoVersion pair.key → Contains sent pair.value
+IsSent sent pair = IsNoConstant pair.key → Contains sent pair.value
 
 contains_values : (pairs : List KeyValue) → All (λ pair. Contains (all_values pairs) pair.value) pairs
 contains_values pairs k d h =
@@ -41,9 +50,9 @@ counting_values request =
     let P : KeyValue → Type 0 = λ pair. Contains (all_values request) pair.value in
     All-take P most_pairs (accepted request) (All-filter is_accepted P request (contains_values request))
 
--- ---- after versions and old keys
+-- ---- after versions, old keys, and what the kind gives
 
-version_sent : (sent : List Text) (key : Text) (pairs : List KeyValue) → (IsNoVersion key → Contains sent version)
+version_sent : (sent : List Text) (key : Text) (pairs : List KeyValue) → (IsNoConstant key → Contains sent version)
     → All (IsSent sent) pairs → All (IsSent sent) (taken pairs (correction key))
 version_sent sent key pairs none all = each_taken (IsSent sent) (correction key) pairs (by_test (is_other_version (first_of pairs key))) all
   where
@@ -56,16 +65,16 @@ versions_sent sent pairs all =
     version_sent sent (codes "url_ver") (taken pairs (correction (codes "ctx_ver"))) (λ other. cc)
     (version_sent sent (codes "ctx_ver") pairs (λ other. cc) all)
 
--- the values of a key that is no version are those of the request
-pub sent_under : (sent : List Text) (pairs : List KeyValue) (key : Text) → IsNoVersion key → All (IsSent sent) pairs → All (Contains sent) (all_of pairs key)
+-- the values of a key that is no constant are those of the request
+pub sent_under : (sent : List Text) (pairs : List KeyValue) (key : Text) → IsNoConstant key → All (IsSent sent) pairs → All (Contains sent) (all_of pairs key)
 sent_under sent pairs key other all =
-    each_of_key (IsSent sent) (Contains sent) key (λ pair has is. is (subst IsNoVersion (sym (same_key pair.key key has)) other)) pairs all
+    each_of_key (IsSent sent) (Contains sent) key (λ pair has is. is (subst IsNoConstant (sym (same_key pair.key key has)) other)) pairs all
 
-copies_sent : (sent : List Text) (keys : List OldKey) (pairs : List KeyValue) → All (λ key. IsNoVersion key.old) keys → All (IsSent sent) pairs
+copies_sent : (sent : List Text) (keys : List OldKey) (pairs : List KeyValue) → All (λ key. IsNoConstant key.old) keys → All (IsSent sent) pairs
     → All (IsSent sent) (after (map copy keys) pairs)
 copies_sent sent [] pairs others all = all
 copies_sent sent (key ∷ keys) pairs others all =
-    let P : OldKey → Type 0 = λ key. IsNoVersion key.old in
+    let P : OldKey → Type 0 = λ key. IsNoConstant key.old in
     let Q : Text → Type 0 = λ v. IsSent sent (record { key = key.new; value = v }) in
     let values = all_of pairs key.old in
     let known : All (Contains sent) values = sent_under sent pairs key.old (All-head P key keys others) all in
@@ -73,12 +82,58 @@ copies_sent sent (key ∷ keys) pairs others all =
     (each_taken (IsSent sent) (copy key) pairs
     (each_filled Q (take most_values values) (all_of pairs key.new) (All-take Q most_values values (λ k d h any. known k d h))) all)
 
-no_versions : All (λ key. IsNoVersion key.old) old_keys
-no_versions k d h = (
+no_constants : All (λ key. IsNoConstant key.old) old_keys
+no_constants k d h = (
   not-true _ (AllPass-from_list_all (λ key. not (bytes_eq key.old (codes "ctx_ver"))) old_keys refl k d h),
   not-true _ (AllPass-from_list_all (λ key. not (bytes_eq key.old (codes "url_ver"))) old_keys refl k d h),
+  not-true _ (AllPass-from_list_all (λ key. not (bytes_eq key.old (codes "rft_val_fmt"))) old_keys refl k d h),
 )
 
-pub copied_sent : (sent : List Text) (pairs : List KeyValue) → All (λ pair. Contains sent pair.value) pairs
-    → All (IsSent sent) (after copies (with_versions pairs))
-copied_sent sent pairs all = copies_sent sent old_keys (with_versions pairs) no_versions (versions_sent sent pairs (λ k d h other. all k d h))
+titlings_sent : (sent : List Text) (pairs : List KeyValue) → All (IsSent sent) pairs → All (IsSent sent) (after titlings pairs)
+titlings_sent sent pairs all =
+    let key = of_title (title_key (kind_of pairs)) in
+    elim (titlings-are pairs) [
+      | inl same ↦ subst (All (IsSent sent)) (sym same) all
+      | inr one ↦ subst (All (IsSent sent)) (sym one)
+          (copies_sent sent (key ∷ []) pairs (one_has (λ (key : OldKey). IsNoConstant key.old) key (refl, refl, refl)) all)
+    ]
+
+format_sent : (sent : List Text) (pairs : List KeyValue) → All (IsSent sent) pairs → All (IsSent sent) (taken pairs format_step)
+format_sent sent [] all = all
+format_sent sent (pair ∷ pairs) all =
+    let Q : Text → Type 0 = λ v. IsSent sent (record { key = codes "rft_val_fmt"; value = v }) in
+    let format = format_of (kind_of (pair ∷ pairs)) in
+    each_taken (IsSent sent) format_step (pair ∷ pairs)
+    (each_filled Q (format ∷ []) (all_of (pair ∷ pairs) (codes "rft_val_fmt")) (one_has Q format (λ other. cc))) all
+
+pub copy_of_sent : (sent : List Text) (old : Text) (pairs next : List KeyValue) → IsNoConstant old → IsCopyOf old pairs next → All (IsSent sent) pairs
+    → All (IsSent sent) next
+copy_of_sent sent old pairs next other (no_copy same) all = subst (All (IsSent sent)) (sym same) all
+copy_of_sent sent old pairs next other (one_copy new may one) all =
+    let key : OldKey = record { old = old; new = new } in
+    subst (All (IsSent sent)) (sym one) (copies_sent sent (key ∷ []) pairs (one_has (λ (key : OldKey). IsNoConstant key.old) key other) all)
+
+fields_sent : (sent : List Text) (pairs : List KeyValue) → All (IsSent sent) pairs → All (IsSent sent) (after fields pairs)
+fields_sent sent pairs all =
+    let next = after number_fields pairs in
+    copy_of_sent sent (codes "identifier") next (after identifier_fields next) (refl, refl, refl) (identifier-is next)
+    (copy_of_sent sent (codes "number") pairs next (refl, refl, refl) (number-is pairs) all)
+
+core_sent : (sent : List Text) (pairs : List KeyValue) → All (IsSent sent) pairs → All (IsSent sent) (after core_steps pairs)
+core_sent sent pairs all =
+    let first = taken pairs (copying is_core creator) in
+    let second = taken first (copying is_typed core_type) in
+    copy_of_sent sent (codes "rft.title") second (after core_titles second) (refl, refl, refl) (titles-is second)
+    (copy_of_sent sent (codes "rft.type") first second (refl, refl, refl) (type-is first)
+    (copy_of_sent sent (codes "rft.creator") pairs first (refl, refl, refl) (creator-is pairs) all))
+
+pub kind_sent : (sent : List Text) (pairs : List KeyValue) → All (λ pair. Contains sent pair.value) pairs
+    → All (IsSent sent) (after kind_steps (after copies (with_fields pairs)))
+kind_sent sent pairs all =
+    let copied = after copies (with_fields pairs) in
+    let core = after core_steps copied in
+    format_sent sent (after titlings core)
+    (titlings_sent sent core
+    (core_sent sent copied
+    (copies_sent sent old_keys (with_fields pairs) no_constants
+    (fields_sent sent (with_versions pairs) (versions_sent sent pairs (λ k d h other. all k d h))))))

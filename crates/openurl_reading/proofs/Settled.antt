@@ -9,6 +9,7 @@ use Rattle.kev_read.specs.Refusal.{is_other_version}
 use Rattle.openurl_reading.specs.Steps.{Change, Step, unchanged, replacing, others, changed, taken, after}
 use Rattle.openurl_reading.specs.Values.{led}
 use Rattle.openurl_reading.specs.Versions.{correction}
+use Rattle.openurl_reading.specs.Fields.{fields}
 use Rattle.openurl_reading.specs.OldKeys.{OldKey, old_keys, filled, copied, copy, copies}
 use Rattle.openurl_reading.specs.Referrers.{referred, referrer_step}
 use Rattle.openurl_reading.specs.Numbers.{first_issn, first_eissn, first_isbn, issn_step, eissn_step, isbn_step}
@@ -22,7 +23,7 @@ use Rattle.openurl_reading.specs.Volumes.{added_issue_step, volume_step, issue_s
 use Rattle.openurl_reading.specs.Reading.{normal_form}
 use Rattle.openurl_reading.proofs.Firsts.{not_first, of_first}
 use Rattle.openurl_reading.proofs.Others.{bytes_eq-same}
-use Rattle.openurl_reading.proofs.Stages.{after_dates, after_volumes, last_steps, with_versions, normal_form-is}
+use Rattle.openurl_reading.proofs.Stages.{after_dates, after_volumes, kind_steps, last_steps, with_versions, normal_form-is}
 
 -- the change of the date leaves all values
 abbrev pub IsDateSettled : Change → List Text → Type 0
@@ -41,7 +42,9 @@ pub record AreVolumesSettled (issues volumes : List Text) : Type 0 where
 pub record IsSettled (pairs : List KeyValue) : Type 0 where
   pub context : is_other_version (first_of pairs (codes "ctx_ver")) ≡ false
   pub transport : is_other_version (first_of pairs (codes "url_ver")) ≡ false
+  pub fields : All (λ step. step.change pairs ≡ unchanged) fields
   pub copies : All (λ key. copied key pairs ≡ unchanged) old_keys
+  pub kinds : All (λ step. step.change pairs ≡ unchanged) kind_steps
   pub referrer : referred pairs ≡ unchanged
   pub issn : led (first_issn pairs) (first_of pairs (codes "rft.issn")) ≡ unchanged
   pub eissn : led (first_eissn pairs) (first_of pairs (codes "rft.eissn")) ≡ unchanged
@@ -62,8 +65,14 @@ filled-none (v ∷ vs) = refl
 
 -- ---- each step, where nothing is put first and all is kept, or nothing has the key
 
-stays-unchanged : (step : Step) (pairs : List KeyValue) → step.change pairs ≡ unchanged → taken pairs step ≡ pairs
+pub stays-unchanged : (step : Step) (pairs : List KeyValue) → step.change pairs ≡ unchanged → taken pairs step ≡ pairs
 stays-unchanged step pairs h = ap (λ change. changed step.key change pairs) h
+
+pub steps-stay : (steps : List Step) (pairs : List KeyValue) → All (λ step. step.change pairs ≡ unchanged) steps → after steps pairs ≡ pairs
+steps-stay [] pairs all = refl
+steps-stay (step ∷ steps) pairs all =
+    let P : Step → Type 0 = λ step. step.change pairs ≡ unchanged in
+    ap (after steps) (stays-unchanged step pairs (All-head P step steps all)) ∙ steps-stay steps pairs (All-tail P step steps all)
 
 others-none : (key : Text) (pairs : List KeyValue) → all_of pairs key ≡ [] → others key pairs ≡ pairs
 others-none key [] h = refl
@@ -121,5 +130,7 @@ settled_stays pairs is =
     let first : with_versions pairs ≡ pairs =
     ap (λ p. taken p (correction (codes "url_ver"))) (correction-stays (codes "ctx_ver") pairs is.context)
     ∙ correction-stays (codes "url_ver") pairs is.transport in
-    normal_form-is pairs ∙ ap (λ p. after last_steps (after copies p)) first ∙ ap (after last_steps) (copies-stay old_keys pairs is.copies)
-    ∙ last-stay pairs is
+    normal_form-is pairs ∙ ap (λ p. after last_steps (after kind_steps (after copies (after fields p)))) first
+    ∙ ap (λ p. after last_steps (after kind_steps (after copies p))) (steps-stay fields pairs is.fields)
+    ∙ ap (λ p. after last_steps (after kind_steps p)) (copies-stay old_keys pairs is.copies)
+    ∙ ap (after last_steps) (steps-stay kind_steps pairs is.kinds) ∙ last-stay pairs is

@@ -1,76 +1,34 @@
 -- How large a reading is.
-use Rattle.std.proofs.Common.{◌≡◌, ℕ, ◌+◌, ◌≤◌, ◌*◌, List, [], ◌∷◌, ◌++◌, map, take, Bool, true, false, cond}
-use Rattle.std.proofs.Common.{Option, Some, None, refl, ap, subst, sym, length, arith}
-use Rattle.std.specs.Prelude.{codes, nat_eq}
-use Rattle.std.specs.List.{sum_by, starts_with}
+use Rattle.std.proofs.Common.{◌≡◌, ℕ, ◌+◌, ◌≤◌, ◌*◌, List, [], ◌∷◌, ◌++◌, Bool, true, false, cond}
+use Rattle.std.proofs.Common.{Option, Some, None, refl, subst, sym, length, arith}
+use Rattle.std.specs.Prelude.{codes}
+use Rattle.std.specs.List.{sum_by}
+use Rattle.std.specs.Option.{option_map}
 use Rattle.std.proofs.lemmas.List.Sums.{sum_by-take-le, sum_by-cons, sum_by-append}
-use Rattle.std.proofs.lemmas.List.{length-append}
 use Rattle.text_model.specs.Texts.{Text}
 use Rattle.kev_read.specs.Pairs.{KeyValue, all_of, first_of}
-use Rattle.kev_read.specs.Refusal.{is_other_version}
 use Rattle.openurl_reading.specs.Counting.{is_accepted, most_pairs, accepted, counting}
-use Rattle.openurl_reading.specs.Steps.{unchanged, replacing, taken, after}
-use Rattle.openurl_reading.specs.Versions.{version, correction}
-use Rattle.openurl_reading.specs.OldKeys.{old_keys, copies}
-use Rattle.openurl_reading.specs.Referrers.{namespace, referrer_of, referrer_step}
+use Rattle.openurl_reading.specs.Steps.{taken, after}
+use Rattle.openurl_reading.specs.Versions.{correction}
+use Rattle.openurl_reading.specs.Fields.{fields}
+use Rattle.openurl_reading.specs.OldKeys.{copies}
+use Rattle.openurl_reading.specs.Referrers.{namespace, referrer_step}
 use Rattle.openurl_reading.specs.Numbers.{first_number, first_issn, first_eissn, first_isbn, issn_step, eissn_step, isbn_step}
-use Rattle.openurl_reading.specs.Dates.{date_keys, first_date, led_or_none, date_step}
+use Rattle.openurl_reading.specs.Dates.{date_keys, first_date, date_under, led_or_none, date_step}
 use Rattle.work_identifiers.specs.declared.namespace.Namespace.{Namespace}
 use Rattle.work_identifiers.specs.declared.namespace.Namespace.TheVariants.{Doi, Pmid, Oclc}
 use Rattle.work_identifiers.specs.Forms.{IsIdentifier}
-use Rattle.openurl_reading.specs.Identifiers.{first_under, first_identifier, uri_of, naming, namings}
+use Rattle.openurl_reading.specs.Identifiers.{first_under, first_identifier, naming, namings}
 use Rattle.openurl_reading.specs.Pages.{first_page, last_page, first_page_step, last_page_step, page_steps}
 use Rattle.openurl_reading.specs.Volumes.{added_issue, volume, issue, added_issue_step, volume_step, issue_step, volume_steps}
-use Rattle.openurl_reading.specs.Reading.{normal_form, added, issns_of, second_issn, with_derived}
-use Rattle.openurl_reading.proofs.FoundAre.{AreFound}
-use Rattle.openurl_reading.proofs.Identified.{AreIdentified, under_is, first_is, of_is}
-use Rattle.openurl_reading.proofs.KeysSettle.{all_apart, same_after}
+use Rattle.openurl_reading.specs.Reading.{normal_form, added, issns_of, second_issn, days_of, with_derived}
+use Rattle.openurl_reading.proofs.Additions.{day_is}
+use Rattle.openurl_reading.proofs.Identified.{under_is, first_is, of_is}
+use Rattle.openurl_reading.proofs.KeysWeigh.{AreLight, AreFormatsLight, all_three, version_weighs, keys_weigh}
 use Rattle.openurl_reading.proofs.VolumeLaws.{AreFoundNumbers, added_issue_is, found_volume_is, found_issue_is}
-use Rattle.openurl_reading.proofs.PagesFound.{ArePagesShort, first_page_is, last_page_is}
-use Rattle.openurl_reading.proofs.Stages.{after_dates, last_steps, with_versions, normal_form-is}
-use Rattle.openurl_reading.proofs.Totals.{total, total_taken, filled_weighs, led_weighs, named_weighs, shares-le, olds, copies_weigh}
-
--- the greatest weight of a number, a date, or the namespace of a source, and that of the identifiers of a namespace
-pub record AreLight (g : Text → ℕ) (m : ℕ) (u : Namespace → ℕ) : Type 0 where
-  pub found : AreFound (λ n. g n ≤ m)
-  pub version : g version ≤ m
-  pub source : (sid : Text) → g (referrer_of sid) ≤ m + g sid
-  pub identified : AreIdentified
-  pub identifier : (namespace : Namespace) (n : Text) → IsIdentifier namespace n → g n ≤ u namespace
-  pub uri : (namespace : Namespace) (n : Text) → IsIdentifier namespace n → g (uri_of namespace n) ≤ u namespace
-
--- one of each namespace
-abbrev pub all_three : (Namespace → ℕ) → ℕ
-all_three u = u Doi + u Pmid + u Oclc
-
--- ---- versions
-
-version_weighs : (g : Text → ℕ) (m : ℕ) (u : Namespace → ℕ) → AreLight g m u → (key : Text) (pairs : List KeyValue)
-    → total g (taken pairs (correction key)) ≤ m + total g pairs
-version_weighs g m u light key pairs =
-    omega (arith, total_taken g (correction key) pairs, by_test (is_other_version (first_of pairs key)))
-  where
-    by_test : (b : Bool) → sum_by g (cond b (replacing (version ∷ [])) unchanged).values ≤ m
-    by_test true = omega (arith, sum_by-cons g version [], light.version)
-    by_test false = omega arith
-
--- ---- old keys and the source
-
-source_weighs : (g : Text → ℕ) (m : ℕ) (u : Namespace → ℕ) → AreLight g m u → (sids : List Text)
-    → sum_by g (map referrer_of (take 1 sids)) ≤ m + sum_by g sids
-source_weighs g m u light [] = omega arith
-source_weighs g m u light (sid ∷ sids) = omega (arith, sum_by-cons g (referrer_of sid) [], sum_by-cons g sid sids, light.source sid)
-
-keys_weigh : (g : Text → ℕ) (m : ℕ) (u : Namespace → ℕ) → AreLight g m u → (pairs : List KeyValue)
-    → total g (taken (after copies pairs) referrer_step) ≤ m + 2 * total g pairs
-keys_weigh g m u light pairs =
-    let copied = after copies pairs in
-    let sids = all_of copied (codes "sid") in
-    let all = total_taken g referrer_step copied in
-    let few = filled_weighs g (map referrer_of (take 1 sids)) (all_of copied (codes "rfr_id")) in
-    let same : sum_by g sids ≡ sum_by g (all_of pairs (codes "sid")) = ap (sum_by g) (same_after copies pairs (codes "sid") refl) in
-    let each = shares-le g (codes "sid" ∷ olds old_keys) pairs refl in
-    omega (arith, all, few, source_weighs g m u light sids, same, copies_weigh g old_keys pairs all_apart, each)
+use Rattle.openurl_reading.proofs.PagesFound.{ArePagesShort, first_page_is, last_page_is, article_short}
+use Rattle.openurl_reading.proofs.Stages.{after_dates, kind_steps, last_steps, with_versions, normal_form-is}
+use Rattle.openurl_reading.proofs.Totals.{total, total_taken, led_weighs, named_weighs}
 
 -- ---- identifiers
 
@@ -123,8 +81,12 @@ pub record ArePagesLight (g : Text → ℕ) (p q : ℕ) : Type 0 where
 
 pub pages_light : ArePagesShort → ArePagesLight (λ n. length n) 200 400
 pages_light short = record {
-  first = first_page_is (λ n. length n ≤ 200) short.first;
-  last = last_page_is (λ n. length n ≤ 400) (record { first = λ value page e. omega (arith, short.first value page e); last = short.last });
+  first = first_page_is (λ n. length n ≤ 200) short.first (λ value n e. omega (arith, article_short value n e));
+  last = last_page_is (λ n. length n ≤ 400) (record {
+    first = λ value page e. omega (arith, short.first value page e);
+    last = short.last;
+    article = λ value n e. omega (arith, article_short value n e);
+  });
 }
 
 pages_weigh : (g : Text → ℕ) (p q : ℕ) → ArePagesLight g p q → (pairs : List KeyValue) → total g (after page_steps pairs) ≤ p + q + total g pairs
@@ -172,7 +134,7 @@ added_weighs g m key None h = omega arith
 added_weighs g m key (Some v) h = omega (arith, sum_by-cons (λ (p : KeyValue). g p.value) (record { key = key; value = v }) [], h v refl)
 
 derived_weigh : (g : Text → ℕ) (m : ℕ) (u : Namespace → ℕ) → AreLight g m u → (pairs : List KeyValue)
-    → total g (with_derived pairs) ≤ 3 * m + all_three u + total g pairs
+    → total g (with_derived pairs) ≤ 5 * m + all_three u + total g pairs
 derived_weigh g m u light pairs =
     let w : KeyValue → ℕ = λ p. g p.value in
     let doi = added (codes "x.doi") (first_under Doi pairs (codes "rft_id")) in
@@ -181,9 +143,14 @@ derived_weigh g m u light pairs =
     let issn = added (codes "x.issn") (first_number (issns_of pairs)) in
     let eissn = added (codes "x.eissn") (second_issn pairs) in
     let isbn = added (codes "x.isbn") (first_isbn pairs) in
+    let date = date_under pairs (codes "rft.date") in
+    let from = added (codes "x.from") (option_map (λ days. days.first) (days_of pairs)) in
+    let to = added (codes "x.to") (option_map (λ days. days.last) (days_of pairs)) in
     omega (
       arith,
-      sum_by-append w (doi ++ pmid ++ oclc ++ issn ++ eissn ++ isbn) pairs,
+      sum_by-append w (doi ++ pmid ++ oclc ++ issn ++ eissn ++ isbn ++ from ++ to) pairs,
+      sum_by-append w (doi ++ pmid ++ oclc ++ issn ++ eissn ++ isbn ++ from) to,
+      sum_by-append w (doi ++ pmid ++ oclc ++ issn ++ eissn ++ isbn) from,
       sum_by-append w (doi ++ pmid ++ oclc ++ issn ++ eissn) isbn,
       sum_by-append w (doi ++ pmid ++ oclc ++ issn) eissn,
       sum_by-append w (doi ++ pmid ++ oclc) issn,
@@ -195,6 +162,10 @@ derived_weigh g m u light pairs =
       added_weighs g m (codes "x.issn") (first_number (issns_of pairs)) (light.found.one pairs),
       added_weighs g m (codes "x.eissn") (second_issn pairs) (light.found.other pairs),
       added_weighs g m (codes "x.isbn") (first_isbn pairs) (light.found.isbn pairs),
+      added_weighs g m (codes "x.from") (option_map (λ days. days.first) (days_of pairs))
+          (day_is (λ n. g n ≤ m) date (λ days. days.first) (λ d e. (light.days pairs d e).0)),
+      added_weighs g m (codes "x.to") (option_map (λ days. days.last) (days_of pairs))
+          (day_is (λ n. g n ≤ m) date (λ days. days.last) (λ d e. (light.days pairs d e).1)),
     )
   where
     identifier_weighs : (key : Text) (namespace : Namespace) → total g (added key (first_under namespace pairs (codes "rft_id"))) ≤ u namespace
@@ -203,19 +174,20 @@ derived_weigh g m u light pairs =
         (λ n e. light.identifier namespace n (under_is (IsIdentifier namespace) namespace (of_is light.identified namespace) pairs (codes "rft_id") n e))
 
 -- twice the request, and some numbers, dates and identifiers
-pub reading_weighs : (g : Text → ℕ) (m r p q : ℕ) (u : Namespace → ℕ) → AreLight g m u → AreFoundNumbers (λ t. g t ≤ r) → ArePagesLight g p q
-    → (pairs : List KeyValue)
-    → total g (with_derived (normal_form pairs)) ≤ 2 * total g pairs + 12 * m + 3 * r + p + q + 2 * all_three u
-reading_weighs g m r p q u light numbers pages pairs =
+pub reading_weighs : (g : Text → ℕ) (m f r p q : ℕ) (u : Namespace → ℕ) → AreLight g m u → AreFormatsLight g f → AreFoundNumbers (λ t. g t ≤ r)
+    → ArePagesLight g p q → (pairs : List KeyValue)
+    → total g (with_derived (normal_form pairs)) ≤ 2 * total g pairs + 14 * m + f + 3 * r + p + q + 2 * all_three u
+reading_weighs g m f r p q u light formats numbers pages pairs =
     let first = taken pairs (correction (codes "ctx_ver")) in
     let second = with_versions pairs in
-    let named = taken (after copies second) referrer_step in
-    subst (λ normal. total g (with_derived normal) ≤ 2 * total g pairs + 12 * m + 3 * r + p + q + 2 * all_three u) (sym (normal_form-is pairs))
+    let kinds = after kind_steps (after copies (after fields second)) in
+    let named = taken kinds referrer_step in
+    subst (λ normal. total g (with_derived normal) ≤ 2 * total g pairs + 14 * m + f + 3 * r + p + q + 2 * all_three u) (sym (normal_form-is pairs))
     (omega (
       arith,
-      derived_weigh g m u light (after last_steps (after copies second)),
+      derived_weigh g m u light (after last_steps kinds),
       last_weigh g m r p q u light numbers pages named,
-      keys_weigh g m u light second,
+      keys_weigh g m f u light formats second,
       version_weighs g m u light (codes "url_ver") first,
       version_weighs g m u light (codes "ctx_ver") pairs,
     ))
@@ -235,10 +207,3 @@ counting_weighs g pairs = omega (arith, sum_by-take-le (λ (p : KeyValue). g p.v
 pub total-one : (pairs : List KeyValue) → total (λ n. 1) pairs ≡ length pairs
 total-one [] = refl
 total-one (pair ∷ pairs) = omega (arith, sum_by-cons (λ (p : KeyValue). 1) pair pairs, total-one pairs)
-
-pub source_short : (sid : Text) → length (referrer_of sid) ≤ 13 + length sid
-source_short sid = by_test (starts_with nat_eq sid namespace)
-  where
-    by_test : (b : Bool) → length (cond b sid (namespace ++ sid)) ≤ 13 + length sid
-    by_test true = omega arith
-    by_test false = omega (arith, length-append namespace sid)

@@ -1,11 +1,15 @@
--- The steps in three parts: versions, old keys, and the others.
-use Rattle.std.proofs.Common.{◌≡◌, List, ◌∷◌, ◌++◌}
+-- The steps in five parts: versions, the fields of a form, old keys, those that ask for the kind of the request, and the others.
+use Rattle.std.proofs.Common.{◌≡◌, List, [], ◌∷◌, ◌++◌}
 use Rattle.std.specs.Prelude.{codes}
 use Rattle.std.proofs.lemmas.List.Sums.{fold-append}
 use Rattle.kev_read.specs.Pairs.{KeyValue}
 use Rattle.openurl_reading.specs.Steps.{Step, taken, after}
 use Rattle.openurl_reading.specs.Versions.{correction}
+use Rattle.openurl_reading.specs.Fields.{fields}
 use Rattle.openurl_reading.specs.OldKeys.{copies}
+use Rattle.openurl_reading.specs.DublinCore.{core_steps}
+use Rattle.openurl_reading.specs.Titles.{titlings}
+use Rattle.openurl_reading.specs.Formats.{format_step}
 use Rattle.openurl_reading.specs.Referrers.{referrer_step}
 use Rattle.openurl_reading.specs.Numbers.{issn_step, eissn_step, isbn_step}
 use Rattle.openurl_reading.specs.Dates.{date_step}
@@ -24,9 +28,16 @@ after_dates = volume_steps ++ after_volumes
 abbrev pub last_steps : List Step
 last_steps = referrer_step ∷ issn_step ∷ eissn_step ∷ isbn_step ∷ date_step ∷ after_dates
 
+-- those that ask for the kind or the format
+abbrev pub kind_steps : List Step
+kind_steps = core_steps ++ titlings ++ format_step ∷ []
+
 abbrev pub with_versions : List KeyValue → List KeyValue
 with_versions pairs = taken (taken pairs (correction (codes "ctx_ver"))) (correction (codes "url_ver"))
 
-pub normal_form-is : (pairs : List KeyValue) → normal_form pairs ≡ after last_steps (after copies (with_versions pairs))
+abbrev pub with_fields : List KeyValue → List KeyValue
+with_fields pairs = after fields (with_versions pairs)
+
+pub normal_form-is : (pairs : List KeyValue) → normal_form pairs ≡ after last_steps (after kind_steps (after copies (with_fields pairs)))
 unfolding steps
-normal_form-is pairs = fold-append taken (with_versions pairs) copies last_steps
+normal_form-is pairs = fold-append taken (with_fields pairs) copies (kind_steps ++ last_steps)

@@ -109,6 +109,15 @@ shares_after g step (key ∷ keys) pairs apart =
     ap (λ values. sum_by g values + shares g keys (taken pairs step)) (all_of-taken step pairs key (All-head P key keys apart))
     ∙ ap (λ n. sum_by g (all_of pairs key) + n) (shares_after g step keys pairs (All-tail P key keys apart))
 
+-- keys that have the same values in both have the same shares
+pub shares-same : (g : Text → ℕ) (keys : List Text) (pairs other : List KeyValue) → All (λ key. all_of pairs key ≡ all_of other key) keys
+    → shares g keys pairs ≡ shares g keys other
+shares-same g [] pairs other all = refl
+shares-same g (key ∷ keys) pairs other all =
+    let P : Text → Type 0 = λ key. all_of pairs key ≡ all_of other key in
+    ap (λ values. sum_by g values + shares g keys pairs) (All-head P key keys all)
+    ∙ ap (λ n. sum_by g (all_of other key) + n) (shares-same g keys pairs other (All-tail P key keys all))
+
 abbrev pub olds : List OldKey → List Text
 olds keys = map (λ key. key.old) keys
 

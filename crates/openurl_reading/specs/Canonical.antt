@@ -1,5 +1,5 @@
 -- Requests that are OpenURL 1.0 (ANSI/NISO Z39.88-2004, and the guidelines for KEV ContextObjects).
-use Rattle.std.specs.Prelude.{◌≡◌, false, List, [], ◌∷◌, ◌⊎◌, codes, All, Some, None}
+use Rattle.std.specs.Prelude.{◌≡◌, true, false, List, [], ◌∷◌, ◌⊎◌, codes, All, Some, None}
 use Rattle.text_model.specs.Texts.{Text}
 use Rattle.kev_read.specs.Pairs.{KeyValue, all_of, first_of}
 use Rattle.standard_numbers.specs.Issn.{IsIssn, is_doubtful}
@@ -10,8 +10,11 @@ use Rattle.work_identifiers.specs.Forms.{IsIdentifier}
 use Rattle.work_identifiers.specs.Places.{identifier_in}
 use Rattle.article_places.specs.Enumerations.{alone, short_supplement}
 use Rattle.article_places.specs.Pages.{only}
+use Rattle.openurl_reading.specs.Kinds.{has}
+use Rattle.openurl_reading.specs.DublinCore.{is_core}
 use Rattle.openurl_reading.specs.OldKeys.{old_keys}
 use Rattle.openurl_reading.specs.Identifiers.{identifier_of, source_keys, uri_of}
+use Rattle.openurl_reading.specs.ArticleNumbers.{article_in}
 use Rattle.openurl_reading.specs.Pages.{read_pages}
 use Rattle.openurl_reading.specs.Volumes.{read_numbers}
 
@@ -39,9 +42,11 @@ pub data IsReferentUri : Text → Type 0 where
 abbrev pub HasNoIdentifier : Text → Text → Type 0
 HasNoIdentifier key value = (namespace : Namespace) → identifier_of namespace key value ≡ None
 
--- keys of OpenURL 0.1 that have no key in their place, and such as no format of OpenURL 1.0 has
+-- keys of OpenURL 0.1 that have no key in their place, or one of several, and such as no format of OpenURL 1.0 has
 abbrev pub other_keys : List Text
-other_keys = codes "sid" ∷ codes "date" ∷ codes "year" ∷ codes "rft.year" ∷ codes "rft.eisbn" ∷ []
+other_keys =
+    codes "sid" ∷ codes "date" ∷ codes "year" ∷ codes "rft.year" ∷ codes "rft.eisbn" ∷ codes "title" ∷ codes "number" ∷
+    codes "identifier" ∷ []
 
 -- the designation of a volume or an issue: a number alone, a supplement as PubMed writes it, or something else, such as `Spring`
 pub data IsDesignation : Text → Type 0 where
@@ -57,14 +62,19 @@ IsPage value = (read_pages value ≡ Some (only value)) ⊎ (read_pages value �
 abbrev pub HasNoPage : Text → Type 0
 HasNoPage value = read_pages value ≡ None
 
--- the first page is under its own key, or `rft.pages` has none
+abbrev pub HasNoArticle : Text → Type 0
+HasNoArticle value = article_in value ≡ None
+
+-- the first page is under its own key, or `rft.pages` has none and `rft.artnum` no number
 pub data ArePagesApart (pairs : List KeyValue) : Type 0 where
   first_page_apart : (page : Text) → first_of pairs (codes "rft.spage") ≡ Some page → read_pages page ≡ Some (only page) → ArePagesApart pairs
-  no_page : Under pairs (codes "rft.pages") HasNoPage → ArePagesApart pairs
+  no_page : Under pairs (codes "rft.pages") HasNoPage → Under pairs (codes "rft.artnum") HasNoArticle → ArePagesApart pairs
 
 pub record IsCanonical (pairs : List KeyValue) : Type 0 where
   pub context : Under pairs (codes "ctx_ver") IsVersion
   pub transport : Under pairs (codes "url_ver") IsVersion
+  pub format : has pairs (codes "rft_val_fmt") ≡ true
+  pub no_core : is_core pairs ≡ false
   pub no_old_keys : All (λ key. Lacks pairs key.old) old_keys
   pub no_other_keys : All (Lacks pairs) other_keys
   pub issns : Under pairs (codes "rft.issn") IsSureIssn

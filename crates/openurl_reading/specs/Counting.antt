@@ -14,6 +14,10 @@ most_pairs = 300
 abbrev pub is_one_of : List Text → Text → Bool
 is_one_of texts text = list_any (λ one. bytes_eq one text) texts
 
+-- in small or capital letters
+abbrev pub is_one_in_any_case : List Text → Text → Bool
+is_one_in_any_case texts text = list_any (λ one. str_eq_ignore_ascii_case one text) texts
+
 -- ---- keys
 
 -- the keys that the resolver adds begin with `x.`
@@ -29,9 +33,10 @@ is_column key = is_one_of known_columns key || bytes_eq key (codes "title_page")
 abbrev pub is_free : Text → Bool
 is_free key = not (is_added_key key) && not (is_column key)
 
--- the keys that find rows, with their names in OpenURL 0.1
+-- the keys that find rows, with their names in OpenURL 0.1, and the field of a form for their numbers
 abbrev pub row_keys : List Text
-row_keys = codes "rft.issn" ∷ codes "rft.eissn" ∷ codes "rft.isbn" ∷ codes "issn" ∷ codes "eissn" ∷ codes "isbn" ∷ []
+row_keys =
+    codes "rft.issn" ∷ codes "rft.eissn" ∷ codes "rft.isbn" ∷ codes "issn" ∷ codes "eissn" ∷ codes "isbn" ∷ codes "number" ∷ []
 
 -- ---- values
 
@@ -56,7 +61,7 @@ prefixes =
 
 -- a prefix alone
 abbrev pub is_prefix : Text → Bool
-is_prefix value = list_any (λ prefix. str_eq_ignore_ascii_case prefix value) prefixes
+is_prefix value = is_one_in_any_case prefixes value
 
 -- ---- pairs
 

@@ -3,10 +3,16 @@ pub mod Steps
 pub mod Values
 pub mod Versions
 pub mod OldKeys
+pub mod Kinds
+pub mod DublinCore
+pub mod Titles
+pub mod Formats
 pub mod Referrers
 pub mod Numbers
+pub mod Fields
 pub mod Dates
 pub mod Volumes
+pub mod ArticleNumbers
 pub mod Pages
 pub mod Identifiers
 pub mod Reading

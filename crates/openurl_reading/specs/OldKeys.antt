@@ -1,5 +1,5 @@
 -- The keys of OpenURL 0.1 give their values to those of OpenURL 1.0 that have none.
-use Rattle.std.specs.Prelude.{List, [], ◌∷◌, ◌++◌, map, codes}
+use Rattle.std.specs.Prelude.{Bool, not, List, [], ◌∷◌, ◌++◌, map, codes, if◌then◌else◌}
 use Rattle.text_model.specs.Texts.{Text}
 use Rattle.kev_read.specs.Pairs.{KeyValue, all_of}
 use Rattle.openurl_reading.specs.Steps.{Change, Step, unchanged, leading}
@@ -33,6 +33,18 @@ copied key pairs = filled (values_of pairs key.old) (all_of pairs key.new)
 
 abbrev pub copy : OldKey → Step
 copy key = record { key = key.new; change = copied key }
+
+-- the same, if a test passes
+abbrev pub copied_if : Bool → OldKey → List KeyValue → Change
+copied_if b key pairs = if b then copied key pairs else unchanged
+
+-- a copy that is made if a test of the pairs passes
+abbrev pub copying : (List KeyValue → Bool) → OldKey → Step
+copying test key = record { key = key.new; change = λ pairs. copied_if (test pairs) key pairs }
+
+-- the first copy if a test passes, or else the second
+abbrev pub choosing : (List KeyValue → Bool) → OldKey → OldKey → List Step
+choosing test key other = copying test key ∷ copying (λ pairs. not (test pairs)) other ∷ []
 
 abbrev pub copies : List Step
 copies = map copy old_keys

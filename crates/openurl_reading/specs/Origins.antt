@@ -5,12 +5,16 @@ use Rattle.kev_read.specs.Pairs.{KeyValue}
 use Rattle.standard_numbers.specs.Issn.{issns_in}
 use Rattle.standard_numbers.specs.Isbn.{isbns_in}
 use Rattle.publication_dates.specs.Dates.{date_in}
+use Rattle.publication_dates.specs.Days.{first_day, last_day}
 use Rattle.article_places.specs.Enumerations.{Numbers, numbers_in, short_supplement}
 use Rattle.work_identifiers.specs.declared.namespace.Namespace.{Namespace}
+use Rattle.openurl_reading.specs.ArticleNumbers.{article_in}
 use Rattle.openurl_reading.specs.Identifiers.{identifier_of, uri_of}
 use Rattle.openurl_reading.specs.Pages.{first_in, last_in}
 use Rattle.openurl_reading.specs.Values.{searched}
 use Rattle.openurl_reading.specs.Versions.{version}
+use Rattle.openurl_reading.specs.declared.kinds.Kind.{Kind}
+use Rattle.openurl_reading.specs.Formats.{format_of}
 use Rattle.openurl_reading.specs.Referrers.{referrer_of}
 
 abbrev pub all_values : List KeyValue → List Text
@@ -20,14 +24,17 @@ all_values pairs = map (λ pair. pair.value) pairs
 abbrev pub IsNumberOf : Numbers → Text → Type 0
 IsNumberOf n number = (n.first ≡ Some number) ⊎ (n.issue ≡ Some number)
 
--- a value of the request, the version, or what is read in one value of the request
+-- a value of the request, the version, one of the three formats, or what is read in one value of the request
 pub data HasOrigin (sent : List Text) : Text → Type 0 where
   from_request : (value : Text) → Contains sent value → HasOrigin sent value
   version_of_openurl : HasOrigin sent version
+  format_of_kind : (kind : Kind) → HasOrigin sent (format_of kind)
   source_in : (value : Text) → Contains sent value → HasOrigin sent (referrer_of value)
   issn_in : (value issn : Text) → Contains sent value → Contains (issns_in (searched value)) issn → HasOrigin sent issn
   isbn_in : (value isbn : Text) → Contains sent value → Contains (isbns_in (searched value)) isbn → HasOrigin sent isbn
   date_of : (value date : Text) → Contains sent value → date_in (searched value) ≡ Some date → HasOrigin sent date
+  first_day_of : (value date : Text) → Contains sent value → date_in (searched value) ≡ Some date → HasOrigin sent (first_day date)
+  last_day_of : (value date : Text) → Contains sent value → date_in (searched value) ≡ Some date → HasOrigin sent (last_day date)
   number_in : (value number : Text) (n : Numbers) → Contains sent value → numbers_in value ≡ Some n → IsNumberOf n number → HasOrigin sent number
   supplement_in : (value mark : Text) (n : Numbers) → Contains sent value → numbers_in value ≡ Some n → n.supplement ≡ Some mark
       → HasOrigin sent (short_supplement mark)
@@ -35,6 +42,7 @@ pub data HasOrigin (sent : List Text) : Text → Type 0 where
       → n.supplement ≡ Some mark → HasOrigin sent (number ++ 0x20 ∷ short_supplement mark)
   page_in : (value page : Text) → Contains sent value → first_in value ≡ Some page → HasOrigin sent page
   last_page_in : (value page : Text) → Contains sent value → last_in value ≡ Some page → HasOrigin sent page
+  article_number_in : (value number : Text) → Contains sent value → article_in value ≡ Some number → HasOrigin sent number
   identifier_in_value : (namespace : Namespace) (key value identifier : Text) → Contains sent value
       → identifier_of namespace key value ≡ Some identifier → HasOrigin sent identifier
   uri_of_identifier : (namespace : Namespace) (key value identifier : Text) → Contains sent value

@@ -1,21 +1,28 @@
 -- A request of any source, read as OpenURL 1.0.
-use Rattle.std.specs.Prelude.{ℕ, List, [], ◌∷◌, ◌++◌, codes, Option, Some, None}
+use Rattle.std.specs.Prelude.{ℕ, List, [], ◌∷◌, ◌++◌, codes, Option, Some, None, option_map}
 use Rattle.text_model.specs.Texts.{Text}
 use Rattle.kev_read.specs.Pairs.{KeyValue}
+use Rattle.publication_dates.specs.Days.{Days, first_and_last}
 use Rattle.work_identifiers.specs.declared.namespace.Namespace.TheVariants.{Doi, Pmid, Oclc}
 use Rattle.openurl_reading.specs.Counting.{counting, left_out}
 use Rattle.openurl_reading.specs.Steps.{Step, after}
 use Rattle.openurl_reading.specs.Versions.{versions}
+use Rattle.openurl_reading.specs.Fields.{fields}
 use Rattle.openurl_reading.specs.OldKeys.{copies}
+use Rattle.openurl_reading.specs.DublinCore.{core_steps}
+use Rattle.openurl_reading.specs.Titles.{titlings}
+use Rattle.openurl_reading.specs.Formats.{format_step}
 use Rattle.openurl_reading.specs.Referrers.{referrer_step}
 use Rattle.openurl_reading.specs.Numbers.{issns_under, first_number, other_than, issn_step, eissn_step, isbn_step, first_isbn}
-use Rattle.openurl_reading.specs.Dates.{date_step}
+use Rattle.openurl_reading.specs.Dates.{date_step, date_under}
 use Rattle.openurl_reading.specs.Identifiers.{first_under, namings}
 use Rattle.openurl_reading.specs.Pages.{page_steps}
 use Rattle.openurl_reading.specs.Volumes.{volume_steps}
 
 unfoldable pub steps : List Step
-steps = versions ++ copies ++ referrer_step ∷ issn_step ∷ eissn_step ∷ isbn_step ∷ date_step ∷ volume_steps ++ page_steps ++ namings
+steps =
+    versions ++ fields ++ copies ++ core_steps ++ titlings ++ format_step ∷ referrer_step ∷ issn_step ∷ eissn_step ∷ isbn_step ∷ date_step ∷
+    volume_steps ++ page_steps ++ namings
 
 -- the pairs of OpenURL 1.0
 abbrev pub normal_form : List KeyValue → List KeyValue
@@ -34,11 +41,16 @@ issns_of pairs = issns_under pairs (codes "rft.issn") ++ issns_under pairs (code
 abbrev pub second_issn : List KeyValue → Option Text
 second_issn pairs = other_than (first_number (issns_of pairs)) (issns_of pairs)
 
+-- the first and the last day of the date
+abbrev pub days_of : List KeyValue → Option Days
+days_of pairs = option_map first_and_last (date_under pairs (codes "rft.date"))
+
 abbrev pub derived : List KeyValue → List KeyValue
 derived pairs =
     added (codes "x.doi") (first_under Doi pairs (codes "rft_id")) ++ added (codes "x.pmid") (first_under Pmid pairs (codes "rft_id"))
     ++ added (codes "x.oclc") (first_under Oclc pairs (codes "rft_id")) ++ added (codes "x.issn") (first_number (issns_of pairs))
     ++ added (codes "x.eissn") (second_issn pairs) ++ added (codes "x.isbn") (first_isbn pairs)
+    ++ added (codes "x.from") (option_map (λ days. days.first) (days_of pairs)) ++ added (codes "x.to") (option_map (λ days. days.last) (days_of pairs))
 
 abbrev pub with_derived : List KeyValue → List KeyValue
 with_derived pairs = derived pairs ++ pairs

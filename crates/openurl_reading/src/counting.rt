@@ -62,6 +62,13 @@ pub(crate) fn is_one_of(texts: &[&str], text: &str) -> bool
     texts.iter().any(|one| *one == text)
 }
 
+/// Whether a text is one of these, in small or capital letters.
+pub(crate) fn is_one_in_any_case(texts: &[&str], text: &str) -> bool
+    ensures { result ≡ spec.is_one_in_any_case (texts_of texts.now) text.now }
+{
+    texts.iter().any(|one| is_same(one, text))
+}
+
 /// Whether the value says nothing under the key.
 fn is_void(alloc: Global, key: &str, value: &str) -> Result<bool, AllocError>
     ensures { IfOk result (λ is. is ≡ spec.is_void record { key = key.now; value = value.now }) }
@@ -82,11 +89,19 @@ fn is_blank(value: &[u8]) -> bool
     value.iter().all(|byte| *byte <= b' ')
 }
 
-/// The keys that find rows, with their names in OpenURL 0.1.
+/// The keys that find rows, with their names in OpenURL 0.1, and the field of a form for their numbers.
 fn row_keys() -> &'static [&'static str]
     ensures { texts_of result.now ≡ spec.row_keys }
 {
-    &["rft.issn", "rft.eissn", "rft.isbn", "issn", "eissn", "isbn"]
+    &[
+        "rft.issn",
+        "rft.eissn",
+        "rft.isbn",
+        "issn",
+        "eissn",
+        "isbn",
+        "number",
+    ]
 }
 
 /// Whether the value is the number of the rows of targets that answer every request.
@@ -112,7 +127,7 @@ fn plain(alloc: Global, value: &[u8]) -> Result<Vec<u8>, AllocError>
 fn is_prefix(value: &str) -> bool
     ensures { result ≡ spec.is_prefix value.now }
 {
-    prefixes().iter().any(|prefix| is_same(prefix, value))
+    is_one_in_any_case(prefixes(), value)
 }
 
 /// Whether two texts differ at most in upper and lower case.

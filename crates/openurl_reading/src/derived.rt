@@ -1,12 +1,15 @@
 //! Keys that the resolver adds for the rules of targets.
 
 ghost use Rattle.std.specs.Prelude.{◌≡◌, ◌++◌, IfOk, OnOk, codes};
+ghost use Rattle.std.specs.Option.{option_map};
 ghost use Rattle.openurl_reading.specs.Identifiers.{first_under};
 ghost use Rattle.openurl_reading.specs.Reading as spec;
 
 use crate::identifiers::first_under;
 use crate::numbers::{first, first_isbn, issns_under, other_than, push_all};
 use crate::pairs::{Pair, Pairs, copy};
+use crate::searched::searched;
+use publication_dates::{Days, days_in};
 use std::alloc::{AllocError, Global};
 use uri_text::Text;
 use work_identifiers::Namespace;
@@ -33,6 +36,7 @@ fn derived(alloc: Global, pairs: &Pairs) -> Result<Vec<Pair>, AllocError>
     push_added(alloc, &mut list, "x.issn", first(issns_of(alloc, pairs)?))?;
     push_added(alloc, &mut list, "x.eissn", second_issn(alloc, pairs)?)?;
     push_added(alloc, &mut list, "x.isbn", first_isbn(alloc, pairs)?)?;
+    push_days(alloc, &mut list, pairs)?;
     Ok(list)
 }
 
@@ -67,6 +71,29 @@ fn issns_of(alloc: Global, pairs: &Pairs) -> Result<Vec<Text>, AllocError>
     let mut issns = issns_under(alloc, pairs, "rft.issn")?;
     push_all(&mut issns, issns_under(alloc, pairs, "rft.eissn")?)?;
     Ok(issns)
+}
+
+/// The first and the last day of the date of a request.
+fn days_of(alloc: Global, pairs: &Pairs) -> Result<Option<Days>, AllocError>
+    ensures { IfOk result (λ days. days ≡ spec.days_of pairs.now) }
+{
+    match pairs.first("rft.date") {
+        Some(date) => days_in(alloc, searched(date)),
+        None => Ok(None),
+    }
+}
+
+/// Appends the pairs of the first and the last day of the date, if there is one.
+fn push_days(alloc: Global, list: &mut Vec<Pair>, pairs: &Pairs) -> Result<(), AllocError>
+    ensures { OnOk result (list.new.items
+        ≡ list.old.items ++ spec.added (codes "x.from") (option_map (λ days. days.first) (spec.days_of pairs.now))
+        ++ spec.added (codes "x.to") (option_map (λ days. days.last) (spec.days_of pairs.now))) }
+{
+    if let Some(days) = days_of(alloc, pairs)? {
+        list.push(Pair::new(copy(alloc, "x.from")?, copy(alloc, days.first())?))?;
+        list.push(Pair::new(copy(alloc, "x.to")?, copy(alloc, days.last())?))?;
+    }
+    Ok(())
 }
 
 /// Appends a pair of the key if there is a value.

@@ -12,7 +12,7 @@ ghost use Rattle.openurl_reading.specs.Steps.{Step, others, taken};
 use article_places::laws::{
     numbers_are_parts, numbers_stay, pages_are_parts, pages_stay, parts_are_short, supplements_stay,
 };
-use publication_dates::laws::{dates_are_read, dates_stay};
+use publication_dates::laws::{dates_are_read, dates_stay, days_are_days};
 use standard_numbers::laws::{
     isbns_are_isbns, isbns_stay, issns_are_found_alone, issns_are_issns, issns_stay,
 };
@@ -70,8 +70,8 @@ pub fn readings_are_read_as_they_are()
     uris_have_one_namespace();
 }
 
-/// Nothing is invented: each value of a reading is one of the request, the version of OpenURL, or what is read in one
-/// value of the request, an identifier also as its URI.
+/// Nothing is invented: each value of a reading is one of the request, the version of OpenURL, one of three formats, or
+/// what is read in one value of the request, an identifier also as its URI.
 pub fn nothing_is_invented()
     ensures { (pairs : List KeyValue) → All (λ pair. HasOrigin (all_values pairs) pair.value) (reading_of pairs).pairs }
 {
@@ -95,14 +95,15 @@ pub fn nothing_is_invented()
 /// A reading has at most twice the pairs that count, of which there are at most 300, and twice the bytes of the values
 /// of the request, and what the resolver adds.
 pub fn readings_are_bounded()
-    ensures few { (pairs : List KeyValue) → length (reading_of pairs).pairs ≤ 2 * length (counting pairs) + 23 }
+    ensures few { (pairs : List KeyValue) → length (reading_of pairs).pairs ≤ 2 * length (counting pairs) + 26 }
     ensures counting { (pairs : List KeyValue) → length (counting pairs) ≤ most_pairs }
     ensures bytes { (pairs : List KeyValue)
-        → value_bytes (reading_of pairs).pairs ≤ 2 * value_bytes pairs + 3083 }
+        → value_bytes (reading_of pairs).pairs ≤ 2 * value_bytes pairs + 3142 }
 {
     issns_are_issns();
     isbns_are_isbns();
     dates_are_read();
+    days_are_days();
     numbers_are_parts();
     numbers_stay();
     supplements_stay();

@@ -1,6 +1,7 @@
 //! Requests of any source, read as OpenURL 1.0 (ANSI/NISO Z39.88-2004).
 //!
-//! Sources send OpenURL 0.1, other versions, and identifiers, numbers and dates in free forms. A reading has
+//! Sources send OpenURL 0.1, other versions, Dublin Core, the fields of forms, and identifiers, numbers and dates in
+//! free forms. Of Dublin Core, `rft.source` is not read yet. A reading has
 //!
 //! 1. the pairs that count: not those without a value, and none that names a column of holdings tables;
 //! 2. after steps, each of which changes the values of one key;
@@ -14,11 +15,16 @@
 //! ```
 #![tactic(auto)]
 
+mod article_numbers;
 mod change;
 mod counting;
 mod dates;
 mod derived;
+mod dublin_core;
+mod fields;
+mod formats;
 mod identifiers;
+mod kinds;
 pub mod laws;
 mod normal_form;
 mod numbers;
@@ -28,6 +34,7 @@ mod pairs;
 mod reading;
 mod referrer;
 mod searched;
+mod titles;
 mod versions;
 mod volumes;
 

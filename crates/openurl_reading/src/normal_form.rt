@@ -4,12 +4,16 @@ ghost use Rattle.std.specs.Prelude.{◌≡◌, IfOk};
 ghost use Rattle.openurl_reading.specs.Reading as spec;
 
 use crate::dates::lead_date;
+use crate::dublin_core::copy_elements;
+use crate::fields::copy_fields;
+use crate::formats::name_format;
 use crate::identifiers::name_works;
 use crate::numbers::{lead_eissn, lead_isbn, lead_issn};
 use crate::old_keys::copy_old_keys;
 use crate::pages::lead_pages;
 use crate::pairs::Pairs;
 use crate::referrer::name_referrer;
+use crate::titles::copy_title;
 use crate::versions::correct;
 use crate::volumes::lead_volumes;
 use std::alloc::{AllocError, Global};
@@ -20,7 +24,11 @@ pub(crate) fn normal_form(alloc: Global, pairs: Pairs) -> Result<Pairs, AllocErr
 {
     let pairs = correct(alloc, "ctx_ver", pairs)?;
     let pairs = correct(alloc, "url_ver", pairs)?;
+    let pairs = copy_fields(alloc, pairs)?;
     let pairs = copy_old_keys(alloc, pairs)?;
+    let pairs = copy_elements(alloc, pairs)?;
+    let pairs = copy_title(alloc, pairs)?;
+    let pairs = name_format(alloc, pairs)?;
     let pairs = name_referrer(alloc, pairs)?;
     let pairs = lead_issn(alloc, pairs)?;
     let pairs = lead_eissn(alloc, pairs)?;

@@ -3,6 +3,7 @@
 ghost use Rattle.std.specs.Prelude.{◌≡◌, IfOk, map};
 ghost use Rattle.text_model.specs.Texts.{texts_of};
 ghost use Rattle.openurl_reading.specs.Steps.{after, taken};
+ghost use Rattle.openurl_reading.specs.Steps as steps;
 ghost use Rattle.openurl_reading.specs.OldKeys as spec;
 
 use crate::change::{Change, changed};
@@ -22,11 +23,34 @@ pub(crate) fn copy_old_keys(alloc: Global, pairs: Pairs) -> Result<Pairs, AllocE
 }
 
 /// A key gives its values to another one, unless this has some.
-fn copy_key(alloc: Global, old: &str, new: &str, pairs: Pairs) -> Result<Pairs, AllocError>
+pub(crate) fn copy_key(
+    alloc: Global,
+    old: &str,
+    new: &str,
+    pairs: Pairs,
+) -> Result<Pairs, AllocError>
     ensures { IfOk result (λ after. after ≡ taken pairs (spec.copy record { old = old.now; new = new.now })) }
 {
     let change = copied(alloc, old, new, &pairs)?;
     changed(alloc, new, change, pairs)
+}
+
+/// The same, if it is meant.
+pub(crate) fn copy_key_if(
+    alloc: Global,
+    is_meant: bool,
+    old: &str,
+    new: &str,
+    pairs: Pairs,
+) -> Result<Pairs, AllocError>
+    ensures { IfOk result (λ after. after
+        ≡ steps.changed new.now (spec.copied_if is_meant record { old = old.now; new = new.now } pairs) pairs) }
+{
+    if is_meant {
+        copy_key(alloc, old, new, pairs)
+    } else {
+        Ok(pairs)
+    }
 }
 
 fn copied(alloc: Global, old: &str, new: &str, pairs: &Pairs) -> Result<Change, AllocError>

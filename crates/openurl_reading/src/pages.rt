@@ -1,12 +1,15 @@
 //! The pages of a request.
 
-ghost use Rattle.std.specs.Prelude.{◌≡◌, ◌++◌, IfOk, IfSome};
+ghost use Rattle.std.specs.Prelude.{◌≡◌, ◌++◌, IfOk, IfSome, codes};
 ghost use Rattle.std.specs.Option.{option_map};
 ghost use Rattle.std.specs.Str.{IsAscii};
 ghost use Rattle.article_places.specs.Pages.{in_full, range};
+ghost use Rattle.kev_read.specs.Pairs.{first_of};
+ghost use Rattle.openurl_reading.specs.ArticleNumbers.{is_article};
 ghost use Rattle.openurl_reading.specs.Steps.{after, taken};
 ghost use Rattle.openurl_reading.specs.Pages as spec;
 
+use crate::article_numbers::article_in;
 use crate::change::{Change, changed};
 use crate::pairs::{Pairs, ascii_text};
 use crate::searched::is_short;
@@ -39,15 +42,21 @@ fn lead_first_page(alloc: Global, pairs: Pairs) -> Result<Pairs, AllocError>
     changed(alloc, "rft.spage", change, pairs)
 }
 
-/// The first page of a request.
+/// The first page of a request, which may be the number of the article.
 fn first_page(alloc: Global, pairs: &Pairs) -> Result<Option<Text>, AllocError>
     ensures { IfOk result (λ page. page ≡ spec.first_page pairs.now) }
 {
+    let number = article(alloc, pairs)?;
+    if is_under_first_page(&number, pairs) {
+        return Ok(number);
+    }
     if let Some(page) = first_under(alloc, pairs, "rft.spage")? {
         return Ok(Some(page));
     }
-    let page = first_under(alloc, pairs, "rft.pages")?;
-    Ok(page)
+    if let Some(page) = first_under(alloc, pairs, "rft.pages")? {
+        return Ok(Some(page));
+    }
+    Ok(number)
 }
 
 /// The last page of a request, which may be that of a range under the key of the first one.
@@ -56,7 +65,41 @@ fn last_page(alloc: Global, pairs: &Pairs) -> Result<Option<Text>, AllocError>
 {
     match pairs.first("rft.epage") {
         Some(value) => end_in(alloc, value),
-        None => last_under(alloc, pairs, "rft.spage"),
+        None => end_of_range(alloc, pairs),
+    }
+}
+
+/// The last page of a range under the key of the first page, unless this is the number of the article.
+fn end_of_range(alloc: Global, pairs: &Pairs) -> Result<Option<Text>, AllocError>
+    ensures { IfOk result (λ page. page
+        ≡ spec.end_among (spec.article pairs.now) (first_of pairs.now (codes "rft.spage"))
+        (spec.page_under spec.last_in pairs.now (codes "rft.spage"))) }
+{
+    let number = article(alloc, pairs)?;
+    if is_under_first_page(&number, pairs) {
+        return Ok(None);
+    }
+    let page = last_under(alloc, pairs, "rft.spage")?;
+    Ok(page)
+}
+
+/// The number of the article.
+fn article(alloc: Global, pairs: &Pairs) -> Result<Option<Text>, AllocError>
+    ensures { IfOk result (λ number. number ≡ spec.article pairs.now) }
+{
+    match pairs.first("rft.artnum") {
+        Some(value) => article_in(alloc, value),
+        None => Ok(None),
+    }
+}
+
+/// Whether the key of the first page has the number of the article.
+fn is_under_first_page(number: &Option<Text>, pairs: &Pairs) -> bool
+    ensures { result ≡ is_article number.now (first_of pairs.now (codes "rft.spage")) }
+{
+    match (number, pairs.first("rft.spage")) {
+        (Some(number), Some(value)) => value == number.as_str(),
+        _ => false,
     }
 }
 

@@ -5,6 +5,7 @@ ghost use Rattle.std.specs.Option.{option_copied};
 ghost use Rattle.std.specs.Str.{IsAscii};
 ghost use Rattle.text_model.specs.Texts.{texts_of};
 ghost use Rattle.kev_read.specs.Pairs as spec;
+ghost use Rattle.openurl_reading.specs.Kinds.{has};
 ghost use Rattle.openurl_reading.specs.Values.{values_of};
 
 use std::alloc::{AllocError, Global};
@@ -104,6 +105,13 @@ impl Pairs {
             }
         }
         None
+    }
+
+    /// Whether a key has a value.
+    pub(crate) fn has(&self, key: &str) -> bool
+        ensures { result ≡ has self.now key.now }
+    {
+        self.first(key).is_some()
     }
 
     /// The first values of a key, at most 20.

@@ -1,6 +1,6 @@
 //! Dates in texts.
 
-use publication_dates::date_in;
+use publication_dates::{date_in, days_in};
 use std::alloc::{AllocError, Global};
 use std::test::Fail;
 
@@ -117,6 +117,46 @@ const NAMES: [(&str, &str); 16] = [
 fn names_of_months_are_found(rt: HostRuntime) -> Result<(), Fail> {
     for (text, expected) in NAMES {
         let found = date(rt.alloc(), text)?;
+        assert_eq!(rt; found.as_str(), expected);
+    }
+    Ok(())
+}
+
+/// The first and the last day of the date in a text, with a space between them; empty if there is none.
+fn days(alloc: Global, text: &str) -> Result<String, AllocError> {
+    let mut written = String::new(alloc);
+    if let Some(days) = days_in(alloc, text.as_bytes())? {
+        written.push_str(days.first())?;
+        written.push(' ')?;
+        written.push_str(days.last())?;
+    }
+    Ok(written)
+}
+
+/// ISO 8601: the first and the last day of a year, a month and a day, in the basic format.
+const FIRST_AND_LAST: [(&str, &str); 16] = [
+    ("", ""),
+    ("in press", ""),
+    ("2013", "20130101 20131231"),
+    ("1000", "10000101 10001231"),
+    ("2013-01", "20130101 20130131"),
+    ("2013-04", "20130401 20130430"),
+    ("2013-12", "20131201 20131231"),
+    ("2013-02", "20130201 20130228"),
+    ("2012-02", "20120201 20120229"),
+    ("1900-02", "19000201 19000228"),
+    ("2000-02", "20000201 20000229"),
+    ("2013-08-09", "20130809 20130809"),
+    ("2012-02-29", "20120229 20120229"),
+    ("2013-02-29", "20130201 20130228"),
+    ("Aug 2013", "20130801 20130831"),
+    ("1/2/2013", "20130101 20131231"),
+];
+
+#[test]
+fn first_and_last_days_are_found(rt: HostRuntime) -> Result<(), Fail> {
+    for (text, expected) in FIRST_AND_LAST {
+        let found = days(rt.alloc(), text)?;
         assert_eq!(rt; found.as_str(), expected);
     }
     Ok(())

@@ -7,15 +7,23 @@ mod counted;
 #[cfg(test)]
 mod dates;
 #[cfg(test)]
+mod dublin_core;
+#[cfg(test)]
 mod encodings;
 #[cfg(test)]
 mod enumerations;
+#[cfg(test)]
+mod fields;
 #[cfg(test)]
 mod identifiers;
 #[cfg(test)]
 mod isbns;
 #[cfg(test)]
 mod issns;
+#[cfg(test)]
+mod latex;
+#[cfg(test)]
+mod markup;
 #[cfg(test)]
 mod pages;
 #[cfg(test)]
@@ -30,6 +38,8 @@ mod requests;
 mod retractions;
 #[cfg(test)]
 mod shared;
+#[cfg(test)]
+mod titles;
 #[cfg(test)]
 mod utf8;
 #[cfg(test)]

@@ -98,6 +98,58 @@ const LAST_PAGES: [Case; 8] = [
     ("rft.spage=45-67&rft.epage=last", &[("rft.epage", "last")]),
 ];
 
+/// The number of an article is the first page of a request without a page, and no range.
+const ARTICLES: [Case; 14] = [
+    (
+        "rft.artnum=e1004",
+        &[
+            ("rft.spage", "e1004"),
+            ("rft.epage", ""),
+            ("rft.artnum", "e1004"),
+        ],
+    ),
+    ("artnum=e1004", &[("rft.spage", "e1004")]),
+    ("rft.artnum=+042601+", &[("rft.spage", "042601")]),
+    (
+        "rft.artnum=12-3",
+        &[("rft.spage", "12-3"), ("rft.epage", "")],
+    ),
+    (
+        "rft.artnum=12-3&rft.spage=12-3",
+        &[("rft.spage", "12-3"), ("rft.epage", "")],
+    ),
+    (
+        "rft.artnum=12-13&rft.spage=12-14",
+        &[("rft.spage", "12"), ("rft.epage", "14")],
+    ),
+    ("rft.artnum=e1004&rft.spage=45", &[("rft.spage", "45")]),
+    (
+        "rft.artnum=e1004&rft.spage=N.PAG",
+        &[("rft.spage", "e1004")],
+    ),
+    (
+        "rft.artnum=e1004&rft.pages=101-118",
+        &[("rft.spage", "101")],
+    ),
+    ("rft.artnum=e1004&rft.pages=n/a", &[("rft.spage", "e1004")]),
+    ("rft.artnum=Spring", &[("rft.spage", "")]),
+    ("rft.artnum=12+34", &[("rft.spage", "")]),
+    (
+        "rft.artnum=e234567890123456789012345678901234567890",
+        &[("rft.spage", "e234567890123456789012345678901234567890")],
+    ),
+    (
+        "rft.artnum=e2345678901234567890123456789012345678901",
+        &[("rft.spage", "")],
+    ),
+];
+
+#[test]
+fn numbers_of_articles_are_pages(rt: HostRuntime) -> Result<(), Fail> {
+    assert_eq!(rt; first_difference(rt.alloc(), &ARTICLES)?, None);
+    Ok(())
+}
+
 #[test]
 fn pages_lead_their_keys(rt: HostRuntime) -> Result<(), Fail> {
     assert_eq!(rt; first_difference(rt.alloc(), &UNDER_PAGES)?, None);

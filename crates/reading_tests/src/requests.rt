@@ -151,3 +151,31 @@ fn numbers_and_dates_have_the_forms_of_the_standards(rt: HostRuntime) -> Result<
     assert_eq!(rt; first_difference(rt.alloc(), &FORMS)?, None);
     Ok(())
 }
+
+const DAYS: [Case; 7] = [
+    (
+        "rft.date=2012-02",
+        &[("x.from", "20120201"), ("x.to", "20120229")],
+    ),
+    ("year=1998", &[("x.from", "19980101"), ("x.to", "19981231")]),
+    (
+        "date=20030501",
+        &[("x.from", "20030501"), ("x.to", "20030501")],
+    ),
+    (
+        "rft.date=Summer+2004&rft.date=2001",
+        &[("x.from", "20040101"), ("x.to", "20041231")],
+    ),
+    ("rft.date=in+press", &[("x.from", ""), ("x.to", "")]),
+    ("rft.volume=3", &[("x.from", ""), ("x.to", "")]),
+    (
+        "rft.date=2013&x.from=19000101&x.to=20991231",
+        &[("x.from", "20130101"), ("x.to", "20131231")],
+    ),
+];
+
+#[test]
+fn days_of_dates_are_derived(rt: HostRuntime) -> Result<(), Fail> {
+    assert_eq!(rt; first_difference(rt.alloc(), &DAYS)?, None);
+    Ok(())
+}

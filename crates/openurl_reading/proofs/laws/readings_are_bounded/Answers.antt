@@ -5,11 +5,12 @@ use Rattle.openurl_reading.specs.Reading.{normal_form, with_derived}
 use Rattle.openurl_reading.proofs.FoundAre.{AreFoundIn, found_are}
 use Rattle.openurl_reading.proofs.Identified.{identified}
 use Rattle.openurl_reading.proofs.IdentifierForms.{longest_uri, uri_short, identifier_short}
-use Rattle.openurl_reading.proofs.LowerLaws.{found_short}
+use Rattle.openurl_reading.proofs.LowerLaws.{found_short, days_short}
 use Rattle.openurl_reading.proofs.PagesFound.{pages_short}
 use Rattle.openurl_reading.proofs.VolumeForms.{numbers_short}
 use Rattle.openurl_reading.proofs.VolumeLaws.{NumberLaws, AreFoundNumbers}
-use Rattle.openurl_reading.proofs.Sizes.{AreLight, ArePagesLight, pages_light, reading_weighs, counting_weighs, total-one, source_short}
+use Rattle.openurl_reading.proofs.KeysWeigh.{AreLight, formats_short, source_short}
+use Rattle.openurl_reading.proofs.Sizes.{ArePagesLight, pages_light, reading_weighs, counting_weighs, total-one}
 use Rattle.openurl_reading.proofs.laws.readings_are_bounded.Goals as goal
 
 pub returns-clause-few : goal.returns-clause-few
@@ -22,6 +23,7 @@ returns-clause-few c pairs =
     } in
     let light : AreLight (λ n. 1) 1 (λ namespace. 1) = record {
       found = found_are (λ n. 1 ≤ 1) each;
+      days = λ pairs date e. (omega arith, omega arith);
       version = omega arith;
       source = λ sid. omega arith;
       identified = identified c.identifiers_are_identifiers.ensures.named c.identifiers_are_identifiers.ensures.alone
@@ -37,7 +39,7 @@ returns-clause-few c pairs =
     } in
     omega (
       arith,
-      reading_weighs (λ n. 1) 1 1 1 1 (λ namespace. 1) light numbers pages counted,
+      reading_weighs (λ n. 1) 1 1 1 1 1 (λ namespace. 1) light (λ kind. omega arith) numbers pages counted,
       total-one counted,
       total-one (with_derived (normal_form counted)),
     )
@@ -50,6 +52,7 @@ returns-clause-bytes c pairs =
     let counted = counting pairs in
     let light : AreLight (λ n. length n) 13 longest_uri = record {
       found = found_are (λ n. length n ≤ 13) (found_short c.issns_are_issns.ensures c.isbns_are_isbns.ensures c.dates_are_read.ensures);
+      days = days_short c.dates_are_read.ensures c.days_are_days.ensures.first c.days_are_days.ensures.last;
       version = omega arith;
       source = source_short;
       identified = identified c.identifiers_are_identifiers.ensures.named c.identifiers_are_identifiers.ensures.alone
@@ -70,4 +73,8 @@ returns-clause-bytes c pairs =
       supplement_alone = c.supplements_stay.ensures.alone;
       after_number = c.supplements_stay.ensures.after_number;
     }) in
-    omega (arith, reading_weighs (λ n. length n) 13 407 200 400 longest_uri light numbers pages counted, counting_weighs (λ n. length n) pairs)
+    omega (
+      arith,
+      reading_weighs (λ n. length n) 13 33 407 200 400 longest_uri light formats_short numbers pages counted,
+      counting_weighs (λ n. length n) pairs,
+    )
