@@ -107,7 +107,7 @@ class Chapters(SiteCase):
         """What the chapter says that the commands print if no process answers."""
         self.site.kill()
         health, process, page = seen(self.site, "curl").values()
-        self.expect("no process", (health, "200" in process, page), ("no process answers", False, "503"))
+        self.expect("no process", (health, process.split()[0], page), ("no process answers", "000", "503"))
 
     def test_limits(self) -> None:
         """The edit of Debian's nginx.conf: nginx accepts it, and a second one changes nothing."""
