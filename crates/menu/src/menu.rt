@@ -40,6 +40,13 @@ impl<'a> Menu<'a> {
         Menu { list: entries }
     }
 
+    /// The entries, one for each target, in their order.
+    pub fn entries(&self) -> &[MenuEntry<'a>]
+        ensures { result.now ≡ self.now }
+    {
+        &self.list
+    }
+
     /// Whether no target has a link.
     #[tactic(auto, using(crate::proofs::LinkLemmas::no_links))]
     pub fn is_empty(&self) -> bool

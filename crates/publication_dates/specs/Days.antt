@@ -12,7 +12,7 @@ basic date = filter (λ b. not (b == hyphen)) date
 abbrev pub two_digits : ℕ → Text
 two_digits n = (zero_digit + n / 10) ∷ (zero_digit + n % 10) ∷ []
 
--- a text of so many bytes with a part after it; any other text as it is
+-- a text of that many bytes with a part after it; any other text as it is
 abbrev pub completed : ℕ → Text → Text → Text
 completed n part digits = if length digits == n then digits ++ part else digits
 
