@@ -1,23 +1,24 @@
 -- What follows from the form of an identifier.
-use Rattle.std.proofs.Common.{◌≡◌, ℕ, ◌+◌, ◌<◌, ◌≤◌, [], ◌∷◌, Bool, true, false, cond, ◌&&◌, Some, None, length, drop}
-use Rattle.std.proofs.Common.{refl, sym, ap, ◌∙◌, subst, arith}
+use Rattle.std.proofs.Common.{◌≡◌, ℕ, ◌+◌, ◌<◌, ◌≤◌, [], ◌∷◌, ◌++◌, Bool, true, false, cond, ◌&&◌, Some, None, length, take, drop}
+use Rattle.std.proofs.Common.{refl, sym, ap, ◌∙◌, subst, arith, append-nil}
 use Rattle.std.specs.Prelude.{nat_le}
 use Rattle.std.specs.Char.{is_ascii_digit}
-use Rattle.std.specs.List.{All, list_all, prefix_len}
+use Rattle.std.specs.List.{list_all, prefix_len}
 use Rattle.std.specs.Str.{IsAscii}
 use Rattle.std.proofs.lemmas.Bool.{and_parts, and_from, not-true, eqb-true, leb-true, le-leb}
 use Rattle.std.proofs.lemmas.Bool.Decides.{nat_tests}
-use Rattle.std.proofs.lemmas.List.{take_all}
-use Rattle.std.proofs.lemmas.List.Elements.{All-weaker, All-get_or}
-use Rattle.std.proofs.lemmas.List.Sums.{AllPass-from_list_all, prefix_len_is, take_while-cons}
+use Rattle.std.proofs.lemmas.List.{take_all, drop_all}
+use Rattle.std.proofs.lemmas.List.Elements.{All-weaker}
+use Rattle.std.proofs.lemmas.List.Sums.{AllPass-from_list_all, take_while-cons}
 use Rattle.std.proofs.lemmas.Str.Ascii.{IsAscii-from_all}
 use Rattle.text_model.specs.Texts.{Text}
 use Rattle.work_identifiers.specs.declared.namespace.Namespace.{Namespace}
-use Rattle.work_identifiers.specs.declared.namespace.Namespace.TheVariants.{Doi, Pmid, Oclc}
+use Rattle.work_identifiers.specs.declared.namespace.Namespace.TheVariants.{Doi, Pmid, Oclc, Pmc, Arxiv}
 use Rattle.work_identifiers.specs.Ends.{is_before, from_start, ends_loosely, is_no_break, first_part, to_end}
 use Rattle.work_identifiers.specs.Forms.{most_bytes, is_visible, is_doi_prefix, is_doi, is_number, has_form, is_identifier}
-use Rattle.work_identifiers.specs.Places.{part, identifier_at}
+use Rattle.work_identifiers.specs.Places.{is_no_stop, is_version, unversioned, part, identifier_at}
 use Rattle.work_identifiers.proofs.EndSteps.{to_end-same}
+use Rattle.work_identifiers.proofs.Preprints.{Pass, digits_pass, while_front, passes_whole, preprint_same, arxiv_ascii, arxiv_begins}
 
 -- ---- ASCII
 
@@ -37,6 +38,8 @@ form_ascii : (namespace : Namespace) (n : Text) → has_form namespace n ≡ tru
 form_ascii Doi n h = visible_ascii n (and_parts _ _ h).1
 form_ascii Pmid n h = digits_ascii n (and_parts _ _ h).1
 form_ascii Oclc n h = digits_ascii n (and_parts _ _ h).1
+form_ascii Pmc n h = digits_ascii n (and_parts _ _ h).1
+form_ascii Arxiv n h = arxiv_ascii n h
 
 pub identifier_ascii : (namespace : Namespace) (n : Text) → is_identifier namespace n ≡ true → IsAscii n
 identifier_ascii namespace n h = form_ascii namespace n (and_parts _ _ h).1
@@ -46,13 +49,26 @@ identifier_ascii namespace n h = form_ascii namespace n (and_parts _ _ h).1
 digit_joins : (b : ℕ) → is_ascii_digit b ≡ true → is_no_break b ≡ true
 digit_joins b h = grind (arith, nat_tests)
 
-digits_joined : (t : Text) → list_all is_ascii_digit t ≡ true → first_part t ≡ t
+pub digits_joined : (t : Text) → list_all is_ascii_digit t ≡ true → first_part t ≡ t
 digits_joined t h =
-    let all : All (λ b. is_no_break b ≡ true) t =
-    All-weaker (λ b. is_ascii_digit b ≡ true) (λ b. is_no_break b ≡ true) digit_joins t (AllPass-from_list_all is_ascii_digit t h) in
-    let n : prefix_len is_no_break t ≡ length t =
-    prefix_len_is is_no_break t (length t) 0 (omega arith) (λ k g. All-get_or (λ b. is_no_break b ≡ true) t k 0 g all) (λ g. absurd (omega arith)) in
+    let all : Pass is_no_break t = All-weaker (λ b. is_ascii_digit b ≡ true) (λ b. is_no_break b ≡ true) digit_joins t (digits_pass t h) in
+    let n : prefix_len is_no_break t ≡ length t = passes_whole is_no_break t all in
     take_all (prefix_len is_no_break t) t (omega (arith, n))
+
+pub digits_before_slash : (t : Text) → list_all is_ascii_digit t ≡ true → first_part (t ++ 0x2f ∷ []) ≡ t
+digits_before_slash t h =
+    let all : Pass is_no_break t = All-weaker (λ b. is_ascii_digit b ≡ true) (λ b. is_no_break b ≡ true) digit_joins t (digits_pass t h) in
+    while_front is_no_break t (0x2f ∷ []) all ∙ append-nil t
+
+digit_is_no_stop : (b : ℕ) → is_ascii_digit b ≡ true → is_no_stop b ≡ true
+digit_is_no_stop b h = grind (arith, nat_tests)
+
+pub digits_unversioned : (t : Text) → list_all is_ascii_digit t ≡ true → unversioned t ≡ t
+digits_unversioned t h =
+    let all : Pass is_no_stop t = All-weaker (λ b. is_ascii_digit b ≡ true) (λ b. is_no_stop b ≡ true) digit_is_no_stop t (digits_pass t h) in
+    let n : prefix_len is_no_stop t ≡ length t = passes_whole is_no_stop t all in
+    let none : drop (prefix_len is_no_stop t) t ≡ [] = drop_all (prefix_len is_no_stop t) t (omega (arith, n)) in
+    ap (λ rest. cond (is_version rest) (take (prefix_len is_no_stop t) t) t) none
 
 firm : (namespace : Namespace) (n : Text) → is_identifier namespace n ≡ true → to_end n ≡ n
 firm namespace n h = to_end-same n (not-true (ends_loosely n) (and_parts _ _ (and_parts _ _ h).0).1)
@@ -61,6 +77,10 @@ pub part_same : (namespace : Namespace) (n : Text) → is_identifier namespace n
 part_same Doi n h = firm Doi n h
 part_same Pmid n h = ap to_end (digits_joined n (and_parts _ _ (and_parts _ _ h).1).1) ∙ firm Pmid n h
 part_same Oclc n h = ap to_end (digits_joined n (and_parts _ _ (and_parts _ _ h).1).1) ∙ firm Oclc n h
+part_same Pmc n h =
+    let digits = (and_parts _ _ (and_parts _ _ h).1).1 in
+    ap (λ t. unversioned (to_end t)) (digits_joined n digits) ∙ ap unversioned (firm Pmc n h) ∙ digits_unversioned n digits
+part_same Arxiv n h = ap to_end (preprint_same n (and_parts _ _ h).1) ∙ firm Arxiv n h
 
 -- ---- where an identifier is
 
@@ -113,10 +133,10 @@ doi_begins b t h =
     by_test true g = eqb-true b 0x31 (and_parts _ _ (and_parts _ _ g).0).0
     by_test false g = cc
 
-starts : (b : ℕ) (t : Text) → is_before b ≡ false → from_start (b ∷ t) ≡ b ∷ t
+pub starts : (b : ℕ) (t : Text) → is_before b ≡ false → from_start (b ∷ t) ≡ b ∷ t
 starts b t h = ap (λ c. drop (cond c (1 + prefix_len is_before t) 0) (b ∷ t)) h
 
-digit_starts : (b : ℕ) → is_ascii_digit b ≡ true → is_before b ≡ false
+pub digit_starts : (b : ℕ) → is_ascii_digit b ≡ true → is_before b ≡ false
 digit_starts b h = grind (arith, nat_tests)
 
 number_starts : (most : ℕ) (n : Text) → is_number most n ≡ true → from_start n ≡ n
@@ -128,6 +148,9 @@ form_starts Doi [] h = cc
 form_starts Doi (b ∷ t) h = starts b t (ap is_before (doi_begins b t h))
 form_starts Pmid n h = number_starts 9 n h
 form_starts Oclc n h = number_starts 12 n h
+form_starts Pmc n h = number_starts 9 n h
+form_starts Arxiv [] h = cc
+form_starts Arxiv (b ∷ t) h = starts b t (arxiv_begins b t h)
 
 pub identifier_starts : (namespace : Namespace) (n : Text) → is_identifier namespace n ≡ true → from_start n ≡ n
 identifier_starts namespace n h = form_starts namespace n (and_parts _ _ h).1

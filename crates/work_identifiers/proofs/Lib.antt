@@ -1,5 +1,11 @@
+pub mod AddressParts
+pub mod AddressSteps
+pub mod AnyTexts
 pub mod EndSteps
 pub mod Finding
 pub mod FormLaws
+pub mod FoundAgain
 pub mod Parts
-pub mod Uris
+pub mod PreprintForms
+pub mod PreprintDois
+pub mod Preprints

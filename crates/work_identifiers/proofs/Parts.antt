@@ -2,15 +2,18 @@
 use Rattle.std.proofs.Common.{◌≡◌, ℕ, zero, suc, ◌+◌, ◌≤◌, List, [], ◌∷◌, ◌++◌, Bool, true, false, cond, Option, Some}
 use Rattle.std.proofs.Common.{None, length, take, drop, refl, sym, ap, ◌∙◌, subst, arith}
 use Rattle.std.specs.List.{All, filter_map, prefix_len}
-use Rattle.std.proofs.lemmas.List.{drop-drop, take-take, length-take}
+use Rattle.std.proofs.lemmas.List.{drop-drop, take_all, take-take, length-take}
+use Rattle.std.proofs.lemmas.Bool.{leb-true, leb-false}
+use Rattle.std.specs.Prelude.{nat_le}
 use Rattle.std.proofs.lemmas.List.Elements.{All-append, All-cons, All-head, All-tail}
 use Rattle.text_model.specs.Texts.{Text}
 use Rattle.uri_text.specs.AnyCase.{begins_in_any_case}
 use Rattle.work_identifiers.specs.declared.namespace.Namespace.{Namespace}
-use Rattle.work_identifiers.specs.declared.namespace.Namespace.TheVariants.{Doi, Pmid, Oclc}
+use Rattle.work_identifiers.specs.declared.namespace.Namespace.TheVariants.{Doi, Pmid, Oclc, Pmc, Arxiv}
 use Rattle.work_identifiers.specs.Ends.{is_before, is_no_break, from_start, ends_loosely, cut_at, to_end, first_part}
-use Rattle.work_identifiers.specs.Forms.{IsIdentifier}
+use Rattle.work_identifiers.specs.Forms.{is_digit_or_stop, lead_length, IsIdentifier}
 use Rattle.work_identifiers.specs.Places.{words, hosts, schemes, after, after_any, after_words, after_addresses, named_places, places, part, identifier_at}
+use Rattle.work_identifiers.specs.Places.{is_no_stop, is_version, unversioned, preprint}
 use Rattle.work_identifiers.specs.Places.{identifier_in, identifier_alone, IsPartOf}
 use Rattle.work_identifiers.proofs.Finding.{first_found, first_none, first_some, first_has}
 use Rattle.work_identifiers.proofs.FormLaws.{at_is}
@@ -18,15 +21,23 @@ use Rattle.work_identifiers.proofs.FormLaws.{at_is}
 -- ---- parts of parts
 
 -- the end of a text, from one of its bytes on
-IsRest : Text → Text → Type 0
+unfoldable pub IsRest : Text → Text → Type 0
 IsRest text rest = (start : ℕ) × (rest ≡ drop start text)
 
 drop_twice : (text : Text) (a b : ℕ) → drop b (drop a text) ≡ drop (a + b) text
 drop_twice text a b = drop-drop b a text
 
-rest_of_rest : (text rest : Text) (n : ℕ) → IsRest text rest → IsRest text (drop n rest)
+pub rest_of_rest : (text rest : Text) (n : ℕ) → IsRest text rest → IsRest text (drop n rest)
 unfolding IsRest
 rest_of_rest text rest n is = (is.0 + n, ap (drop n) is.1 ∙ drop_twice text is.0 n)
+
+-- the beginning of a beginning
+pub take_twice : (a b : ℕ) (t : Text) → (count : ℕ) × (take a (take b t) ≡ take count t)
+take_twice a b t = by_order (nat_le a b) refl
+  where
+    by_order : (c : Bool) → nat_le a b ≡ c → (count : ℕ) × (take a (take b t) ≡ take count t)
+    by_order true h = (a, take-take a b t (leb-true a b h))
+    by_order false h = (b, take_all a (take b t) (omega (arith, leb-false a b h, length-take b t)))
 
 -- ---- where one may begin
 
@@ -88,6 +99,8 @@ places_are : (namespace : Namespace) (text t : Text) → IsRest text t → All (
 places_are Doi text t is = All-cons (IsRest text) t (named_places Doi t) is (named_are Doi text t is)
 places_are Pmid text t is = named_are Pmid text t is
 places_are Oclc text t is = named_are Oclc text t is
+places_are Pmc text t is = named_are Pmc text t is
+places_are Arxiv text t is = named_are Arxiv text t is
 
 -- ---- the identifier there
 
@@ -112,17 +125,40 @@ number_front t =
     let few : front.0 ≤ k = omega (arith, front.1, length-take k t) in
     (front.0, front.2 ∙ take-take front.0 k t few)
 
-part_front : (namespace : Namespace) (t : Text) → (count : ℕ) × (part namespace t ≡ take count t)
+unversioned_front : (t front : Text) → (count : ℕ) × (front ≡ take count t) → (count : ℕ) × (unversioned front ≡ take count t)
+unversioned_front t front is = by_test (is_version (drop (prefix_len is_no_stop front) front))
+  where
+    n : ℕ
+    n = prefix_len is_no_stop front
+
+    both : (count : ℕ) × (take n (take is.0 t) ≡ take count t)
+    both = take_twice n is.0 t
+
+    by_test : (c : Bool) → (count : ℕ) × (cond c (take n front) front ≡ take count t)
+    by_test true = (both.0, ap (take n) is.1 ∙ both.1)
+    by_test false = is
+
+pub part_front : (namespace : Namespace) (t : Text) → (count : ℕ) × (part namespace t ≡ take count t)
 unfolding IsFront
 part_front Doi t = let front = cut_front (length t) t in (front.0, front.2)
 part_front Pmid t = number_front t
 part_front Oclc t = number_front t
+part_front Pmc t = unversioned_front t (to_end (first_part t)) (number_front t)
+part_front Arxiv t =
+    let k = lead_length t + prefix_len is_digit_or_stop (drop (lead_length t) t) in
+    let front = cut_front (length (preprint t)) (preprint t) in
+    let few : front.0 ≤ k = omega (arith, front.1, length-take k t) in
+    (front.0, front.2 ∙ take-take front.0 k t few)
 
 at_part : (namespace : Namespace) (text t n : Text) → IsRest text t → identifier_at namespace t ≡ Some n → IsPartOf text n
 unfolding IsRest
 at_part namespace text t n is h =
     let front = part_front namespace t in
     (is.0, front.0, (at_is namespace t n h).0 ∙ front.1 ∙ ap (take front.0) is.1)
+
+pub whole_rest : (text : Text) → IsRest text text
+unfolding IsRest
+whole_rest text = (0, refl)
 
 start_rest : (text : Text) → IsRest text (from_start text)
 unfolding IsRest

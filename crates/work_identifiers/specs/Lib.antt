@@ -1,3 +1,5 @@
+pub mod Addresses
 pub mod Ends
 pub mod Forms
 pub mod Places
+pub mod Uris

@@ -1,12 +1,13 @@
--- Where an identifier may begin in a text: after words, and after the address of a resolver.
-use Rattle.std.specs.Prelude.{◌≡◌, ℕ, ◌&&◌, nat_le, List, [], ◌∷◌, ◌++◌, codes, length, take, drop, slice_get, Option, Some, None, if◌then◌else◌}
-use Rattle.std.specs.List.{filter_map, flat_map}
+-- Where an identifier may begin in a text: after words, and after the address of a resolver or a page.
+use Rattle.std.specs.Prelude.{◌≡◌, ℕ, ◌+◌, ◌&&◌, ◌==◌, not, nat_le, Bool, false, List, [], ◌∷◌, ◌++◌, codes, length, take, drop, slice_get}
+use Rattle.std.specs.Prelude.{Option, Some, None, if◌then◌else◌}
+use Rattle.std.specs.List.{filter_map, flat_map, prefix_len}
 use Rattle.text_model.specs.Texts.{Text}
 use Rattle.uri_text.specs.AnyCase.{begins_in_any_case}
 use Rattle.work_identifiers.specs.declared.namespace.Namespace.{Namespace}
-use Rattle.work_identifiers.specs.declared.namespace.Namespace.TheVariants.{Doi, Pmid, Oclc}
+use Rattle.work_identifiers.specs.declared.namespace.Namespace.TheVariants.{Doi, Pmid, Oclc, Pmc, Arxiv}
 use Rattle.work_identifiers.specs.Ends.{from_start, to_end, first_part}
-use Rattle.work_identifiers.specs.Forms.{most_bytes, is_identifier}
+use Rattle.work_identifiers.specs.Forms.{most_bytes, is_digit_or_stop, is_number, lead_length, is_identifier}
 
 -- ---- what may be before an identifier, in capital or small letters
 
@@ -15,6 +16,10 @@ words Doi = codes "info:doi/" ∷ codes "info:doi" ∷ codes "urn:doi" ∷ codes
 words Pmid = codes "info:pmid/" ∷ codes "info:pmid" ∷ codes "pmid" ∷ codes "pubmed id" ∷ codes "pubmed" ∷ []
 words Oclc =
     codes "info:oclcnum/" ∷ codes "info:oclcnum" ∷ codes "oclcnum" ∷ codes "oclc" ∷ codes "ocolc)" ∷ codes "ocm" ∷ codes "ocn" ∷ []
+words Pmc = codes "info:pmcid/" ∷ codes "info:pmc/" ∷ codes "info:pmcid" ∷ codes "info:pmc" ∷ codes "pmcid" ∷ codes "pmc" ∷ []
+words Arxiv =
+    codes "info:doi/10.48550/arxiv." ∷ codes "info:arxiv/" ∷ codes "info:arxiv" ∷ codes "oai:arxiv.org:" ∷ codes "arxiv" ∷
+    codes "doi:10.48550/arxiv." ∷ codes "10.48550/arxiv." ∷ []
 
 -- what an address begins with
 abbrev pub schemes : List Text
@@ -27,6 +32,14 @@ hosts Pmid =
     codes "pubmed.ncbi.nlm.nih.gov/" ∷ codes "www.ncbi.nlm.nih.gov/pubmed/" ∷ codes "ncbi.nlm.nih.gov/pubmed/" ∷ codes "pubmed.gov/" ∷
     codes "www.pubmed.gov/" ∷ codes "pubmed.ncbi.nlm.nih.gov/?term=" ∷ codes "www.ncbi.nlm.nih.gov/pubmed/?term=" ∷ []
 hosts Oclc = codes "worldcat.org/oclc/" ∷ codes "www.worldcat.org/oclc/" ∷ []
+hosts Pmc =
+    codes "pmc.ncbi.nlm.nih.gov/articles/pmc" ∷ codes "www.ncbi.nlm.nih.gov/pmc/articles/pmc" ∷ codes "ncbi.nlm.nih.gov/pmc/articles/pmc" ∷
+    codes "europepmc.org/article/pmc/pmc" ∷ codes "www.europepmc.org/article/pmc/pmc" ∷ codes "europepmc.org/articles/pmc" ∷
+    codes "www.europepmc.org/articles/pmc" ∷ []
+hosts Arxiv =
+    codes "arxiv.org/abs/" ∷ codes "arxiv.org/pdf/" ∷ codes "arxiv.org/html/" ∷ codes "www.arxiv.org/abs/" ∷ codes "www.arxiv.org/pdf/" ∷
+    codes "www.arxiv.org/html/" ∷ codes "export.arxiv.org/abs/" ∷ codes "export.arxiv.org/pdf/" ∷ codes "export.arxiv.org/html/" ∷
+    codes "doi.org/10.48550/arxiv." ∷ codes "dx.doi.org/10.48550/arxiv." ∷ codes "www.doi.org/10.48550/arxiv." ∷ []
 
 -- ---- where one may begin
 
@@ -59,14 +72,34 @@ abbrev pub places : Namespace → Text → List Text
 places Doi text = text ∷ named_places Doi text
 places Pmid text = named_places Pmid text
 places Oclc text = named_places Oclc text
+places Pmc text = named_places Pmc text
+places Arxiv text = named_places Arxiv text
 
 -- ---- the identifier in a text
+
+abbrev pub is_no_stop : ℕ → Bool
+is_no_stop b = not (b == 0x2e)
+
+-- one to three digits, after a full stop
+abbrev pub is_version : Text → Bool
+is_version [] = false
+is_version (stop ∷ digits) = is_number 3 digits
+
+-- a number without such a version
+abbrev pub unversioned : Text → Text
+unversioned text = let number = prefix_len is_no_stop text in if is_version (drop number text) then take number text else text
+
+-- the archive, and the digits and full stops after it: not a version, as in `2101.00001v2`, or the ending of a file
+abbrev pub preprint : Text → Text
+preprint text = let lead = lead_length text in take (lead + prefix_len is_digit_or_stop (drop lead text)) text
 
 -- the part of a text that would be its identifier
 abbrev pub part : Namespace → Text → Text
 part Doi text = to_end text
 part Pmid text = to_end (first_part text)
 part Oclc text = to_end (first_part text)
+part Pmc text = unversioned (to_end (first_part text))
+part Arxiv text = to_end (preprint text)
 
 -- the identifier with which a text begins, and that it has nothing but
 abbrev pub identifier_at : Namespace → Text → Option Text

@@ -5,6 +5,7 @@ ghost use Rattle.std.specs.Char.{is_ascii_digit};
 ghost use Rattle.std.specs.List.{list_all};
 ghost use Rattle.work_identifiers.specs.Forms as spec;
 
+use crate::arxiv::is_arxiv;
 use crate::ends::{ends_loosely, first_part};
 use crate::namespace::Namespace;
 
@@ -25,6 +26,8 @@ fn has_form(namespace: Namespace, text: &[u8]) -> bool
         Namespace::Doi => is_doi(text),
         Namespace::Pmid => is_number(9, text),
         Namespace::Oclc => is_number(12, text),
+        Namespace::Pmc => is_number(9, text),
+        Namespace::Arxiv => is_arxiv(text),
     }
 }
 
@@ -52,13 +55,13 @@ fn is_registrant(code: &[u8]) -> bool
     is_between(4, 20, code.len()) && are_digits_or_stops(code)
 }
 
-fn is_between(low: usize, high: usize, number: usize) -> bool
+pub(crate) fn is_between(low: usize, high: usize, number: usize) -> bool
     ensures { result ≡ spec.is_between low high number }
 {
     low <= number && number <= high
 }
 
-fn are_digits(text: &[u8]) -> bool
+pub(crate) fn are_digits(text: &[u8]) -> bool
     ensures { result ≡ list_all is_ascii_digit text.now }
 {
     text.iter().all(|byte| byte.is_ascii_digit())
@@ -76,7 +79,7 @@ fn are_visible(text: &[u8]) -> bool
     text.iter().all(|byte| is_visible(*byte))
 }
 
-fn is_digit_or_stop(byte: u8) -> bool
+pub(crate) fn is_digit_or_stop(byte: u8) -> bool
     ensures { result ≡ spec.is_digit_or_stop byte }
 {
     byte.is_ascii_digit() || byte == b'.'
@@ -89,7 +92,7 @@ fn is_visible(byte: u8) -> bool
 }
 
 /// Whether these are digits, at least one and at most `most`.
-fn is_number(most: usize, text: &[u8]) -> bool
+pub(crate) fn is_number(most: usize, text: &[u8]) -> bool
     ensures { result ≡ spec.is_number most text.now }
 {
     is_between(1, most, text.len()) && are_digits(text)

@@ -1,10 +1,15 @@
 //! What follows from the definitions. These functions have empty bodies; each contract is a theorem.
 
-ghost use Rattle.std.specs.Prelude.{◌≡◌, ◌≢◌, ◌++◌, Some, None};
+ghost use Rattle.std.specs.Prelude.{◌≡◌, ◌≢◌, ◌≤◌, ◌++◌, Some, None, false, length};
 ghost use Rattle.text_model.specs.Texts.{Text};
 ghost use Rattle.work_identifiers.specs.declared.namespace.Namespace.{Namespace};
-ghost use Rattle.work_identifiers.specs.Forms.{IsIdentifier, uri_start};
+ghost use Rattle.work_identifiers.specs.Forms.{IsIdentifier};
 ghost use Rattle.work_identifiers.specs.Places.{IsPartOf, identifier_alone, identifier_in};
+ghost use Rattle.work_identifiers.specs.Uris.{arxiv_doi, arxiv_start, canonical, longest_uri};
+ghost use Rattle.work_identifiers.specs.Uris.{registered, uri_of, uri_start};
+ghost use Rattle.work_identifiers.specs.Addresses.{doi_in_address};
+ghost use Rattle.work_identifiers.specs.declared.namespace.Namespace.TheVariants.{Doi, Arxiv};
+ghost use Rattle.uri_text.specs.AnyCase.{begins_in_any_case};
 
 /// What is found has the form of an identifier of its namespace.
 pub fn identifiers_are_identifiers()
@@ -22,16 +27,37 @@ pub fn identifiers_are_parts()
         → identifier_alone namespace text ≡ Some identifier → IsPartOf text identifier }
 {}
 
-/// The URI of an identifier has it, and an identifier alone is itself. So what was found is found again.
+/// The URI of an identifier has it, in the form that it has there, and an identifier alone is itself. So what was found
+/// is found again.
 pub fn identifiers_stay()
     ensures named { (namespace : Namespace) (identifier : Text) → IsIdentifier namespace identifier
-        → identifier_in namespace (uri_start namespace ++ identifier) ≡ Some identifier }
+        → identifier_in namespace (uri_of namespace identifier) ≡ Some (canonical namespace identifier) }
     ensures alone { (namespace : Namespace) (identifier : Text) → IsIdentifier namespace identifier
         → identifier_alone namespace identifier ≡ Some identifier }
 {}
 
-/// The URI of an identifier has none of another namespace.
+/// The URI of an identifier has at most this many bytes: 509 for a DOI, and 51 for any other.
+pub fn uris_are_short()
+    ensures { (namespace : Namespace) (identifier : Text) → IsIdentifier namespace identifier
+        → length (uri_of namespace identifier) ≤ longest_uri namespace }
+{}
+
+/// The URI of an identifier has none of another namespace. That of arXiv is the URI of a DOI.
 pub fn uris_have_one_namespace()
-    ensures { (namespace other : Namespace) (text : Text) → other ≢ namespace
+    ensures { (namespace other : Namespace) (text : Text) → registered other ≢ registered namespace
         → identifier_in other (uri_start namespace ++ text) ≡ None }
+{}
+
+/// An identifier of arXiv has a DOI, whose URI is its own, and the URI of no other DOI has an identifier of arXiv.
+pub fn preprints_have_dois()
+    ensures doi { (identifier : Text) → IsIdentifier Arxiv identifier → IsIdentifier Doi (arxiv_doi identifier) }
+    ensures uri { (identifier : Text) → uri_of Arxiv identifier ≡ uri_of Doi (arxiv_doi identifier) }
+    ensures others { (text : Text) → begins_in_any_case text arxiv_start ≡ false
+        → identifier_in Arxiv (uri_start Doi ++ text) ≡ None }
+{}
+
+/// What is found in the address of a page is a DOI, and a part of the address.
+pub fn dois_in_addresses_are_dois()
+    ensures are { (address doi : Text) → doi_in_address address ≡ Some doi → IsIdentifier Doi doi }
+    ensures parts { (address doi : Text) → doi_in_address address ≡ Some doi → IsPartOf address doi }
 {}

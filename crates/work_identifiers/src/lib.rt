@@ -1,4 +1,5 @@
-//! Identifiers of works in texts of any source: DOIs (ISO 26324), and the numbers of PubMed and of OCLC.
+//! Identifiers of works in texts of any source: DOIs (ISO 26324), the numbers of PubMed, of PubMed Central and of OCLC,
+//! and the identifiers of arXiv.
 //!
 //! ```rust
 //! let doi = identifier_in(rt.alloc(), Namespace::Doi, b"https://doi.org/10.1000/182.")?;
@@ -6,23 +7,32 @@
 //! ```
 //!
 //! A text has an identifier if it has nothing else but a word or two that say what it is, the address of its resolver,
-//! and what sources write around it: spaces, quotes, brackets and punctuation.
+//! and what sources write around it: spaces, quotes, brackets and punctuation. The address of a publisher's page may
+//! have a DOI anywhere: `doi_in_address` finds it.
 //!
 //! Differences from the standards and from what sources send:
 //!
 //! - A DOI has visible characters of ASCII alone, at most 500, and the code of its registrant has digits and full
 //!   stops, 4 to 20 of them.
-//! - A number of PubMed has at most 9 digits, and one of OCLC at most 12.
+//! - A number of PubMed has at most 9 digits, one of PubMed Central too, and one of OCLC at most 12.
+//! - A number of PubMed Central is without `PMC` and without the version that may be after it, as in `PMC7.1`.
+//! - An identifier of arXiv is without its version. What is after its last digit is not read, as in `2101.00001v2.pdf`.
+//! - The DOI of an identifier of arXiv has both: a DOI, and that identifier.
 //! - A closing bracket at the end of an identifier is a part of it if its opening one is. Other punctuation there is
 //!   none, though a DOI may end with it.
 //! - Percent-encoding is not decoded, and spaces and quotes beyond ASCII are parts of a text like any others.
 #![tactic(auto)]
 
+mod addresses;
+mod arxiv;
 mod ends;
 mod forms;
 pub mod laws;
 mod namespace;
 mod places;
+mod uris;
 
+pub use addresses::doi_in_address;
 pub use namespace::Namespace;
 pub use places::{identifier_alone, identifier_in};
+pub use uris::uri_of;

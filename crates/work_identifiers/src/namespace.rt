@@ -2,10 +2,10 @@
 
 ghost use Rattle.std.specs.Prelude.{◌≡◌};
 ghost use Rattle.text_model.specs.Texts.{texts_of};
-ghost use Rattle.work_identifiers.specs.Forms.{uri_start};
 ghost use Rattle.work_identifiers.specs.Places as spec;
+ghost use Rattle.work_identifiers.specs.Uris.{uri_end, uri_start};
 
-/// A namespace of identifiers, each with its URIs in `info` (RFC 4452).
+/// A namespace of identifiers, with its URIs: in `info` (RFC 4452), or addresses.
 #[derive(Clone, Copy)]
 pub enum Namespace {
     /// DOIs (ISO 26324), `info:doi/`.
@@ -14,6 +14,10 @@ pub enum Namespace {
     Pmid,
     /// The numbers of OCLC, `info:oclcnum/`.
     Oclc,
+    /// The numbers of PubMed Central, addresses of its articles.
+    Pmc,
+    /// The identifiers of arXiv; their URIs are those of the DOIs that arXiv has registered.
+    Arxiv,
 }
 
 impl Namespace {
@@ -25,6 +29,18 @@ impl Namespace {
             Namespace::Doi => "info:doi/",
             Namespace::Pmid => "info:pmid/",
             Namespace::Oclc => "info:oclcnum/",
+            Namespace::Pmc => "https://pmc.ncbi.nlm.nih.gov/articles/PMC",
+            Namespace::Arxiv => "info:doi/10.48550/arXiv.",
+        }
+    }
+
+    /// What it ends with.
+    pub fn uri_end(self) -> &'static str
+        ensures { result.now ≡ uri_end self }
+    {
+        match self {
+            Namespace::Pmc => "/",
+            Namespace::Doi | Namespace::Pmid | Namespace::Oclc | Namespace::Arxiv => "",
         }
     }
 
@@ -44,10 +60,27 @@ impl Namespace {
                 "ocm",
                 "ocn",
             ],
+            Namespace::Pmc => &[
+                "info:pmcid/",
+                "info:pmc/",
+                "info:pmcid",
+                "info:pmc",
+                "pmcid",
+                "pmc",
+            ],
+            Namespace::Arxiv => &[
+                "info:doi/10.48550/arxiv.",
+                "info:arxiv/",
+                "info:arxiv",
+                "oai:arxiv.org:",
+                "arxiv",
+                "doi:10.48550/arxiv.",
+                "10.48550/arxiv.",
+            ],
         }
     }
 
-    /// What addresses of resolvers have after their schemes.
+    /// What addresses of resolvers and pages have after their schemes.
     pub(crate) fn hosts(self) -> &'static [&'static str]
         ensures { texts_of result.now ≡ spec.hosts self }
     {
@@ -63,6 +96,29 @@ impl Namespace {
                 "www.ncbi.nlm.nih.gov/pubmed/?term=",
             ],
             Namespace::Oclc => &["worldcat.org/oclc/", "www.worldcat.org/oclc/"],
+            Namespace::Pmc => &[
+                "pmc.ncbi.nlm.nih.gov/articles/pmc",
+                "www.ncbi.nlm.nih.gov/pmc/articles/pmc",
+                "ncbi.nlm.nih.gov/pmc/articles/pmc",
+                "europepmc.org/article/pmc/pmc",
+                "www.europepmc.org/article/pmc/pmc",
+                "europepmc.org/articles/pmc",
+                "www.europepmc.org/articles/pmc",
+            ],
+            Namespace::Arxiv => &[
+                "arxiv.org/abs/",
+                "arxiv.org/pdf/",
+                "arxiv.org/html/",
+                "www.arxiv.org/abs/",
+                "www.arxiv.org/pdf/",
+                "www.arxiv.org/html/",
+                "export.arxiv.org/abs/",
+                "export.arxiv.org/pdf/",
+                "export.arxiv.org/html/",
+                "doi.org/10.48550/arxiv.",
+                "dx.doi.org/10.48550/arxiv.",
+                "www.doi.org/10.48550/arxiv.",
+            ],
         }
     }
 }

@@ -1,14 +1,15 @@
 //! Where an identifier may begin in a text.
 
-ghost use Rattle.std.specs.Prelude.{◌≡◌, ◌++◌, ◌∷◌, [], IfOk, IfSome, OnOk};
-ghost use Rattle.std.specs.List.{filter_map};
+ghost use Rattle.std.specs.Prelude.{◌≡◌, ◌≤◌, ◌++◌, ◌∷◌, [], IfOk, IfSome, OnOk, length};
+ghost use Rattle.std.specs.List.{filter_map, prefix_len};
 ghost use Rattle.std.specs.Option.{option_copied};
 ghost use Rattle.std.specs.Str.{IsAscii};
 ghost use Rattle.text_model.specs.Texts.{texts_of};
 ghost use Rattle.work_identifiers.specs.Places as spec;
 
+use crate::arxiv::preprint;
 use crate::ends::{first_part, from_start, to_end};
-use crate::forms::{MOST_BYTES, is_identifier};
+use crate::forms::{MOST_BYTES, is_identifier, is_number};
 use crate::namespace::{Namespace, schemes};
 use std::alloc::{AllocError, Global};
 use uri_text::begins_in_any_case;
@@ -51,7 +52,7 @@ fn first_identifier<'a>(namespace: Namespace, texts: &[&'a [u8]]) -> Option<&'a 
 }
 
 /// The identifier with which a text begins.
-fn identifier_at(namespace: Namespace, text: &[u8]) -> Option<&[u8]>
+pub(crate) fn identifier_at(namespace: Namespace, text: &[u8]) -> Option<&[u8]>
     ensures value { option_copied result ≡ spec.identifier_at namespace text.now }
     ensures ascii { IfSome result (λ identifier. IsAscii identifier.now) }
 {
@@ -73,6 +74,40 @@ fn part(namespace: Namespace, text: &[u8]) -> &[u8]
     match namespace {
         Namespace::Doi => to_end(text),
         Namespace::Pmid | Namespace::Oclc => to_end(first_part(text)),
+        Namespace::Pmc => unversioned(to_end(first_part(text))),
+        Namespace::Arxiv => to_end(preprint(text)),
+    }
+}
+
+fn is_no_stop(byte: u8) -> bool
+    ensures { result ≡ spec.is_no_stop byte }
+{
+    byte != b'.'
+}
+
+/// How many bytes are before the first full stop.
+fn number_length(text: &[u8]) -> usize
+    ensures value { result ≡ prefix_len spec.is_no_stop text.now }
+    ensures within { result ≤ length text.now }
+{
+    text.iter().take_while(|byte| is_no_stop(**byte)).count()
+}
+
+/// A number without its version.
+fn unversioned(text: &[u8]) -> &[u8]
+    ensures { result.now ≡ spec.unversioned text.now }
+{
+    let (number, version) = text.split_at(number_length(text));
+    if is_version(version) { number } else { text }
+}
+
+/// Whether this is a version: one to three digits, after a full stop.
+fn is_version(text: &[u8]) -> bool
+    ensures { result ≡ spec.is_version text.now }
+{
+    match text {
+        [] => false,
+        [_, digits @ ..] => is_number(3, digits),
     }
 }
 
@@ -87,7 +122,7 @@ fn places(alloc: Global, namespace: Namespace, text: &[u8]) -> Result<Vec<&[u8]>
             places.append(&mut named)?;
             Ok(places)
         }
-        Namespace::Pmid | Namespace::Oclc => Ok(named),
+        Namespace::Pmid | Namespace::Oclc | Namespace::Pmc | Namespace::Arxiv => Ok(named),
     }
 }
 

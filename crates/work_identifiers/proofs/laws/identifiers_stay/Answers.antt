@@ -1,4 +1,4 @@
-use Rattle.work_identifiers.proofs.Uris.{uri_has, alone_has}
+use Rattle.work_identifiers.proofs.FoundAgain.{uri_has, alone_has}
 use Rattle.work_identifiers.proofs.laws.identifiers_stay.Goals as goal
 
 pub returns-clause-named : goal.returns-clause-named
