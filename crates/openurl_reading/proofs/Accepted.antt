@@ -12,9 +12,10 @@ use Rattle.text_model.specs.Texts.{Text}
 use Rattle.kev_read.specs.Pairs.{KeyValue, all_of, first_of}
 use Rattle.openurl_reading.specs.Counting.{is_void, is_blank, is_any, is_one_of, row_keys}
 use Rattle.work_identifiers.specs.declared.namespace.Namespace.{Namespace}
-use Rattle.work_identifiers.specs.declared.namespace.Namespace.TheVariants.{Doi, Pmid, Oclc}
+use Rattle.work_identifiers.specs.declared.namespace.Namespace.TheVariants.{Doi, Pmid, Oclc, Pmc, Arxiv}
 use Rattle.work_identifiers.specs.Forms.{IsIdentifier}
-use Rattle.openurl_reading.specs.Identifiers.{first_identifier, uri_of, naming, namings}
+use Rattle.openurl_reading.specs.Identifiers.{nameable, naming, namings}
+use Rattle.work_identifiers.specs.Uris.{uri_of}
 use Rattle.openurl_reading.specs.Steps.{taken, after}
 use Rattle.openurl_reading.specs.Values.{led}
 use Rattle.openurl_reading.specs.Versions.{correction}
@@ -25,6 +26,7 @@ use Rattle.openurl_reading.specs.Kinds.{kind_of}
 use Rattle.openurl_reading.specs.DublinCore.{core_steps}
 use Rattle.openurl_reading.specs.Titles.{title_key, of_title, titlings}
 use Rattle.openurl_reading.specs.Formats.{format_of, format_step}
+use Rattle.openurl_reading.specs.Texts.{text_steps}
 use Rattle.openurl_reading.specs.Referrers.{namespace, referrer_of, referrer_step}
 use Rattle.openurl_reading.specs.Numbers.{first_issn, first_eissn, first_isbn, issn_step, eissn_step, isbn_step}
 use Rattle.openurl_reading.specs.Dates.{date_keys, first_date, led_or_none, date_step}
@@ -35,11 +37,12 @@ use Rattle.openurl_reading.proofs.CoreCopied.{core_pass}
 use Rattle.openurl_reading.proofs.Each.{none_has, one_has, each_filled, each_led, each_named}
 use Rattle.openurl_reading.proofs.FieldsCopied.{fields_pass}
 use Rattle.openurl_reading.proofs.FoundAre.{AreFound}
-use Rattle.openurl_reading.proofs.Identified.{AreIdentified, first_is, of_is}
-use Rattle.openurl_reading.proofs.IdentifierForms.{BeginsWithDigit, identifier_digit}
+use Rattle.openurl_reading.proofs.Identified.{AreIdentified, first_is, nameable_is, of_is}
+use Rattle.openurl_reading.proofs.IdentifierForms.{BeginsWithDigit, doi_begins, number_begins}
 use Rattle.openurl_reading.proofs.PagesFound.{AreFoundPages, IsNotBlank, first_page_is, last_page_is}
 use Rattle.openurl_reading.proofs.Passing.{AreAccepted, allows, Passes, not_blank, under_pass, step_passes, version_passes, copies_pass, old_keys_allow}
-use Rattle.openurl_reading.proofs.Stages.{kind_steps, last_steps, with_versions, with_fields, normal_form-is}
+use Rattle.openurl_reading.proofs.Stages.{kind_steps, led_steps, with_versions, with_fields, normal_form-led}
+use Rattle.openurl_reading.proofs.TextsPass.{AreFilled, texts_pass}
 use Rattle.openurl_reading.proofs.Titled.{titlings-are}
 use Rattle.openurl_reading.proofs.VolumeLaws.{AreFoundNumbers, added_issue_is, found_volume_is, found_issue_is}
 
@@ -122,23 +125,37 @@ date_passes (Some d) first h = led_passes (codes "rft.date") (Some d) first refl
 digit_is_no_letter : (b : ℕ) → is_ascii_digit b ≡ true → nat_eq 0x64 (to_ascii_lowercase b) ≡ false
 digit_is_no_letter b h = grind (arith, nat_tests)
 
+doi_passes : (n : Text) → BeginsWithDigit n → Passes (codes "rft_id") (uri_of Doi n)
+doi_passes n is = rw is.2 (rw (digit_is_no_letter is.0 is.3) refl)
+
+pmid_passes : (n : Text) → BeginsWithDigit n → Passes (codes "rft_id") (uri_of Pmid n)
+pmid_passes n is = rw is.2 refl
+
+oclc_passes : (n : Text) → BeginsWithDigit n → Passes (codes "rft_id") (uri_of Oclc n)
+oclc_passes n is = rw is.2 refl
+
 -- a URI is no prefix alone: not `info:doi/`, and not `info:doi/doi:`
-uri_passes : (namespace : Namespace) (n : Text) → BeginsWithDigit n → Passes (codes "rft_id") (uri_of namespace n)
-uri_passes Doi n is = rw is.2 (rw (digit_is_no_letter is.0 is.3) refl)
-uri_passes Pmid n is = rw is.2 refl
-uri_passes Oclc n is = rw is.2 refl
+uri_passes : (namespace : Namespace) (n : Text) → IsIdentifier namespace n → Passes (codes "rft_id") (uri_of namespace n)
+uri_passes Doi n is = doi_passes n (doi_begins n is)
+uri_passes Pmid n is = pmid_passes n (number_begins 9 n (and_parts _ _ is).1)
+uri_passes Oclc n is = oclc_passes n (number_begins 12 n (and_parts _ _ is).1)
+uri_passes Pmc n is = refl
+uri_passes Arxiv n is = refl
 
 naming_passes : AreIdentified → (namespace : Namespace) (pairs : List KeyValue) → AreAccepted pairs → AreAccepted (taken pairs (naming namespace))
 naming_passes identified namespace pairs all =
+    let is = nameable_is (IsIdentifier namespace) namespace pairs (first_is (IsIdentifier namespace) namespace (of_is identified namespace) pairs) in
     step_passes (naming namespace) pairs
-    (each_named (Passes (codes "rft_id")) namespace (first_identifier namespace pairs) (all_of pairs (codes "rft_id"))
-    (λ n e. uri_passes namespace n
-    (identifier_digit namespace n (first_is (IsIdentifier namespace) namespace (of_is identified namespace) pairs n e)))) all
+    (each_named (Passes (codes "rft_id")) namespace (nameable namespace pairs) (all_of pairs (codes "rft_id"))
+    (λ n e. uri_passes namespace n (is n e))) all
 
 namings_pass : AreIdentified → (pairs : List KeyValue) → AreAccepted pairs → AreAccepted (after namings pairs)
 namings_pass identified pairs all =
     let first = taken pairs (naming Oclc) in
-    naming_passes identified Doi (taken first (naming Pmid)) (naming_passes identified Pmid first (naming_passes identified Oclc pairs all))
+    let second = taken first (naming Pmc) in
+    let third = taken second (naming Pmid) in
+    naming_passes identified Doi (taken third (naming Arxiv)) (naming_passes identified Arxiv third (naming_passes identified Pmid second
+    (naming_passes identified Pmc first (naming_passes identified Oclc pairs all))))
 
 -- ---- volume and issue
 
@@ -175,9 +192,9 @@ pages_pass found pairs all =
 
 -- ---- all
 
-last_pass : AreIdentified → AreFound BeginsWithDigit → AreFoundNumbers IsNotBlank → AreFoundPages IsNotBlank
-    → (pairs : List KeyValue) → AreAccepted pairs → AreAccepted (after last_steps pairs)
-last_pass identified found numbers pages pairs all =
+led_pass : AreIdentified → AreFound BeginsWithDigit → AreFoundNumbers IsNotBlank → AreFoundPages IsNotBlank
+    → (pairs : List KeyValue) → AreAccepted pairs → AreAccepted (after led_steps pairs)
+led_pass identified found numbers pages pairs all =
     let named = taken pairs referrer_step in
     let issns = taken named issn_step in
     let eissns = taken issns eissn_step in
@@ -193,18 +210,19 @@ last_pass identified found numbers pages pairs all =
     (step_passes issn_step named (led_passes (codes "rft.issn") (first_issn named) (first_of named (codes "rft.issn")) refl (found.issn named))
     (referrer_passes pairs all)))))))
 
-pub normal_form_passes : AreIdentified → AreFound BeginsWithDigit → AreFoundNumbers IsNotBlank → AreFoundPages IsNotBlank
+pub normal_form_passes : AreFilled → AreIdentified → AreFound BeginsWithDigit → AreFoundNumbers IsNotBlank → AreFoundPages IsNotBlank
     → (pairs : List KeyValue) → AreAccepted pairs → AreAccepted (normal_form pairs)
-normal_form_passes identified found numbers pages pairs all =
+normal_form_passes filled identified found numbers pages pairs all =
     let first = taken pairs (correction (codes "ctx_ver")) in
     let fields = with_fields pairs in
     let copied = after copies fields in
     let core = after core_steps copied in
-    subst AreAccepted (sym (normal_form-is pairs))
-    (last_pass identified found numbers pages (after kind_steps copied)
+    subst AreAccepted (sym (normal_form-led pairs))
+    (led_pass identified found numbers pages (after text_steps (after kind_steps copied))
+    (texts_pass filled (after kind_steps copied)
     (format_passes (after titlings core)
     (titlings_pass core
     (core_pass copied
     (copies_pass old_keys fields old_keys_allow
     (fields_pass (with_versions pairs)
-    (version_passes (codes "url_ver") first refl (version_passes (codes "ctx_ver") pairs refl all))))))))
+    (version_passes (codes "url_ver") first refl (version_passes (codes "ctx_ver") pairs refl all)))))))))

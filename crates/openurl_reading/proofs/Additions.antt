@@ -15,6 +15,7 @@ use Rattle.openurl_reading.specs.Dates.{date_under}
 use Rattle.openurl_reading.specs.Reading.{added, issns_of, second_issn, days_of, derived}
 use Rattle.openurl_reading.proofs.Each.{none_has, one_has}
 use Rattle.openurl_reading.proofs.FoundAre.{IsAll}
+use Rattle.openurl_reading.proofs.Identified.{IsPlain}
 
 pub record Addition : Type 0 where
   pub key : Text
@@ -73,7 +74,8 @@ day_is P None day h n e = cc
 day_is P (Some date) day h n e = let same : day (first_and_last date) ≡ n = cc in subst P same (h date refl)
 
 -- what holds of the values that are derived
-pub derived_values : (P : Text → Type 0) (pairs : List KeyValue) → ((namespace : Namespace) → IsAll P (first_under namespace pairs (codes "rft_id")))
+pub derived_values : (P : Text → Type 0) (pairs : List KeyValue)
+    → ((namespace : Namespace) → IsPlain namespace → IsAll P (first_under namespace pairs (codes "rft_id")))
     → IsAll P (first_number (issns_of pairs)) → IsAll P (second_issn pairs) → IsAll P (first_isbn pairs) → AreDaysAll P pairs
     → All (λ pair. P pair.value) (derived pairs)
 derived_values P pairs identifiers issn eissn isbn days =
@@ -85,9 +87,9 @@ derived_values P pairs identifiers issn eissn isbn days =
     (All-append Q _ _
     (All-append Q _ _
     (All-append Q _ _
-    (All-append Q _ _ (each_added Q (codes "x.doi") (first_under Doi pairs (codes "rft_id")) (identifiers Doi))
-    (each_added Q (codes "x.pmid") (first_under Pmid pairs (codes "rft_id")) (identifiers Pmid)))
-    (each_added Q (codes "x.oclc") (first_under Oclc pairs (codes "rft_id")) (identifiers Oclc)))
+    (All-append Q _ _ (each_added Q (codes "x.doi") (first_under Doi pairs (codes "rft_id")) (identifiers Doi refl))
+    (each_added Q (codes "x.pmid") (first_under Pmid pairs (codes "rft_id")) (identifiers Pmid refl)))
+    (each_added Q (codes "x.oclc") (first_under Oclc pairs (codes "rft_id")) (identifiers Oclc refl)))
     (each_added Q (codes "x.issn") (first_number (issns_of pairs)) issn))
     (each_added Q (codes "x.eissn") (second_issn pairs) eissn))
     (each_added Q (codes "x.isbn") (first_isbn pairs) isbn))

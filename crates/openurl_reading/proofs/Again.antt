@@ -16,6 +16,7 @@ use Rattle.openurl_reading.proofs.IdentifierForms.{BeginsWithDigit}
 use Rattle.openurl_reading.proofs.VolumeLaws.{AreFoundNumbers}
 use Rattle.openurl_reading.proofs.PagesFound.{AreFoundPages, IsNotBlank}
 use Rattle.openurl_reading.proofs.Passing.{AreAccepted, counting_pass}
+use Rattle.openurl_reading.proofs.TextsPass.{AreFilled}
 
 -- no pair that the resolver adds counts
 derived_out : (pairs : List KeyValue) → accepted (derived pairs) ≡ []
@@ -29,14 +30,14 @@ accepted_again : (pairs : List KeyValue) → AreAccepted pairs → accepted (wit
 accepted_again pairs pass =
     filter-append is_accepted (derived pairs) pairs ∙ ap (λ front. front ++ accepted pairs) (derived_out pairs) ∙ all_stay is_accepted pairs pass
 
-pub reading_again : AreIdentified → ((pairs : List KeyValue) → normal_form (normal_form pairs) ≡ normal_form pairs) → AreFound BeginsWithDigit
+pub reading_again : AreFilled → AreIdentified → ((pairs : List KeyValue) → normal_form (normal_form pairs) ≡ normal_form pairs) → AreFound BeginsWithDigit
     → AreFoundNumbers IsNotBlank → AreFoundPages IsNotBlank
     → (pairs : List KeyValue)
     → length (normal_form (counting pairs)) ≤ most_pairs
     → reading_of (reading_of pairs).pairs ≡ record { pairs = (reading_of pairs).pairs; left_out = 0 }
-reading_again identified once found numbers pages pairs few =
+reading_again filled identified once found numbers pages pairs few =
     let normal = normal_form (counting pairs) in
-    let same = accepted_again normal (normal_form_passes identified found numbers pages (counting pairs) (counting_pass pairs)) in
+    let same = accepted_again normal (normal_form_passes filled identified found numbers pages (counting pairs) (counting_pass pairs)) in
     let counted : counting (with_derived normal) ≡ normal = ap (take most_pairs) same ∙ take_all most_pairs normal few in
     let read : with_derived (normal_form (counting (with_derived normal))) ≡ with_derived normal =
     ap (λ list. with_derived (normal_form list)) counted ∙ ap with_derived (once (counting pairs)) in

@@ -10,6 +10,7 @@ use Rattle.standard_numbers.specs.Issn.{issns_in}
 use Rattle.standard_numbers.specs.Isbn.{isbns_in}
 use Rattle.publication_dates.specs.Dates.{date_in}
 use Rattle.work_identifiers.specs.declared.namespace.Namespace.{Namespace}
+use Rattle.written_texts.specs.declared.readings.Role.TheVariants.{Title, Other}
 use Rattle.openurl_reading.specs.Steps.{Step, unchanged, replacing}
 use Rattle.openurl_reading.specs.Kinds.{has}
 use Rattle.openurl_reading.specs.DublinCore.{is_core, core_steps}
@@ -22,7 +23,8 @@ use Rattle.openurl_reading.specs.Referrers.{referrer_of, referred}
 use Rattle.openurl_reading.specs.Numbers.{eissn_among, other_than}
 use Rattle.openurl_reading.specs.Dates.{led_or_none}
 use Rattle.openurl_reading.specs.ArticleNumbers.{article_in}
-use Rattle.openurl_reading.specs.Canonical.{Lacks, Under, IsVersion, IsDesignation, IsPage, ArePagesApart}
+use Rattle.openurl_reading.specs.Texts.{title_texts, other_texts}
+use Rattle.openurl_reading.specs.Canonical.{Lacks, Under, IsText, IsVersion, IsDesignation, IsPage, ArePagesApart}
 use Rattle.openurl_reading.proofs.Copied.{copying-none, both_unchanged}
 use Rattle.openurl_reading.proofs.CoreSettles.{not_core_stays}
 use Rattle.openurl_reading.proofs.DateLed.{date_among, rest_of, IsSettledAmong}
@@ -34,6 +36,7 @@ use Rattle.openurl_reading.proofs.PagesStay.{first_page_stays, last_page_stays}
 use Rattle.openurl_reading.proofs.Settled.{IsSettled, IsNamed, led-same, filled-none}
 use Rattle.openurl_reading.proofs.Others.{bytes_eq-same}
 use Rattle.openurl_reading.proofs.Stages.{kind_steps}
+use Rattle.openurl_reading.proofs.TextsRead.{texts_stay}
 use Rattle.openurl_reading.proofs.Titled.{untitled-stays}
 use Rattle.openurl_reading.proofs.VolumesLed.{designations_settle}
 
@@ -146,6 +149,8 @@ pub record HasKept (pairs : List KeyValue) : Type 0 where
   pub no_year : Lacks pairs (codes "rft.year")
   pub no_old_year : Lacks pairs (codes "year")
   pub no_eisbn : Lacks pairs (codes "rft.eisbn")
+  pub titles : All (λ key. Under pairs key (IsText Title)) title_texts
+  pub other_texts : All (λ key. Under pairs key (IsText Other)) other_texts
   pub issns : Under pairs (codes "rft.issn") (IsKept issns_in)
   pub eissns : Under pairs (codes "rft.eissn") (IsKept issns_in)
   pub isbns : Under pairs (codes "rft.isbn") (IsKept isbns_in)
@@ -168,6 +173,7 @@ kept_settled pairs kept =
       fields = fields_settled pairs kept.no_number kept.no_identifier;
       copies = copies_settled old_keys pairs kept.no_old_keys;
       kinds = kinds_settled pairs kept.no_core kept.no_title kept.format;
+      texts = texts_stay pairs kept.titles kept.other_texts;
       referrer = referrer_settled pairs kept.no_source;
       issn = ap (λ n. led n (slice_get issns 0)) (issn_leads issns kept.issns) ∙ led-same (slice_get issns 0);
       eissn = ap (λ n. led n (slice_get eissns 0)) (eissn_leads issns eissns kept.issns kept.eissns) ∙ led-same (slice_get eissns 0);

@@ -33,7 +33,7 @@ copied-keeps true key pairs = filled-keeps (take most_values (all_of pairs key.o
 copied-keeps false key pairs = refl
 
 pub copying_keeps : (key : Text) (test : List KeyValue → Bool) (one : OldKey) → KeepsKey key (copying test one)
-copying_keeps key test one = inr (λ p. copied-keeps (test p) one p)
+copying_keeps key test one = inr (λ p. inl (copied-keeps (test p) one p))
 
 pub copying-is : (test : List KeyValue → Bool) (old new : Text) (pairs : List KeyValue) → allows old new ≡ true
     → IsCopyOf old pairs (taken pairs (copying test (record { old = old; new = new })))

@@ -1,7 +1,7 @@
 -- The elements of Dublin Core give their values to other keys once.
 use Rattle.std.proofs.Common.{◌≡◌, List, [], ◌∷◌, ◌++◌, Bool, true, false, not, ◌&&◌, refl, sym, ap, ◌∙◌, subst, inl, inr, lit<, take}
 use Rattle.std.specs.Prelude.{codes, slice_get}
-use Rattle.std.specs.List.{All}
+use Rattle.std.specs.List.{All, list_all}
 use Rattle.std.specs.Option.{option_map_or, is_some}
 use Rattle.std.specs.Str.{bytes_eq}
 use Rattle.std.proofs.lemmas.List.Elements.{All-cons}
@@ -22,8 +22,10 @@ use Rattle.openurl_reading.proofs.Each.{one_has}
 use Rattle.openurl_reading.proofs.Filled.{HasSome, IsFilled, KeepsKey, keeps_filled, fill-fills}
 use Rattle.openurl_reading.proofs.KeysSettle.{apart, same_after, after_core, after_core_keep, format_keeps, last_keep}
 use Rattle.openurl_reading.proofs.KindStays.{AreKindsSame, kind_same, kind_stays, kinds_after}
-use Rattle.openurl_reading.proofs.Stages.{kind_steps, last_steps}
+use Rattle.openurl_reading.proofs.Stages.{kind_steps, led_steps, last_steps}
+use Rattle.openurl_reading.proofs.TextsSome.{has_some, last_some, last_none}
 use Rattle.openurl_reading.proofs.Titled.{some_values}
+use Rattle.openurl_reading.proofs.Values.{all_of-taken}
 use Rattle.openurl_reading.proofs.CoreFalls.{core_falls, and-false, and_falls, IsTitleApart, all_kept, no_title, of_dissertation, title_apart}
 
 -- ---- they are not copied again
@@ -74,11 +76,20 @@ after_titles = format_step ∷ last_steps
 titles_keep : (key : Text) → bytes_eq (codes "rft.date") key ≡ false → All (KeepsKey key) after_titles
 titles_keep key h = All-cons (KeepsKey key) format_step last_steps (format_keeps key) (last_keep key h)
 
+titles_some : (key : Text) (pairs : List KeyValue) → list_all (λ step. not (bytes_eq step.key key)) led_steps ≡ true
+    → bytes_eq (codes "rft_val_fmt") key ≡ false → has_some (after after_titles pairs) key ≡ has_some pairs key
+titles_some key pairs h apart =
+    last_some key (taken pairs format_step) h ∙ ap (λ values. is_some (slice_get values 0)) (all_of-taken format_step pairs key apart)
+
+titles_none : (key : Text) (pairs : List KeyValue) → list_all (λ step. not (bytes_eq step.key key)) led_steps ≡ true
+    → bytes_eq (codes "rft_val_fmt") key ≡ false → all_of pairs key ≡ [] → all_of (after after_titles pairs) key ≡ []
+titles_none key pairs h apart none = last_none key (taken pairs format_step) h (all_of-taken format_step pairs key apart ∙ none)
+
 still_filled : (key : Text) (before now : List KeyValue) → bytes_eq (codes "rft.date") key ≡ false → now ≡ before → IsFilled (of_core_title key) before
     → IsFilled (of_core_title key) (after after_titles now)
 unfolding IsFilled
 still_filled key before now h same (inl none) =
-    inl (same_after after_titles now (codes "rft.title") refl ∙ ap (λ p. all_of p (codes "rft.title")) same ∙ none)
+    inl (titles_none (codes "rft.title") now refl refl (ap (λ p. all_of p (codes "rft.title")) same ∙ none))
 still_filled key before now h same (inr some) =
     inr (still_some key after_titles now (titles_keep key h) (subst (λ p. HasSome (all_of p key)) (sym same) some))
 
@@ -122,15 +133,15 @@ article_settles before = settles (title_apart next)
         copying-failed is_in_journal article now
         (and_falls (is_core before) (is_core now) (has before (codes "rft.jtitle")) (has now (codes "rft.jtitle"))
         (core_falls (core_titles ++ titlings) before refl)
-        (ap (λ values. is_some (slice_get values 0))
-        (same_after after_titles titled (codes "rft.jtitle") refl ∙ ap (λ p. all_of p (codes "rft.jtitle")) same ∙ journals)) e)
+        (titles_some (codes "rft.jtitle") titled refl refl
+        ∙ ap (λ values. is_some (slice_get values 0)) (ap (λ p. all_of p (codes "rft.jtitle")) same ∙ journals)) e)
 
     settles : IsTitleApart next titled → (copying is_in_journal article).change now ≡ unchanged
     settles (all_kept same) = by_test (is_in_journal before) refl same
-    settles (no_title none) = copying-none is_in_journal article now (same_after after_titles titled (codes "rft.title") refl ∙ none)
+    settles (no_title none) = copying-none is_in_journal article now (titles_none (codes "rft.title") titled refl refl none)
     settles (of_dissertation same kind none) =
         copying-failed is_in_journal article now
-        (ap (λ values. is_core now && is_some (slice_get values 0)) (same_after after_titles titled (codes "rft.jtitle") refl ∙ same 6 [] (lit< tt) ∙ none)
+        (ap (λ values. is_core now && is_some (slice_get values 0)) (titles_none (codes "rft.jtitle") titled refl refl (same 6 [] (lit< tt) ∙ none))
         ∙ and-false (is_core now))
 
 book_settles : (before : List KeyValue) → let key = of_core_title (codes "rft.btitle") in
@@ -154,9 +165,8 @@ book_settles before = settles (title_apart next)
         kind_stays (taken titled format_step) ∙ kind_same (taken titled format_step) titled (kinds_after (format_step ∷ []) titled refl)
         ∙ kind_same titled next same
 
-    same_test : (values values' : List Text) (kind kind' : Kind) → values ≡ values' → kind ≡ kind'
-        → not (is_some (slice_get values 0)) && is_book kind ≡ not (is_some (slice_get values' 0)) && is_book kind'
-    same_test values values' kind kind' e g = rw (e, g) refl
+    same_test : (some some' : Bool) (kind kind' : Kind) → some ≡ some' → kind ≡ kind' → not some && is_book kind ≡ not some' && is_book kind'
+    same_test some some' kind kind' e g = rw (e, g) refl
 
     by_test : (b : Bool) → is_of_core_book before ≡ b → titled ≡ next → (copying is_of_core_book book).change now ≡ unchanged
     by_test true e same =
@@ -166,13 +176,13 @@ book_settles before = settles (title_apart next)
         let still = same ∙ not_copied is_of_core_book book before e in
         copying-failed is_of_core_book book now
         (and_falls (is_core before) (is_core now) _ _ (core_falls (copying is_of_core_book book ∷ titlings) before refl)
-        (same_test (all_of now (codes "rft.jtitle")) (all_of before (codes "rft.jtitle")) (kind_of now) (kind_of before)
-        (same_after after_titles titled (codes "rft.jtitle") refl ∙ ap (λ p. all_of p (codes "rft.jtitle")) still)
+        (same_test (has_some now (codes "rft.jtitle")) (has_some before (codes "rft.jtitle")) (kind_of now) (kind_of before)
+        (titles_some (codes "rft.jtitle") titled refl refl ∙ ap (λ p. has_some p (codes "rft.jtitle")) still)
         (kinds (subst (λ p. AreKindsSame p next) (sym same) (kinds_after [] next refl)) ∙ ap kind_of (not_copied is_of_core_book book before e))) e)
 
     settles : IsTitleApart next titled → (copying is_of_core_book book).change now ≡ unchanged
     settles (all_kept same) = by_test (is_of_core_book before) refl same
-    settles (no_title none) = copying-none is_of_core_book book now (same_after after_titles titled (codes "rft.title") refl ∙ none)
+    settles (no_title none) = copying-none is_of_core_book book now (titles_none (codes "rft.title") titled refl refl none)
     settles (of_dissertation same kind none) =
         let known = is_core now in
         let free = not (has now (codes "rft.jtitle")) in

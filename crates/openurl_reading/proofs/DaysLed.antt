@@ -5,7 +5,7 @@ use Rattle.std.specs.List.{All, list_all}
 use Rattle.std.specs.Option.{option_and_then}
 use Rattle.std.specs.Str.{bytes_eq}
 use Rattle.text_model.specs.Texts.{Text}
-use Rattle.kev_read.specs.Pairs.{KeyValue, all_of, first_of}
+use Rattle.kev_read.specs.Pairs.{KeyValue, all_of}
 use Rattle.publication_dates.specs.Dates.{date_in}
 use Rattle.publication_dates.specs.Days.{first_day, last_day}
 use Rattle.openurl_reading.specs.Steps.{unchanged, leading, taken, after}
@@ -19,8 +19,8 @@ use Rattle.openurl_reading.proofs.DateLed.{IsReadAgain, date_of_first, found_aga
 use Rattle.openurl_reading.proofs.FoundAgain.{AreFoundAgain}
 use Rattle.openurl_reading.proofs.FoundAre.{IsAll, none_is, or_is}
 use Rattle.openurl_reading.proofs.KeysSettle.{same_after}
-use Rattle.openurl_reading.proofs.Sent.{IsNoConstant, IsSent, sent_under}
-use Rattle.openurl_reading.proofs.Stages.{after_dates, last_steps}
+use Rattle.openurl_reading.proofs.Sent.{IsUnread, AreKept}
+use Rattle.openurl_reading.proofs.Stages.{after_dates, led_steps}
 use Rattle.openurl_reading.proofs.Values.{all_of-taken-own, same_key, values_after}
 
 -- the date that leads after the step is the one that was found
@@ -47,21 +47,21 @@ date_sent P sent each [] all = none_is P
 date_sent P sent each (v ∷ vs) all = λ d e. each v d (all 0 v (omega arith)) e
 
 -- the date that the step finds
-found_sent : (P : Text → Type 0) (sent : List Text) → AreEach P sent → (copied : List KeyValue) → All (IsSent sent) copied
+found_sent : (P : Text → Type 0) (sent : List Text) → AreEach P sent → (copied : List KeyValue) → AreKept sent copied
     → IsAll P (first_date date_keys (after (referrer_step ∷ issn_step ∷ eissn_step ∷ isbn_step ∷ []) copied))
 found_sent P sent each copied is =
     let steps = referrer_step ∷ issn_step ∷ eissn_step ∷ isbn_step ∷ [] in
-    let one : (key : Text) → IsNoConstant key → list_all (λ step. not (bytes_eq step.key key)) steps ≡ true
+    let one : (key : Text) → IsUnread key → list_all (λ step. not (bytes_eq step.key key)) steps ≡ true
     → IsAll P (date_of_first (all_of (after steps copied) key)) =
     λ key other h. date_sent P sent each (all_of (after steps copied) key)
-    (subst (All (Contains sent)) (sym (same_after steps copied key h)) (sent_under sent copied key other is)) in
-    or_is P _ _ (one (codes "rft.date") (refl, refl, refl) refl)
-    (or_is P _ _ (one (codes "rft.year") (refl, refl, refl) refl)
-    (or_is P _ _ (one (codes "date") (refl, refl, refl) refl) (or_is P _ _ (one (codes "year") (refl, refl, refl) refl) (none_is P))))
+    (subst (All (Contains sent)) (sym (same_after steps copied key h)) (is key other)) in
+    or_is P _ _ (one (codes "rft.date") (refl, refl, refl, refl) refl)
+    (or_is P _ _ (one (codes "rft.year") (refl, refl, refl, refl) refl)
+    (or_is P _ _ (one (codes "date") (refl, refl, refl, refl) refl) (or_is P _ _ (one (codes "year") (refl, refl, refl, refl) refl) (none_is P))))
 
 -- the date of a reading
-date_is_sent : AreFoundAgain → (P : Text → Type 0) (sent : List Text) → AreEach P sent → (copied : List KeyValue) → All (IsSent sent) copied
-    → IsAll P (date_under (after last_steps copied) (codes "rft.date"))
+date_is_sent : AreFoundAgain → (P : Text → Type 0) (sent : List Text) → AreEach P sent → (copied : List KeyValue) → AreKept sent copied
+    → IsAll P (date_under (after led_steps copied) (codes "rft.date"))
 date_is_sent laws P sent each copied is date e =
     let before = after (referrer_step ∷ issn_step ∷ eissn_step ∷ isbn_step ∷ []) copied in
     let dated = taken before date_step in
@@ -72,8 +72,8 @@ date_is_sent laws P sent each copied is date e =
     ∙ date_found (first_date date_keys before) (all_of before (codes "rft.date")) (found_again (λ value d. laws.dates (searched value) d) before) in
     found_sent P sent each copied is date (sym found ∙ e)
 
-pub days_have : AreFoundAgain → (sent : List Text) (copied : List KeyValue) → All (IsSent sent) copied
-    → AreDaysAll (HasOrigin sent) (after last_steps copied)
+pub days_have : AreFoundAgain → (sent : List Text) (copied : List KeyValue) → AreKept sent copied
+    → AreDaysAll (HasOrigin sent) (after led_steps copied)
 days_have laws sent copied is =
     date_is_sent laws (λ d. HasOrigin sent (first_day d) × HasOrigin sent (last_day d)) sent
     (λ value d contained e. (first_day_of value d contained e, last_day_of value d contained e)) copied is

@@ -6,8 +6,9 @@ use Rattle.std.proofs.lemmas.List.Elements.{All-append, All-filter, All-cons, Al
 use Rattle.text_model.specs.Texts.{Text}
 use Rattle.kev_read.specs.Pairs.{KeyValue, has_key, all_of}
 use Rattle.work_identifiers.specs.declared.namespace.Namespace.{Namespace}
+use Rattle.work_identifiers.specs.Uris.{uri_of}
 use Rattle.openurl_reading.specs.Counting.{is_one_of}
-use Rattle.openurl_reading.specs.Identifiers.{uri_of, named}
+use Rattle.openurl_reading.specs.Identifiers.{named}
 use Rattle.openurl_reading.specs.Steps.{Step, unchanged, leading, pairs_with, kept, taken}
 use Rattle.openurl_reading.specs.Values.{led}
 use Rattle.openurl_reading.specs.OldKeys.{filled}

@@ -1,5 +1,5 @@
 -- The fields of a form give their values to one of two keys each.
-use Rattle.std.proofs.Common.{◌≡◌, List, ◌++◌, true, false, refl, ap, ◌∙◌, subst, get_or, inr}
+use Rattle.std.proofs.Common.{◌≡◌, List, ◌++◌, true, false, refl, ap, ◌∙◌, subst, get_or, inr, inl}
 use Rattle.std.specs.Prelude.{codes, slice_get}
 use Rattle.std.specs.List.{All}
 use Rattle.std.specs.Option.{option_map_or}
@@ -78,7 +78,7 @@ after_number = identifier_fields ++ after_fields
 
 copies_keep_key : (key : Text) → All (KeepsKey key) copies
 copies_keep_key key =
-    All-map (KeepsKey key) copy old_keys (λ k d h. inr (λ p. filled-keeps _ (all_of p (get_or old_keys k d).new)))
+    All-map (KeepsKey key) copy old_keys (λ k d h. inr (λ p. inl (filled-keeps _ (all_of p (get_or old_keys k d).new))))
 
 fields_keep : (key : Text) → bytes_eq (codes "rft.date") key ≡ false → All (KeepsKey key) after_fields
 fields_keep key h = All-append (KeepsKey key) copies later_steps (copies_keep_key key) (later_keep key h)

@@ -29,19 +29,32 @@ filled_unchanged f key pairs none (inl e) =
     ap (λ values. filled (f values) known) e ∙ ap (λ values. filled values known) none ∙ filled-none known
 filled_unchanged f key pairs none (inr some) = ap (λ values. filled (f (all_of pairs key.old)) values) some.2
 
--- values that are put before others leave a first value
+-- some values before others, or after them, are some
+begins_with : (front values : List Text) → HasSome front → HasSome (front ++ values)
+begins_with front values some = (some.0, some.1 ++ values, ap (λ vs. vs ++ values) some.2)
+
 begins : (front values : List Text) → HasSome values → HasSome (front ++ values)
 begins [] values some = some
 begins (w ∷ ws) values some = (w, ws ++ values, refl)
 
-abbrev pub KeepsKey : Text → Step → Type 0
-KeepsKey key step = (bytes_eq step.key key ≡ false) ⊎ ((pairs : List KeyValue) → (step.change pairs).keeps ≡ true)
+-- a step keeps the values of its key, or replaces them by some if there are some
+abbrev pub KeepsSome : Step → List KeyValue → Type 0
+KeepsSome step pairs = ((step.change pairs).keeps ≡ true) ⊎ (HasSome (all_of pairs step.key) → HasSome (step.change pairs).values)
 
-pub kept_filled : (key : OldKey) (step : Step) (pairs : List KeyValue) (b : Bool) → bytes_eq step.key key.new ≡ b → (step.change pairs).keeps ≡ true
+abbrev pub KeepsKey : Text → Step → Type 0
+KeepsKey key step = (bytes_eq step.key key ≡ false) ⊎ ((pairs : List KeyValue) → KeepsSome step pairs)
+
+pub kept_filled : (key : OldKey) (step : Step) (pairs : List KeyValue) (b : Bool) → bytes_eq step.key key.new ≡ b → KeepsSome step pairs
     → HasSome (all_of pairs key.new) → HasSome (all_of (taken pairs step) key.new)
 kept_filled key step pairs false t keeps some =
     subst HasSome (sym (all_of-taken step pairs key.new t)) some
-kept_filled key step pairs true t keeps some =
+kept_filled key step pairs true t (inr replaces) some =
+    let own : HasSome (all_of pairs step.key) = subst (λ k. HasSome (all_of pairs k)) (sym (same_key step.key key.new t)) some in
+    let change = step.change pairs in
+    subst (λ k. HasSome (all_of (taken pairs step) k)) (same_key step.key key.new t)
+    (subst HasSome (sym (all_of-taken-own step pairs))
+    (begins_with change.values (cond change.keeps (all_of pairs step.key) []) (replaces own)))
+kept_filled key step pairs true t (inl keeps) some =
     let change = step.change pairs in
     let same : all_of (taken pairs step) key.new ≡ change.values ++ all_of pairs key.new =
     subst (λ k. all_of (taken pairs step) k ≡ change.values ++ all_of pairs k) (same_key step.key key.new t)
@@ -100,7 +113,7 @@ copies_keep key [] pairs apart filled = filled
 copies_keep key (other ∷ others) pairs apart filled =
     let P : OldKey → Type 0 = λ other. bytes_eq other.new key.old ≡ false in
     copies_keep key others (taken pairs (copy other)) (All-tail P other others apart)
-    (keeps_filled key (copy other) pairs (All-head P other others apart) (inr (λ p. filled-keeps _ (all_of p other.new))) filled)
+    (keeps_filled key (copy other) pairs (All-head P other others apart) (inr (λ p. inl (filled-keeps _ (all_of p other.new)))) filled)
 
 pub copies_fill : (keys : List OldKey) (pairs : List KeyValue) → MakesSome (take most_values) → All (AreApart keys) keys
     → All (λ key. IsFilled key (after (map copy keys) pairs)) keys

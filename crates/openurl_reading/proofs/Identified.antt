@@ -1,16 +1,18 @@
 -- The first identifier that is found in texts, and what the laws of identifiers say of it.
-use Rattle.std.proofs.Common.{◌≡◌, List, [], ◌∷◌, ◌++◌, Bool, true, false, cond, Option, Some, None, refl, sym, ap, ◌∙◌, inl, inr, ◌⊎◌, get_or}
+use Rattle.std.proofs.Common.{◌≡◌, List, [], ◌∷◌, ◌++◌, Bool, true, false, cond, Option, Some, None, refl, sym, ap, ◌∙◌, get_or, append_assoc}
 use Rattle.std.specs.Prelude.{◌≢◌, codes, slice_get}
 use Rattle.std.specs.List.{All, filter_map, cons_option}
-use Rattle.std.specs.Option.{option_or}
+use Rattle.std.specs.Option.{option_or, is_some}
 use Rattle.std.proofs.lemmas.List.Elements.{All-head, All-tail}
 use Rattle.text_model.specs.Texts.{Text}
 use Rattle.kev_read.specs.Pairs.{KeyValue, all_of}
 use Rattle.work_identifiers.specs.declared.namespace.Namespace.{Namespace}
-use Rattle.work_identifiers.specs.declared.namespace.Namespace.TheVariants.{Doi, Pmid, Oclc}
-use Rattle.work_identifiers.specs.Forms.{IsIdentifier, uri_start}
+use Rattle.work_identifiers.specs.declared.namespace.Namespace.TheVariants.{Doi, Pmid, Oclc, Pmc, Arxiv}
+use Rattle.work_identifiers.specs.Addresses.{doi_in_address}
+use Rattle.work_identifiers.specs.Forms.{IsIdentifier}
 use Rattle.work_identifiers.specs.Places.{identifier_in, identifier_alone}
-use Rattle.openurl_reading.specs.Identifiers.{names, identifier_of, identifier_keys, first_under, first_identifier, uri_of}
+use Rattle.work_identifiers.specs.Uris.{uri_start, uri_end, uri_of, canonical, registered, arxiv_doi}
+use Rattle.openurl_reading.specs.Identifiers.{names, is_page, unnamed, identifier_of, identifier_keys, first_under, first_identifier, nameable}
 use Rattle.openurl_reading.proofs.FoundAre.{IsAll, none_is, or_is}
 
 abbrev pub first_found : (Text → Option Text) → List Text → Option Text
@@ -53,75 +55,99 @@ pub first_is : (P : Text → Type 0) (namespace : Namespace) → ((key value : T
 first_is P namespace each pairs =
     found_is P (first_under namespace pairs) identifier_keys (λ k d h. under_is P namespace each pairs (get_or identifier_keys k d))
 
+-- of what a step names
+pub nameable_is : (P : Text → Type 0) (namespace : Namespace) (pairs : List KeyValue) → IsAll P (first_identifier namespace pairs)
+    → IsAll P (nameable namespace pairs)
+nameable_is P Doi pairs is = is
+nameable_is P Pmid pairs is = is
+nameable_is P Oclc pairs is = is
+nameable_is P Pmc pairs is = is
+nameable_is P Arxiv pairs is = by_test (is_some (first_identifier Doi pairs))
+  where
+    by_test : (b : Bool) → IsAll P (cond b None (first_identifier Arxiv pairs))
+    by_test true = none_is P
+    by_test false = is
+
 -- ---- what the laws say
+
+-- each namespace but that of arXiv
+abbrev pub IsPlain : Namespace → Type 0
+IsPlain namespace = registered namespace ≡ namespace
 
 pub record AreIdentified : Type 0 where
   pub are : (namespace : Namespace) (text n : Text) → identifier_in namespace text ≡ Some n → IsIdentifier namespace n
   pub alone : (namespace : Namespace) (text n : Text) → identifier_alone namespace text ≡ Some n → IsIdentifier namespace n
-  pub stay : (namespace : Namespace) (n : Text) → IsIdentifier namespace n → identifier_in namespace (uri_start namespace ++ n) ≡ Some n
-  pub others : (namespace other : Namespace) (text : Text) → other ≢ namespace → identifier_in other (uri_start namespace ++ text) ≡ None
+  pub stay : (namespace : Namespace) (n : Text) → IsIdentifier namespace n → identifier_in namespace (uri_of namespace n) ≡ Some (canonical namespace n)
+  pub others : (namespace other : Namespace) (text : Text) → registered other ≢ registered namespace
+      → identifier_in other (uri_start namespace ++ text) ≡ None
+  pub preprint : (n : Text) → IsIdentifier Arxiv n → IsIdentifier Doi (arxiv_doi n)
+  pub preprint_uri : (n : Text) → uri_of Arxiv n ≡ uri_of Doi (arxiv_doi n)
+  pub page : (address n : Text) → doi_in_address address ≡ Some n → IsIdentifier Doi n
+
+unnamed_is : AreIdentified → (namespace : Namespace) (key value : Text) → IsAll (IsIdentifier namespace) (unnamed namespace key value)
+unnamed_is laws namespace key value = by_name (names namespace key) (by_page namespace)
+  where
+    from_page : (b : Bool) → IsAll (IsIdentifier Doi) (cond b (doi_in_address value) None)
+    from_page true = laws.page value
+    from_page false = none_is (IsIdentifier Doi)
+
+    by_page : (n : Namespace) → IsAll (IsIdentifier n) (cond (is_page n key) (doi_in_address value) None)
+    by_page Doi = from_page (is_page Doi key)
+    by_page Pmid = none_is (IsIdentifier Pmid)
+    by_page Oclc = none_is (IsIdentifier Oclc)
+    by_page Pmc = none_is (IsIdentifier Pmc)
+    by_page Arxiv = none_is (IsIdentifier Arxiv)
+
+    by_name : (b : Bool) → IsAll (IsIdentifier namespace) (cond (is_page namespace key) (doi_in_address value) None)
+        → IsAll (IsIdentifier namespace) (cond b (identifier_alone namespace value) (cond (is_page namespace key) (doi_in_address value) None))
+    by_name true rest = laws.alone namespace value
+    by_name false rest = rest
 
 pub of_is : AreIdentified → (namespace : Namespace) (key value : Text) → IsAll (IsIdentifier namespace) (identifier_of namespace key value)
 of_is laws namespace key value =
-    or_is (IsIdentifier namespace) (identifier_in namespace value) _ (laws.are namespace value) (by_test (names namespace key))
-  where
-    by_test : (b : Bool) → IsAll (IsIdentifier namespace) (cond b (identifier_alone namespace value) None)
-    by_test true = laws.alone namespace value
-    by_test false = none_is (IsIdentifier namespace)
-
-pub same_or_other : (a b : Namespace) → (a ≡ b) ⊎ (a ≢ b)
-same_or_other Doi Doi = inl refl
-same_or_other Doi Pmid = inr (λ e. cc)
-same_or_other Doi Oclc = inr (λ e. cc)
-same_or_other Pmid Doi = inr (λ e. cc)
-same_or_other Pmid Pmid = inl refl
-same_or_other Pmid Oclc = inr (λ e. cc)
-same_or_other Oclc Doi = inr (λ e. cc)
-same_or_other Oclc Pmid = inr (λ e. cc)
-same_or_other Oclc Oclc = inl refl
+    or_is (IsIdentifier namespace) (identifier_in namespace value) (unnamed namespace key value) (laws.are namespace value)
+    (unnamed_is laws namespace key value)
 
 -- `rft_id` says of no value what it is
-names_none : (namespace : Namespace) → names namespace (codes "rft_id") ≡ false
-names_none Doi = refl
-names_none Pmid = refl
-names_none Oclc = refl
+unnamed_none : (namespace : Namespace) (value : Text) → unnamed namespace (codes "rft_id") value ≡ None
+unnamed_none Doi value = refl
+unnamed_none Pmid value = refl
+unnamed_none Oclc value = refl
+unnamed_none Pmc value = refl
+unnamed_none Arxiv value = refl
 
 pub referent-none : (namespace : Namespace) (value : Text) → identifier_in namespace value ≡ None → identifier_of namespace (codes "rft_id") value ≡ None
-referent-none namespace value h =
-    ap (λ o. option_or o (cond (names namespace (codes "rft_id")) (identifier_alone namespace value) None)) h
-    ∙ ap (λ b. cond b (identifier_alone namespace value) None) (names_none namespace)
+referent-none namespace value h = ap (λ o. option_or o (unnamed namespace (codes "rft_id") value)) h ∙ unnamed_none namespace value
 
 -- the URI of an identifier has it
 pub uri_has : AreIdentified → (namespace : Namespace) (n : Text) → IsIdentifier namespace n
-    → identifier_of namespace (codes "rft_id") (uri_of namespace n) ≡ Some n
-uri_has laws namespace n is =
-    ap (λ o. option_or o (cond (names namespace (codes "rft_id")) (identifier_alone namespace (uri_of namespace n)) None)) (laws.stay namespace n is)
+    → identifier_of namespace (codes "rft_id") (uri_of namespace n) ≡ Some (canonical namespace n)
+uri_has laws namespace n is = ap (λ o. option_or o (unnamed namespace (codes "rft_id") (uri_of namespace n))) (laws.stay namespace n is)
 
-pub uri_has_none : AreIdentified → (namespace other : Namespace) (text : Text) → other ≢ namespace
-    → identifier_of other (codes "rft_id") (uri_of namespace text) ≡ None
-uri_has_none laws namespace other text apart = referent-none other (uri_of namespace text) (laws.others namespace other text apart)
+-- an identifier of arXiv has the URI of its DOI
+pub preprint_has : AreIdentified → (n : Text) → IsIdentifier Arxiv n → identifier_of Doi (codes "rft_id") (uri_of Arxiv n) ≡ Some (arxiv_doi n)
+preprint_has laws n is =
+    ap (identifier_of Doi (codes "rft_id")) (laws.preprint_uri n) ∙ uri_has laws Doi (arxiv_doi n) (laws.preprint n is)
 
--- and it has nothing else
-pub uri_gives : AreIdentified → (namespace other : Namespace) (n m : Text) → IsIdentifier namespace n
-    → identifier_of other (codes "rft_id") (uri_of namespace n) ≡ Some m → (namespace ≡ other) × (n ≡ m)
-uri_gives laws namespace other n m is h =
-    elim (same_or_other other namespace) [
-      | inl same ↦
-          let here : identifier_of other (codes "rft_id") (uri_of namespace n) ≡ Some n =
-          ap (λ o. identifier_of o (codes "rft_id") (uri_of namespace n)) same ∙ uri_has laws namespace n is in
-          (sym same, some_same n m (sym here ∙ h))
-      | inr apart ↦ absurd (none_some m (sym (uri_has_none laws namespace other n apart) ∙ h))
-    ]
-  where
-    some_same : (a b : Text) → Some a ≡ Some b → a ≡ b
-    some_same a b e = cc
+pub uri_has_none : AreIdentified → (namespace other : Namespace) (n : Text) → registered other ≢ registered namespace
+    → identifier_of other (codes "rft_id") (uri_of namespace n) ≡ None
+uri_has_none laws namespace other n apart =
+    referent-none other (uri_of namespace n)
+    (ap (identifier_in other) (append_assoc (uri_start namespace) (canonical namespace n) (uri_end namespace))
+    ∙ laws.others namespace other (canonical namespace n ++ uri_end namespace) apart)
 
-    none_some : (a : Text) → None ≡ Some a → ⊥
-    none_some a e = cc
+pub some_same : (o : Option Text) (a b : Text) → o ≡ Some a → o ≡ Some b → a ≡ b
+some_same o a b e f = let both : Some a ≡ Some b = sym e ∙ f in cc
+
+pub none_given : (o : Option Text) (a : Text) → o ≡ None → o ≡ Some a → ⊥
+none_given o a e f = let both : None ≡ Some a = sym e ∙ f in cc
 
 -- from the clauses of the laws
 pub identified : ((namespace : Namespace) (text n : Text) → identifier_in namespace text ≡ Some n → IsIdentifier namespace n)
     → ((namespace : Namespace) (text n : Text) → identifier_alone namespace text ≡ Some n → IsIdentifier namespace n)
-    → ((namespace : Namespace) (n : Text) → IsIdentifier namespace n → identifier_in namespace (uri_start namespace ++ n) ≡ Some n)
-    → ((namespace other : Namespace) (text : Text) → other ≢ namespace → identifier_in other (uri_start namespace ++ text) ≡ None) → AreIdentified
-identified are alone stay others = record { are = are; alone = alone; stay = stay; others = others }
+    → ((namespace : Namespace) (n : Text) → IsIdentifier namespace n → identifier_in namespace (uri_of namespace n) ≡ Some (canonical namespace n))
+    → ((namespace other : Namespace) (text : Text) → registered other ≢ registered namespace → identifier_in other (uri_start namespace ++ text) ≡ None)
+    → ((n : Text) → IsIdentifier Arxiv n → IsIdentifier Doi (arxiv_doi n)) → ((n : Text) → uri_of Arxiv n ≡ uri_of Doi (arxiv_doi n))
+    → ((address n : Text) → doi_in_address address ≡ Some n → IsIdentifier Doi n) → AreIdentified
+identified are alone stay others preprint preprint_uri page =
+    record { are = are; alone = alone; stay = stay; others = others; preprint = preprint; preprint_uri = preprint_uri; page = page }

@@ -1,42 +1,36 @@
--- How long identifiers and their URIs are, and that they begin with a digit.
-use Rattle.std.proofs.Common.{◌≡◌, ℕ, ◌≤◌, [], ◌∷◌, Bool, true, false, cond, length, refl, subst, arith}
+-- How long identifiers are, and that they begin with a digit.
+use Rattle.std.proofs.Common.{◌≡◌, ℕ, ◌≤◌, [], ◌∷◌, ◌++◌, Bool, true, false, cond, length, refl, subst, arith}
 use Rattle.std.specs.Prelude.{codes}
 use Rattle.std.specs.Char.{is_ascii_digit}
-use Rattle.std.proofs.lemmas.Bool.{and_parts, eqb-true, leb-true}
+use Rattle.std.proofs.lemmas.Bool.{and_parts, eqb-true}
 use Rattle.std.proofs.lemmas.List.{length-append}
 use Rattle.std.proofs.lemmas.List.Sums.{take_while-cons}
 use Rattle.text_model.specs.Texts.{Text}
 use Rattle.work_identifiers.specs.declared.namespace.Namespace.{Namespace}
-use Rattle.work_identifiers.specs.declared.namespace.Namespace.TheVariants.{Doi, Pmid, Oclc}
+use Rattle.work_identifiers.specs.declared.namespace.Namespace.TheVariants.{Doi, Pmid, Oclc, Pmc, Arxiv}
 use Rattle.work_identifiers.specs.Ends.{is_no_break, first_part}
 use Rattle.work_identifiers.specs.Forms.{IsIdentifier, is_doi_prefix, is_doi, is_number}
-use Rattle.openurl_reading.specs.Identifiers.{uri_of}
+use Rattle.work_identifiers.specs.Uris.{uri_start, uri_of, longest_uri}
+use Rattle.openurl_reading.proofs.Identified.{IsPlain}
 
 -- ---- lengths
 
--- how long a URI is at most
-abbrev pub longest_uri : Namespace → ℕ
-longest_uri Doi = 509
-longest_uri Pmid = 19
-longest_uri Oclc = 25
+-- how long the URIs of identifiers are, as the law says
+abbrev pub AreShort : Type 0
+AreShort = (namespace : Namespace) (n : Text) → IsIdentifier namespace n → length (uri_of namespace n) ≤ longest_uri namespace
 
-pub uri_short : (namespace : Namespace) (n : Text) → IsIdentifier namespace n → length (uri_of namespace n) ≤ longest_uri namespace
-uri_short Doi n is =
-    let short : length n ≤ 500 = leb-true (length n) 500 (and_parts _ _ (and_parts _ _ is).0).0 in omega (arith, short, length-append (codes "info:doi/") n)
-uri_short Pmid n is =
-    let short : length n ≤ 9 = leb-true (length n) 9 (and_parts _ _ (and_parts _ _ (and_parts _ _ is).1).0).1 in
-    omega (arith, short, length-append (codes "info:pmid/") n)
-uri_short Oclc n is =
-    let short : length n ≤ 12 = leb-true (length n) 12 (and_parts _ _ (and_parts _ _ (and_parts _ _ is).1).0).1 in
-    omega (arith, short, length-append (codes "info:oclcnum/") n)
+start_long : (namespace : Namespace) (n : Text) → IsPlain namespace → length n ≤ length (uri_of namespace n)
+start_long Doi n plain = omega (arith, length-append (codes "info:doi/") n, length-append (codes "info:doi/" ++ n) [])
+start_long Pmid n plain = omega (arith, length-append (codes "info:pmid/") n, length-append (codes "info:pmid/" ++ n) [])
+start_long Oclc n plain = omega (arith, length-append (codes "info:oclcnum/") n, length-append (codes "info:oclcnum/" ++ n) [])
+start_long Pmc n plain = omega (arith, length-append (uri_start Pmc) n, length-append (uri_start Pmc ++ n) (codes "/"))
+start_long Arxiv n plain = cc
 
-start_long : (namespace : Namespace) (n : Text) → length n ≤ length (uri_of namespace n)
-start_long Doi n = omega (arith, length-append (codes "info:doi/") n)
-start_long Pmid n = omega (arith, length-append (codes "info:pmid/") n)
-start_long Oclc n = omega (arith, length-append (codes "info:oclcnum/") n)
-
-pub identifier_short : (namespace : Namespace) (n : Text) → IsIdentifier namespace n → length n ≤ longest_uri namespace
-identifier_short namespace n is = omega (arith, uri_short namespace n is, start_long namespace n)
+pub identifier_short : AreShort → (namespace : Namespace) (n : Text) → IsPlain namespace → IsIdentifier namespace n → length n ≤ longest_uri namespace
+identifier_short short namespace n plain is =
+    let uri : length (uri_of namespace n) ≤ longest_uri namespace = short namespace n is in
+    let more : length n ≤ length (uri_of namespace n) = start_long namespace n plain in
+    omega (arith, uri, more)
 
 -- ---- the first byte
 
@@ -64,7 +58,8 @@ number_digit most [] h = absurd (no h)
     no e = cc
 number_digit most (b ∷ t) h = (b, t, refl, (and_parts _ _ (and_parts _ _ h).1).0)
 
-pub identifier_digit : (namespace : Namespace) (n : Text) → IsIdentifier namespace n → BeginsWithDigit n
-identifier_digit Doi n is = doi_digit n (and_parts _ _ is).1
-identifier_digit Pmid n is = number_digit 9 n (and_parts _ _ is).1
-identifier_digit Oclc n is = number_digit 12 n (and_parts _ _ is).1
+pub doi_begins : (n : Text) → IsIdentifier Doi n → BeginsWithDigit n
+doi_begins n is = doi_digit n (and_parts _ _ is).1
+
+pub number_begins : (most : ℕ) (n : Text) → is_number most n ≡ true → BeginsWithDigit n
+number_begins most n is = number_digit most n is

@@ -1,6 +1,6 @@
 -- Each identifier that is found was read in one value of the request.
 use Rattle.std.proofs.Common.{◌≡◌, List, [], ◌∷◌, ◌++◌, cond, not, Some, refl, sym, subst, ap, ◌∙◌, get_or, lit<}
-use Rattle.std.specs.Prelude.{codes, Contains}
+use Rattle.std.specs.Prelude.{◌≢◌, codes, Contains}
 use Rattle.std.specs.List.{All, list_all}
 use Rattle.std.specs.Str.{bytes_eq}
 use Rattle.std.proofs.lemmas.Bool.{not-true}
@@ -9,21 +9,25 @@ use Rattle.std.proofs.lemmas.List.Elements.{All-append, All-cons, All-tail}
 use Rattle.text_model.specs.Texts.{Text}
 use Rattle.kev_read.specs.Pairs.{KeyValue, all_of}
 use Rattle.work_identifiers.specs.declared.namespace.Namespace.{Namespace}
+use Rattle.work_identifiers.specs.declared.namespace.Namespace.TheVariants.{Doi, Pmid, Oclc, Pmc, Arxiv}
 use Rattle.work_identifiers.specs.Forms.{IsIdentifier}
+use Rattle.work_identifiers.specs.Uris.{uri_of, registered}
 use Rattle.openurl_reading.specs.Steps.{taken, after}
+use Rattle.openurl_reading.specs.Texts.{text_steps}
 use Rattle.openurl_reading.specs.Referrers.{referrer_step}
 use Rattle.openurl_reading.specs.Numbers.{issn_step, eissn_step, isbn_step}
 use Rattle.openurl_reading.specs.Dates.{date_step}
-use Rattle.openurl_reading.specs.Identifiers.{identifier_of, source_keys, identifier_keys, first_under, first_identifier, uri_of, named, naming}
+use Rattle.openurl_reading.specs.Identifiers.{identifier_of, source_keys, identifier_keys, first_under, first_identifier, nameable, named, naming}
 use Rattle.openurl_reading.specs.Pages.{page_steps}
 use Rattle.openurl_reading.specs.Volumes.{volume_steps}
 use Rattle.openurl_reading.specs.Origins.{HasOrigin, identifier_in_value, uri_of_identifier}
 use Rattle.openurl_reading.proofs.Each.{each_named}
 use Rattle.openurl_reading.proofs.FoundAre.{IsAll}
-use Rattle.openurl_reading.proofs.Identified.{AreIdentified, found_is, first_is, of_is, uri_gives}
+use Rattle.openurl_reading.proofs.Identified.{IsPlain, AreIdentified, found_is, first_is, nameable_is, of_is, uri_has_none, some_same, none_given}
 use Rattle.openurl_reading.proofs.KeysSettle.{same_after}
-use Rattle.openurl_reading.proofs.Named.{named-keeps, sources_apart}
-use Rattle.openurl_reading.proofs.Sent.{IsSent, sent_under}
+use Rattle.openurl_reading.proofs.Named.{sources_apart, plain_has}
+use Rattle.openurl_reading.proofs.NamedPreprints.{named-keeps}
+use Rattle.openurl_reading.proofs.Sent.{AreKept}
 use Rattle.openurl_reading.proofs.Values.{all_of-taken, all_of-taken-own}
 
 -- it is read in a value of the request
@@ -40,20 +44,20 @@ pub uri_has_origin : (sent : List Text) (namespace : Namespace) (n : Text) → I
 uri_has_origin sent namespace n read = uri_of_identifier namespace read.key read.value n read.is_sent read.is
 
 -- what is found in a value of a key is
-abbrev GivesRead : List Text → Text → Text → Type 0
+abbrev pub GivesRead : List Text → Text → Text → Type 0
 GivesRead sent key value = (namespace : Namespace) → IsAll (IsRead sent namespace) (identifier_of namespace key value)
 
 abbrev pub AreRead : List Text → List KeyValue → Type 0
 AreRead sent pairs = All (λ key. All (GivesRead sent key) (all_of pairs key)) identifier_keys
 
-sent_read : (sent : List Text) (pairs : List KeyValue) → All (λ key. All (Contains sent) (all_of pairs key)) identifier_keys
+pub sent_read : (sent : List Text) (pairs : List KeyValue) → All (λ key. All (Contains sent) (all_of pairs key)) identifier_keys
     → AreRead sent pairs
 sent_read sent pairs all k d h j e g namespace n is =
     let key = get_or identifier_keys k d in
     record { key = key; value = get_or (all_of pairs key) j e; is_sent = all k d h j e g; is = is }
 
 -- after the steps before those that name works, each value is one of the request
-pub identifiers_under : (sent : List Text) (copied : List KeyValue) → All (IsSent sent) copied
+pub identifiers_under : (sent : List Text) (copied : List KeyValue) → AreKept sent copied
     → AreRead sent (after (referrer_step ∷ issn_step ∷ eissn_step ∷ isbn_step ∷ date_step ∷ volume_steps ++ page_steps) copied)
 identifiers_under sent copied is =
     let steps = referrer_step ∷ issn_step ∷ eissn_step ∷ isbn_step ∷ date_step ∷ volume_steps ++ page_steps in
@@ -61,15 +65,16 @@ identifiers_under sent copied is =
     let key = get_or identifier_keys k d in
     subst (All (Contains sent)) (sym (same_after steps copied key (AllPass-from_list_all (λ key. list_all (λ step. not (bytes_eq step.key key)) steps)
     identifier_keys refl k d h)))
-    (sent_under sent copied key (
+    (is key (
       not-true _ (AllPass-from_list_all (λ key. not (bytes_eq key (codes "ctx_ver"))) identifier_keys refl k d h),
       not-true _ (AllPass-from_list_all (λ key. not (bytes_eq key (codes "url_ver"))) identifier_keys refl k d h),
       not-true _ (AllPass-from_list_all (λ key. not (bytes_eq key (codes "rft_val_fmt"))) identifier_keys refl k d h),
-    ) is))
+      AllPass-from_list_all (λ key. list_all (λ step. not (bytes_eq step.key key)) text_steps) identifier_keys refl k d h,
+    )))
 
 -- ---- what a request has
 
-under_read : (sent : List Text) (namespace : Namespace) (pairs : List KeyValue) (key : Text) → All (GivesRead sent key) (all_of pairs key)
+pub under_read : (sent : List Text) (namespace : Namespace) (pairs : List KeyValue) (key : Text) → All (GivesRead sent key) (all_of pairs key)
     → IsAll (IsRead sent namespace) (first_under namespace pairs key)
 under_read sent namespace pairs key all =
     found_is (IsRead sent namespace) (identifier_of namespace key) (all_of pairs key) (λ k d h. all k d h namespace)
@@ -84,37 +89,90 @@ pub referent_read : (sent : List Text) (namespace : Namespace) (pairs : List Key
     → IsAll (IsRead sent namespace) (first_under namespace pairs (codes "rft_id"))
 referent_read sent namespace pairs all = under_read sent namespace pairs (codes "rft_id") (all 0 [] (lit< tt))
 
+pub nameable_read : (sent : List Text) (namespace : Namespace) (pairs : List KeyValue) → AreRead sent pairs
+    → IsAll (IsRead sent namespace) (nameable namespace pairs)
+nameable_read sent namespace pairs all = nameable_is (IsRead sent namespace) namespace pairs (first_read sent namespace pairs all)
+
+pub nameable_identifier : AreIdentified → (namespace : Namespace) (pairs : List KeyValue) → IsAll (IsIdentifier namespace) (nameable namespace pairs)
+nameable_identifier laws namespace pairs =
+    nameable_is (IsIdentifier namespace) namespace pairs (first_is (IsIdentifier namespace) namespace (of_is laws namespace) pairs)
+
 -- ---- after a step
 
+-- the values of `rft_id`
+pub named_values : (namespace : Namespace) (pairs : List KeyValue) → all_of (taken pairs (naming namespace)) (codes "rft_id")
+    ≡ (named namespace (nameable namespace pairs) (all_of pairs (codes "rft_id"))).values ++ all_of pairs (codes "rft_id")
+named_values namespace pairs =
+    let values = all_of pairs (codes "rft_id") in
+    let found = nameable namespace pairs in
+    all_of-taken-own (naming namespace) pairs
+    ∙ ap (λ b. (named namespace found values).values ++ cond b values []) (named-keeps namespace found values)
+
+-- what holds of those, and held of the values of all keys
+pub with_values : (P : Text → Text → Type 0) (namespace : Namespace) (pairs : List KeyValue)
+    → All (λ key. All (P key) (all_of pairs key)) identifier_keys → All (P (codes "rft_id")) (all_of (taken pairs (naming namespace)) (codes "rft_id"))
+    → All (λ key. All (P key) (all_of (taken pairs (naming namespace)) key)) identifier_keys
+with_values P namespace pairs all own =
+    let now = taken pairs (naming namespace) in
+    All-cons (λ key. All (P key) (all_of now key)) (codes "rft_id") source_keys own
+    (λ k d h. let key = get_or source_keys k d in
+    subst (All (P key)) (sym (all_of-taken (naming namespace) pairs key (sources_apart k d h)))
+    (All-tail (λ key. All (P key) (all_of pairs key)) (codes "rft_id") source_keys all k d h))
+
+-- a namespace whose URIs have no DOI
+abbrev pub IsApart : Namespace → Type 0
+IsApart namespace = IsPlain namespace × (registered namespace ≢ Doi)
+
 -- a URI has its identifier and no other
-uri_read : AreIdentified → (sent : List Text) (namespace : Namespace) (n : Text) → IsIdentifier namespace n → IsRead sent namespace n
-    → GivesRead sent (codes "rft_id") (uri_of namespace n)
-uri_read laws sent namespace n is read other m h =
-    let same = uri_gives laws namespace other n m is h in
+pub own_gives : AreIdentified → (namespace : Namespace) → IsPlain namespace → (n m : Text) → IsIdentifier namespace n
+    → identifier_of namespace (codes "rft_id") (uri_of namespace n) ≡ Some m → (namespace ≡ namespace) × (n ≡ m)
+own_gives laws namespace plain n m is h =
+    (refl, some_same (identifier_of namespace (codes "rft_id") (uri_of namespace n)) n m (plain_has laws namespace plain n is) h)
+
+pub none_gives : AreIdentified → (namespace other : Namespace) → registered other ≢ registered namespace → (n m : Text)
+    → identifier_of other (codes "rft_id") (uri_of namespace n) ≡ Some m → (namespace ≡ other) × (n ≡ m)
+none_gives laws namespace other apart n m h =
+    absurd (none_given (identifier_of other (codes "rft_id") (uri_of namespace n)) m (uri_has_none laws namespace other n apart) h)
+
+pub apart_gives : AreIdentified → (namespace other : Namespace) → IsApart namespace → (n m : Text) → IsIdentifier namespace n
+    → identifier_of other (codes "rft_id") (uri_of namespace n) ≡ Some m → (namespace ≡ other) × (n ≡ m)
+apart_gives laws Pmid Doi apart n m is h = none_gives laws Pmid Doi (λ e. cc) n m h
+apart_gives laws Pmid Pmid apart n m is h = own_gives laws Pmid apart.0 n m is h
+apart_gives laws Pmid Oclc apart n m is h = none_gives laws Pmid Oclc (λ e. cc) n m h
+apart_gives laws Pmid Pmc apart n m is h = none_gives laws Pmid Pmc (λ e. cc) n m h
+apart_gives laws Pmid Arxiv apart n m is h = none_gives laws Pmid Arxiv (λ e. cc) n m h
+apart_gives laws Oclc Doi apart n m is h = none_gives laws Oclc Doi (λ e. cc) n m h
+apart_gives laws Oclc Pmid apart n m is h = none_gives laws Oclc Pmid (λ e. cc) n m h
+apart_gives laws Oclc Oclc apart n m is h = own_gives laws Oclc apart.0 n m is h
+apart_gives laws Oclc Pmc apart n m is h = none_gives laws Oclc Pmc (λ e. cc) n m h
+apart_gives laws Oclc Arxiv apart n m is h = none_gives laws Oclc Arxiv (λ e. cc) n m h
+apart_gives laws Pmc Doi apart n m is h = none_gives laws Pmc Doi (λ e. cc) n m h
+apart_gives laws Pmc Pmid apart n m is h = none_gives laws Pmc Pmid (λ e. cc) n m h
+apart_gives laws Pmc Oclc apart n m is h = none_gives laws Pmc Oclc (λ e. cc) n m h
+apart_gives laws Pmc Pmc apart n m is h = own_gives laws Pmc apart.0 n m is h
+apart_gives laws Pmc Arxiv apart n m is h = none_gives laws Pmc Arxiv (λ e. cc) n m h
+apart_gives laws Doi other apart n m is h = absurd (apart.1 refl)
+apart_gives laws Arxiv other apart n m is h = absurd (apart.1 refl)
+
+pub uri_read : AreIdentified → (sent : List Text) (namespace : Namespace) → IsApart namespace → (n : Text) → IsIdentifier namespace n
+    → IsRead sent namespace n → GivesRead sent (codes "rft_id") (uri_of namespace n)
+uri_read laws sent namespace apart n is read other m h =
+    let same = apart_gives laws namespace other apart n m is h in
     subst (λ o. IsRead sent o m) same.0 (subst (IsRead sent namespace) same.1 read)
 
-naming_gives : AreIdentified → (sent : List Text) (namespace : Namespace) (pairs : List KeyValue) → AreRead sent pairs
+pub naming_gives : AreIdentified → (sent : List Text) (namespace : Namespace) → IsApart namespace → (pairs : List KeyValue) → AreRead sent pairs
     → All (GivesRead sent (codes "rft_id")) (all_of (taken pairs (naming namespace)) (codes "rft_id"))
-naming_gives laws sent namespace pairs all =
+naming_gives laws sent namespace apart pairs all =
     let key = codes "rft_id" in
     let values = all_of pairs key in
-    let found = first_identifier namespace pairs in
     let P : Text → Type 0 = GivesRead sent key in
-    let now : all_of (taken pairs (naming namespace)) key ≡ (named namespace found values).values ++ values =
-    all_of-taken-own (naming namespace) pairs
-    ∙ ap (λ b. (named namespace found values).values ++ cond b values []) (named-keeps namespace found values) in
-    subst (All P) (sym now)
-    (All-append P (named namespace found values).values values
-    (each_named P namespace found values
-    (λ n e. uri_read laws sent namespace n (first_is (IsIdentifier namespace) namespace (of_is laws namespace) pairs n e)
-    (first_read sent namespace pairs all n e)))
+    subst (All P) (sym (named_values namespace pairs))
+    (All-append P (named namespace (nameable namespace pairs) values).values values
+    (each_named P namespace (nameable namespace pairs) values
+    (λ n e. uri_read laws sent namespace apart n (nameable_identifier laws namespace pairs n e) (nameable_read sent namespace pairs all n e)))
     (all 0 [] (lit< tt)))
 
-pub naming_read : AreIdentified → (sent : List Text) (namespace : Namespace) (pairs : List KeyValue) → AreRead sent pairs
+pub naming_read : AreIdentified → (sent : List Text) (namespace : Namespace) → IsApart namespace → (pairs : List KeyValue) → AreRead sent pairs
     → AreRead sent (taken pairs (naming namespace))
-naming_read laws sent namespace pairs all =
-    let now = taken pairs (naming namespace) in
-    All-cons (λ key. All (GivesRead sent key) (all_of now key)) (codes "rft_id") source_keys (naming_gives laws sent namespace pairs all)
-    (λ k d h. let key = get_or source_keys k d in
-    subst (All (GivesRead sent key)) (sym (all_of-taken (naming namespace) pairs key (sources_apart k d h)))
-    (All-tail (λ key. All (GivesRead sent key) (all_of pairs key)) (codes "rft_id") source_keys all k d h))
+naming_read laws sent namespace apart pairs all =
+    with_values (GivesRead sent) namespace pairs all (naming_gives laws sent namespace apart pairs all)

@@ -17,20 +17,22 @@ use Rattle.openurl_reading.specs.DublinCore.{is_core, creator, is_typed, core_ty
 use Rattle.openurl_reading.specs.Titles.{is_titled, title_key, title_keys, of_title, titling, titlings}
 use Rattle.openurl_reading.specs.Formats.{formatted, format_of, format_step}
 use Rattle.openurl_reading.specs.Kinds.{kind_of}
+use Rattle.openurl_reading.specs.Texts.{text_steps}
 use Rattle.openurl_reading.specs.Referrers.{referrer_of, referrer_step}
 use Rattle.openurl_reading.specs.Numbers.{first_issn, first_eissn, first_isbn, issn_step, eissn_step, isbn_step}
 use Rattle.openurl_reading.specs.Dates.{date_step}
 use Rattle.work_identifiers.specs.declared.namespace.Namespace.{Namespace}
-use Rattle.work_identifiers.specs.declared.namespace.Namespace.TheVariants.{Doi, Pmid, Oclc}
-use Rattle.openurl_reading.specs.Identifiers.{first_identifier, naming, namings}
+use Rattle.work_identifiers.specs.declared.namespace.Namespace.TheVariants.{Doi, Pmid, Oclc, Pmc, Arxiv}
+use Rattle.openurl_reading.specs.Identifiers.{nameable, naming, namings}
 use Rattle.openurl_reading.specs.Pages.{first_page, last_page, first_page_step, last_page_step}
 use Rattle.openurl_reading.specs.Volumes.{added_issue, volume, issue, added_issue_step, volume_step, issue_step}
 use Rattle.openurl_reading.proofs.Copied.{copied-keeps, copying_keeps}
 use Rattle.openurl_reading.proofs.Each.{one_has}
 use Rattle.openurl_reading.proofs.Filled.{MakesSome, KeepsKey, filled_unchanged, filled-keeps, all_keep_filled, copies_fill}
 use Rattle.openurl_reading.proofs.Led.{led-keeps}
-use Rattle.openurl_reading.proofs.Named.{named-keeps}
-use Rattle.openurl_reading.proofs.Stages.{after_dates, after_volumes, kind_steps, last_steps}
+use Rattle.openurl_reading.proofs.NamedPreprints.{named-keeps}
+use Rattle.openurl_reading.proofs.Stages.{after_dates, after_volumes, kind_steps, led_steps, last_steps}
+use Rattle.openurl_reading.proofs.TextsKept.{texts_keep}
 use Rattle.openurl_reading.proofs.Values.{values_after, all_of-taken-own, all_of-after}
 
 -- steps of other keys, by a test over a list
@@ -67,38 +69,43 @@ abbrev pub referral : OldKey
 referral = record { old = codes "sid"; new = codes "rfr_id" }
 
 naming_keeps : (key : Text) (namespace : Namespace) → KeepsKey key (naming namespace)
-naming_keeps key namespace = inr (λ p. named-keeps namespace (first_identifier namespace p) (all_of p (codes "rft_id")))
+naming_keeps key namespace = inr (λ p. inl (named-keeps namespace (nameable namespace p) (all_of p (codes "rft_id"))))
 
 namings_keep : (key : Text) → All (KeepsKey key) namings
 namings_keep key =
-    All-cons (KeepsKey key) (naming Oclc) (naming Pmid ∷ naming Doi ∷ []) (naming_keeps key Oclc)
-    (All-cons (KeepsKey key) (naming Pmid) (naming Doi ∷ []) (naming_keeps key Pmid) (one_has (KeepsKey key) (naming Doi) (naming_keeps key Doi)))
+    All-cons (KeepsKey key) (naming Oclc) (naming Pmc ∷ naming Pmid ∷ naming Arxiv ∷ naming Doi ∷ []) (naming_keeps key Oclc)
+    (All-cons (KeepsKey key) (naming Pmc) (naming Pmid ∷ naming Arxiv ∷ naming Doi ∷ []) (naming_keeps key Pmc)
+    (All-cons (KeepsKey key) (naming Pmid) (naming Arxiv ∷ naming Doi ∷ []) (naming_keeps key Pmid)
+    (All-cons (KeepsKey key) (naming Arxiv) (naming Doi ∷ []) (naming_keeps key Arxiv) (one_has (KeepsKey key) (naming Doi) (naming_keeps key Doi)))))
 
-pub last_keep : (key : Text) → bytes_eq (codes "rft.date") key ≡ false → All (KeepsKey key) last_steps
-last_keep key h =
-    All-cons (KeepsKey key) referrer_step (issn_step ∷ eissn_step ∷ isbn_step ∷ date_step ∷ after_dates) (inr (λ p. filled-keeps _ (all_of p (codes "rfr_id"))))
-    (All-cons (KeepsKey key) issn_step (eissn_step ∷ isbn_step ∷ date_step ∷ after_dates) (inr (λ p. led-keeps (first_issn p) (first_of p (codes "rft.issn"))))
-    (All-cons (KeepsKey key) eissn_step (isbn_step ∷ date_step ∷ after_dates) (inr (λ p. led-keeps (first_eissn p) (first_of p (codes "rft.eissn"))))
-    (All-cons (KeepsKey key) isbn_step (date_step ∷ after_dates) (inr (λ p. led-keeps (first_isbn p) (first_of p (codes "rft.isbn"))))
+pub led_keep : (key : Text) → bytes_eq (codes "rft.date") key ≡ false → All (KeepsKey key) led_steps
+led_keep key h =
+    All-cons (KeepsKey key) referrer_step (issn_step ∷ eissn_step ∷ isbn_step ∷ date_step ∷ after_dates)
+    (inr (λ p. inl (filled-keeps _ (all_of p (codes "rfr_id")))))
+    (All-cons (KeepsKey key) issn_step (eissn_step ∷ isbn_step ∷ date_step ∷ after_dates)
+    (inr (λ p. inl (led-keeps (first_issn p) (first_of p (codes "rft.issn")))))
+    (All-cons (KeepsKey key) eissn_step (isbn_step ∷ date_step ∷ after_dates) (inr (λ p. inl (led-keeps (first_eissn p) (first_of p (codes "rft.eissn")))))
+    (All-cons (KeepsKey key) isbn_step (date_step ∷ after_dates) (inr (λ p. inl (led-keeps (first_isbn p) (first_of p (codes "rft.isbn")))))
     (All-cons (KeepsKey key) date_step after_dates (inl h)
-    (All-cons (KeepsKey key) added_issue_step (volume_step ∷ issue_step ∷ after_volumes) (inr (λ p. led-keeps (added_issue p) (first_of p (codes "rft.issue"))))
-    (All-cons (KeepsKey key) volume_step (issue_step ∷ after_volumes) (inr (λ p. led-keeps (volume p) (first_of p (codes "rft.volume"))))
-    (All-cons (KeepsKey key) issue_step after_volumes (inr (λ p. led-keeps (issue p) (first_of p (codes "rft.issue"))))
-    (All-cons (KeepsKey key) last_page_step (first_page_step ∷ namings) (inr (λ p. led-keeps (last_page p) (first_of p (codes "rft.epage"))))
-    (All-cons (KeepsKey key) first_page_step namings (inr (λ p. led-keeps (first_page p) (first_of p (codes "rft.spage")))) (namings_keep key))))))))))
+    (All-cons (KeepsKey key) added_issue_step (volume_step ∷ issue_step ∷ after_volumes)
+    (inr (λ p. inl (led-keeps (added_issue p) (first_of p (codes "rft.issue")))))
+    (All-cons (KeepsKey key) volume_step (issue_step ∷ after_volumes) (inr (λ p. inl (led-keeps (volume p) (first_of p (codes "rft.volume")))))
+    (All-cons (KeepsKey key) issue_step after_volumes (inr (λ p. inl (led-keeps (issue p) (first_of p (codes "rft.issue")))))
+    (All-cons (KeepsKey key) last_page_step (first_page_step ∷ namings) (inr (λ p. inl (led-keeps (last_page p) (first_of p (codes "rft.epage")))))
+    (All-cons (KeepsKey key) first_page_step namings (inr (λ p. inl (led-keeps (first_page p) (first_of p (codes "rft.spage"))))) (namings_keep key))))))))))
 
 formatted-keeps : (pairs : List KeyValue) → (formatted pairs).keeps ≡ true
 formatted-keeps [] = refl
 formatted-keeps (pair ∷ pairs) = filled-keeps (format_of (kind_of (pair ∷ pairs)) ∷ []) (all_of (pair ∷ pairs) (codes "rft_val_fmt"))
 
 titling_keeps : (key title : Text) → KeepsKey key (titling title)
-titling_keeps key title = inr (λ p. copied-keeps (not (is_titled p) && bytes_eq title (title_key (kind_of p))) (of_title title) p)
+titling_keeps key title = inr (λ p. inl (copied-keeps (not (is_titled p) && bytes_eq title (title_key (kind_of p))) (of_title title) p))
 
 pub titlings_keep : (key : Text) → All (KeepsKey key) titlings
 titlings_keep key = All-map (KeepsKey key) titling title_keys (λ k d h. titling_keeps key (get_or title_keys k d))
 
 pub format_keeps : (key : Text) → KeepsKey key format_step
-format_keeps key = inr formatted-keeps
+format_keeps key = inr (λ p. inl (formatted-keeps p))
 
 core_steps_keep : (key : Text) → All (KeepsKey key) core_steps
 core_steps_keep key =
@@ -108,6 +115,9 @@ core_steps_keep key =
     (copying_keeps key is_in_journal (of_core_title (codes "rft.atitle")))
     (one_has (KeepsKey key) (copying is_of_core_book (of_core_title (codes "rft.btitle")))
     (copying_keeps key is_of_core_book (of_core_title (codes "rft.btitle"))))))
+
+pub last_keep : (key : Text) → bytes_eq (codes "rft.date") key ≡ false → All (KeepsKey key) last_steps
+last_keep key h = All-append (KeepsKey key) text_steps led_steps (texts_keep key) (led_keep key h)
 
 -- the steps after those of Dublin Core
 abbrev pub after_core : List Step

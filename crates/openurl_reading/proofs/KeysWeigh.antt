@@ -20,19 +20,21 @@ use Rattle.openurl_reading.specs.DublinCore.{is_core, creator, is_typed, core_ty
 use Rattle.openurl_reading.specs.Titles.{title_key, of_title, titlings}
 use Rattle.openurl_reading.specs.Formats.{format_of, format_step}
 use Rattle.openurl_reading.specs.Values.{most_values}
+use Rattle.openurl_reading.specs.Texts.{text_steps}
 use Rattle.openurl_reading.specs.Referrers.{namespace, referrer_of, referrer_step}
 use Rattle.work_identifiers.specs.declared.namespace.Namespace.{Namespace}
-use Rattle.work_identifiers.specs.declared.namespace.Namespace.TheVariants.{Doi, Pmid, Oclc}
+use Rattle.work_identifiers.specs.declared.namespace.Namespace.TheVariants.{Doi, Pmid, Oclc, Pmc, Arxiv}
 use Rattle.work_identifiers.specs.Forms.{IsIdentifier}
-use Rattle.openurl_reading.specs.Identifiers.{uri_of}
+use Rattle.work_identifiers.specs.Uris.{uri_of}
 use Rattle.openurl_reading.proofs.Additions.{AreDaysAll}
 use Rattle.openurl_reading.proofs.Copied.{IsCopyOf, no_copy, one_copy}
 use Rattle.openurl_reading.proofs.CoreCopied.{creator-is, type-is, titles-is}
 use Rattle.openurl_reading.proofs.FieldsCopied.{number-is, identifier-is}
 use Rattle.openurl_reading.proofs.FoundAre.{AreFound}
-use Rattle.openurl_reading.proofs.Identified.{AreIdentified}
+use Rattle.openurl_reading.proofs.Identified.{IsPlain, AreIdentified}
 use Rattle.openurl_reading.proofs.KeysSettle.{all_apart, same_after}
 use Rattle.openurl_reading.proofs.Stages.{kind_steps}
+use Rattle.openurl_reading.proofs.TextsWeigh.{AreTextsLight, texts_weigh}
 use Rattle.openurl_reading.proofs.Titled.{titlings-are}
 use Rattle.openurl_reading.proofs.Totals.{total, total_taken, filled_weighs, shares, shares-le, shares-same, olds, copies_weigh}
 
@@ -46,13 +48,18 @@ pub record AreLight (g : Text → ℕ) (m : ℕ) (u : Namespace → ℕ) : Type 
   pub days : (pairs : List KeyValue) → AreDaysAll (λ n. g n ≤ m) pairs
   pub version : g version ≤ m
   pub source : (sid : Text) → g (referrer_of sid) ≤ m + g sid
+  pub text : AreTextsLight g
   pub identified : AreIdentified
-  pub identifier : (namespace : Namespace) (n : Text) → IsIdentifier namespace n → g n ≤ u namespace
+  pub identifier : (namespace : Namespace) (n : Text) → IsPlain namespace → IsIdentifier namespace n → g n ≤ u namespace
   pub uri : (namespace : Namespace) (n : Text) → IsIdentifier namespace n → g (uri_of namespace n) ≤ u namespace
 
--- one of each namespace
+-- one of each namespace whose identifiers are derived
 abbrev pub all_three : (Namespace → ℕ) → ℕ
 all_three u = u Doi + u Pmid + u Oclc
+
+-- one of each other namespace
+abbrev pub both_others : (Namespace → ℕ) → ℕ
+both_others u = u Pmc + u Arxiv
 
 -- ---- versions
 
@@ -151,18 +158,19 @@ olds_after_fields g pairs =
     (AllPass-from_list_all (λ key. list_all (λ step. not (bytes_eq step.key key)) fields) (olds old_keys) refl k d h))
 
 pub keys_weigh : (g : Text → ℕ) (m f : ℕ) (u : Namespace → ℕ) → AreLight g m u → AreFormatsLight g f → (before : List KeyValue)
-    → total g (taken (after kind_steps (after copies (after fields before))) referrer_step) ≤ m + f + 2 * total g before
+    → total g (taken (after text_steps (after kind_steps (after copies (after fields before)))) referrer_step) ≤ m + f + 2 * total g before
 keys_weigh g m f u light formats before =
     let pairs = after fields before in
     let copied = after copies pairs in
     let core = after core_steps copied in
     let titled = after titlings core in
     let kinds = taken titled format_step in
-    let sids = all_of kinds (codes "sid") in
-    let all = total_taken g referrer_step kinds in
-    let few = filled_weighs g (map referrer_of (take 1 sids)) (all_of kinds (codes "rfr_id")) in
+    let texts = after text_steps kinds in
+    let sids = all_of texts (codes "sid") in
+    let all = total_taken g referrer_step texts in
+    let few = filled_weighs g (map referrer_of (take 1 sids)) (all_of texts (codes "rfr_id")) in
     let same : sum_by g sids ≡ sum_by g (all_of before (codes "sid")) =
-    ap (sum_by g) (same_after kind_steps copied (codes "sid") refl ∙ same_after copies pairs (codes "sid") refl
+    ap (sum_by g) (same_after text_steps kinds (codes "sid") refl ∙ same_after kind_steps copied (codes "sid") refl ∙ same_after copies pairs (codes "sid") refl
     ∙ same_after fields before (codes "sid") refl) in
     let under : (key : Text) → list_all (λ step. not (bytes_eq step.key key)) copies ≡ true → list_all (λ step. not (bytes_eq step.key key)) fields ≡ true
     → sum_by g (all_of copied key) ≡ sum_by g (all_of before key) =
@@ -178,6 +186,7 @@ keys_weigh g m f u light formats before =
       few,
       source_weighs g m u light sids,
       same,
+      texts_weigh g light.text kinds,
       format_weighs g f formats titled,
       titlings_weigh g core,
       titles,

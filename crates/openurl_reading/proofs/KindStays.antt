@@ -12,12 +12,14 @@ use Rattle.openurl_reading.specs.declared.kinds.Kind.TheVariants.{Book, Journal}
 use Rattle.openurl_reading.specs.Kinds.{kind_named, kind_of}
 use Rattle.openurl_reading.specs.Numbers.{issn_step, eissn_step, isbn_step, eissn_among}
 use Rattle.openurl_reading.specs.Dates.{date_step}
+use Rattle.openurl_reading.specs.Texts.{text_steps}
 use Rattle.openurl_reading.specs.Referrers.{referrer_step}
 use Rattle.openurl_reading.specs.Steps.{Step, unchanged, leading, taken, after}
 use Rattle.openurl_reading.specs.Values.{led}
 use Rattle.openurl_reading.proofs.FoundAgain.{issn_among, further_among, isbn_among}
 use Rattle.openurl_reading.proofs.KeysSettle.{same_after}
-use Rattle.openurl_reading.proofs.Stages.{after_dates, last_steps}
+use Rattle.openurl_reading.proofs.Stages.{after_dates, led_steps, last_steps, last-is}
+use Rattle.openurl_reading.proofs.TextsSome.{texts_some}
 use Rattle.openurl_reading.proofs.Values.{values_after, all_of-taken, all_of-taken-own}
 
 -- there is a value
@@ -65,14 +67,14 @@ isbns_stay isbns [] = ap (λ b. b || false) (led_some (isbn_among [] isbns) isbn
 isbns_stay isbns (e ∷ es) =
     or-true (are_some (values_after (led (isbn_among (e ∷ es) isbns) (slice_get isbns 0)) isbns)) ∙ sym (or-true (are_some isbns))
 
-same_kind : (g g' books books' journals journals' : List Text) (b b' s s' : Bool) → g ≡ g' → b ≡ b' → s ≡ s' → books ≡ books' → journals ≡ journals'
-    → unwrap_or (option_and_then kind_named (slice_get g 0)) (if (b && not s) || (are_some books && not (are_some journals)) then Book else Journal)
-    ≡ unwrap_or (option_and_then kind_named (slice_get g' 0)) (if (b' && not s') || (are_some books' && not (are_some journals')) then Book else Journal)
+same_kind : (g g' : List Text) (books books' journals journals' b b' s s' : Bool) → g ≡ g' → b ≡ b' → s ≡ s' → books ≡ books' → journals ≡ journals'
+    → unwrap_or (option_and_then kind_named (slice_get g 0)) (if (b && not s) || (books && not journals) then Book else Journal)
+    ≡ unwrap_or (option_and_then kind_named (slice_get g' 0)) (if (b' && not s') || (books' && not journals') then Book else Journal)
 same_kind g g' books books' journals journals' b b' s s' eg eb es ebooks ejournals = rw (eg, eb, es, ebooks, ejournals) refl
 
-pub kind_stays : (pairs : List KeyValue) → kind_of (after last_steps pairs) ≡ kind_of pairs
-kind_stays pairs =
-    let now = after last_steps pairs in
+led_kind_stays : (pairs : List KeyValue) → kind_of (after led_steps pairs) ≡ kind_of pairs
+led_kind_stays pairs =
+    let now = after led_steps pairs in
     let named = taken pairs referrer_step in
     let first = taken named issn_step in
     let second = taken first eissn_step in
@@ -105,9 +107,23 @@ kind_stays pairs =
     let some_isbns : are_some (all_of now (codes "rft.isbn")) || are_some (all_of now (codes "rft.eisbn")) ≡ are_some isbns || are_some eisbns =
     ap (λ vs. are_some vs || are_some (all_of now (codes "rft.eisbn"))) isbns_now
     ∙ ap (λ vs. are_some (values_after (led (isbn_among eisbns isbns) (slice_get isbns 0)) isbns) || are_some vs)
-    (same_after last_steps pairs (codes "rft.eisbn") refl) ∙ isbns_stay isbns eisbns in
-    same_kind _ _ _ _ _ _ _ _ _ _ (same_after last_steps pairs (codes "rft.genre") refl) some_isbns some_issns
-    (same_after last_steps pairs (codes "rft.btitle") refl) (same_after last_steps pairs (codes "rft.jtitle") refl)
+    (same_after led_steps pairs (codes "rft.eisbn") refl) ∙ isbns_stay isbns eisbns in
+    same_kind _ _ _ _ _ _ _ _ _ _ (same_after led_steps pairs (codes "rft.genre") refl) some_isbns some_issns
+    (ap are_some (same_after led_steps pairs (codes "rft.btitle") refl)) (ap are_some (same_after led_steps pairs (codes "rft.jtitle") refl))
+
+texts_kind_stays : (pairs : List KeyValue) → kind_of (after text_steps pairs) ≡ kind_of pairs
+texts_kind_stays pairs =
+    let same : (key : Text) → list_all (λ step. not (bytes_eq step.key key)) text_steps ≡ true
+    → are_some (all_of (after text_steps pairs) key) ≡ are_some (all_of pairs key) = λ key h. ap are_some (same_after text_steps pairs key h) in
+    same_kind _ _ _ _ _ _ _ _ _ _ (same_after text_steps pairs (codes "rft.genre") refl)
+    (either (same (codes "rft.isbn") refl) (same (codes "rft.eisbn") refl)) (either (same (codes "rft.issn") refl) (same (codes "rft.eissn") refl))
+    (texts_some (codes "rft.btitle") pairs) (texts_some (codes "rft.jtitle") pairs)
+  where
+    either : {a a' b b' : Bool} → a ≡ a' → b ≡ b' → (a || b) ≡ (a' || b')
+    either {a} {a'} {b} {b'} e g = rw (e, g) refl
+
+pub kind_stays : (pairs : List KeyValue) → kind_of (after last_steps pairs) ≡ kind_of pairs
+kind_stays pairs = ap kind_of (last-is pairs) ∙ led_kind_stays (after text_steps pairs) ∙ texts_kind_stays pairs
 
 -- the keys that say it
 abbrev pub kind_keys : List Text

@@ -19,6 +19,7 @@ pub mod FoundAre
 pub mod Free
 pub mod IdentifierForms
 pub mod IdentifierOrigins
+pub mod PreprintOrigins
 pub mod Identified
 pub mod KeysSettle
 pub mod KeysWeigh
@@ -26,6 +27,8 @@ pub mod KindStays
 pub mod Led
 pub mod LowerLaws
 pub mod Named
+pub mod NamedPreprints
+pub mod CanonicalNames
 pub mod NothingInvented
 pub mod Origins
 pub mod Others
@@ -39,6 +42,12 @@ pub mod Sent
 pub mod Settled
 pub mod Sizes
 pub mod Stages
+pub mod TextOrigins
+pub mod TextsKept
+pub mod TextsPass
+pub mod TextsRead
+pub mod TextsSome
+pub mod TextsWeigh
 pub mod Titled
 pub mod Totals
 pub mod Values
@@ -48,3 +57,4 @@ pub mod VolumeOrigins
 pub mod VolumesFound
 pub mod VolumesLed
 pub mod DaysLed
+pub mod VersionsStated

@@ -6,54 +6,67 @@ use Rattle.std.specs.Option.{option_or}
 use Rattle.std.specs.Str.{bytes_eq}
 use Rattle.std.proofs.lemmas.Bool.{not-true}
 use Rattle.std.proofs.lemmas.List.Sums.{AllPass-from_list_all}
-use Rattle.std.proofs.lemmas.List.Elements.{All-head, All-tail}
 use Rattle.text_model.specs.Texts.{Text}
 use Rattle.kev_read.specs.Pairs.{KeyValue, all_of}
 use Rattle.work_identifiers.specs.declared.namespace.Namespace.{Namespace}
-use Rattle.work_identifiers.specs.declared.namespace.Namespace.TheVariants.{Doi, Pmid, Oclc}
+use Rattle.work_identifiers.specs.declared.namespace.Namespace.TheVariants.{Doi, Pmid, Oclc, Pmc, Arxiv}
 use Rattle.work_identifiers.specs.Forms.{IsIdentifier}
+use Rattle.work_identifiers.specs.Uris.{uri_of, canonical, registered}
 use Rattle.openurl_reading.specs.Counting.{is_one_of}
-use Rattle.openurl_reading.specs.Steps.{unchanged, leading, taken, after}
-use Rattle.openurl_reading.specs.Identifiers.{identifier_of, source_keys, first_under, first_identifier, uri_of, named, naming, namings}
-use Rattle.openurl_reading.specs.Canonical.{IsReferentUri, registered, other_uri, HasNoIdentifier, Under}
+use Rattle.openurl_reading.specs.Steps.{unchanged, leading, taken}
+use Rattle.openurl_reading.specs.Identifiers.{identifier_of, source_keys, first_under, first_identifier, nameable, named, naming}
 use Rattle.openurl_reading.proofs.FoundAre.{IsAll}
-use Rattle.openurl_reading.proofs.Identified.{first_found, found-cons, found_none, found_same, first_is}
-use Rattle.openurl_reading.proofs.Identified.{AreIdentified, of_is, referent-none, uri_has, uri_has_none, uri_gives}
+use Rattle.openurl_reading.proofs.Identified.{first_found, found-cons, found_same, first_is}
+use Rattle.openurl_reading.proofs.Identified.{IsPlain, AreIdentified, of_is, uri_has, uri_has_none}
 use Rattle.openurl_reading.proofs.Others.{bytes_eq-same}
-use Rattle.openurl_reading.proofs.Settled.{IsNamed}
 use Rattle.openurl_reading.proofs.Values.{values_after, all_of-taken, all_of-taken-own}
 
 -- ---- in the values of `rft_id`, if the first identifier of the other keys is known
 
-abbrev rest_of : Namespace → List KeyValue → Option Text
+abbrev pub rest_of : Namespace → List KeyValue → Option Text
 rest_of namespace pairs = first_found (first_under namespace pairs) source_keys
 
-abbrev among : Namespace → Option Text → List Text → Option Text
+abbrev pub among : Namespace → Option Text → List Text → Option Text
 among namespace rest values = option_or (first_found (identifier_of namespace (codes "rft_id")) values) rest
 
-abbrev IsNamedAmong : Namespace → Option Text → List Text → Type 0
+abbrev pub IsNamedAmong : Namespace → Option Text → List Text → Type 0
 IsNamedAmong namespace rest values = named namespace (among namespace rest values) values ≡ unchanged
 
-first-among : (namespace : Namespace) (pairs : List KeyValue)
+-- the first identifier of the namespace has its URI in `rft_id`, if there is one
+abbrev pub IsFirstNamed : List KeyValue → Namespace → Type 0
+IsFirstNamed pairs namespace = named namespace (first_identifier namespace pairs) (all_of pairs (codes "rft_id")) ≡ unchanged
+
+pub first-among : (namespace : Namespace) (pairs : List KeyValue)
     → first_identifier namespace pairs ≡ among namespace (rest_of namespace pairs) (all_of pairs (codes "rft_id"))
 first-among namespace pairs = found-cons (first_under namespace pairs) (codes "rft_id") source_keys
 
-named_among : (pairs : List KeyValue) (namespace : Namespace) → IsNamed pairs namespace
+pub named_among : (pairs : List KeyValue) (namespace : Namespace) → IsFirstNamed pairs namespace
     → IsNamedAmong namespace (rest_of namespace pairs) (all_of pairs (codes "rft_id"))
 named_among pairs namespace h =
     let values = all_of pairs (codes "rft_id") in sym (ap (λ o. named namespace o values) (first-among namespace pairs)) ∙ h
 
-among_named : (pairs : List KeyValue) (namespace : Namespace) (rest : Option Text) (values : List Text) → rest_of namespace pairs ≡ rest
-    → all_of pairs (codes "rft_id") ≡ values → IsNamedAmong namespace rest values → IsNamed pairs namespace
+pub among_named : (pairs : List KeyValue) (namespace : Namespace) (rest : Option Text) (values : List Text) → rest_of namespace pairs ≡ rest
+    → all_of pairs (codes "rft_id") ≡ values → IsNamedAmong namespace rest values → IsFirstNamed pairs namespace
 among_named pairs namespace rest values e g h =
     let known = all_of pairs (codes "rft_id") in
     ap (λ o. named namespace o known) (first-among namespace pairs) ∙ ap (λ r. named namespace (among namespace r known) known) e
     ∙ ap (λ vs. named namespace (among namespace rest vs) vs) g ∙ h
 
+pub plain_stays : (namespace : Namespace) → IsPlain namespace → (n : Text) → canonical namespace n ≡ n
+plain_stays Doi plain n = refl
+plain_stays Pmid plain n = refl
+plain_stays Oclc plain n = refl
+plain_stays Pmc plain n = refl
+plain_stays Arxiv plain n = cc
+
+pub plain_has : AreIdentified → (namespace : Namespace) → IsPlain namespace → (n : Text) → IsIdentifier namespace n
+    → identifier_of namespace (codes "rft_id") (uri_of namespace n) ≡ Some n
+plain_has laws namespace plain n is = uri_has laws namespace n is ∙ ap Some (plain_stays namespace plain n)
+
 -- ---- one step, on the values of `rft_id`
 
 -- an identifier that is named has its URI among the values
-named_known : (namespace : Namespace) (n : Text) (values : List Text) → named namespace (Some n) values ≡ unchanged
+pub named_known : (namespace : Namespace) (n : Text) (values : List Text) → named namespace (Some n) values ≡ unchanged
     → is_one_of values (uri_of namespace n) ≡ true
 named_known namespace n values h = by_test (is_one_of values (uri_of namespace n)) h
   where
@@ -61,21 +74,21 @@ named_known namespace n values h = by_test (is_one_of values (uri_of namespace n
     by_test true e = refl
     by_test false e = let none : uri_of namespace n ∷ [] ≡ [] = ap (λ change. change.values) e in cc
 
-known_named : (namespace : Namespace) (n : Text) (values : List Text) → is_one_of values (uri_of namespace n) ≡ true
+pub known_named : (namespace : Namespace) (n : Text) (values : List Text) → is_one_of values (uri_of namespace n) ≡ true
     → named namespace (Some n) values ≡ unchanged
 known_named namespace n values h = ap (λ b. cond b unchanged (leading (uri_of namespace n ∷ []))) h
 
-or-true : (b : Bool) → b || true ≡ true
+pub or-true : (b : Bool) → b || true ≡ true
 or-true true = refl
 or-true false = refl
 
-more_known : (v : Text) (values : List Text) (text : Text) → is_one_of values text ≡ true → is_one_of (v ∷ values) text ≡ true
+pub more_known : (v : Text) (values : List Text) (text : Text) → is_one_of values text ≡ true → is_one_of (v ∷ values) text ≡ true
 more_known v values text h = ap (λ b. bytes_eq v text || b) h ∙ or-true (bytes_eq v text)
 
-named_settles : AreIdentified → (namespace : Namespace) (rest : Option Text) (values : List Text)
+pub named_settles : AreIdentified → (namespace : Namespace) → IsPlain namespace → (rest : Option Text) (values : List Text)
     → IsAll (IsIdentifier namespace) (among namespace rest values)
     → IsNamedAmong namespace rest (values_after (named namespace (among namespace rest values) values) values)
-named_settles laws namespace rest values is = by_found (among namespace rest values) refl is
+named_settles laws namespace plain rest values is = by_found (among namespace rest values) refl is
   where
     by_found : (found : Option Text) → among namespace rest values ≡ found → IsAll (IsIdentifier namespace) found
         → IsNamedAmong namespace rest (values_after (named namespace found values) values)
@@ -93,25 +106,25 @@ named_settles laws namespace rest values is = by_found (among namespace rest val
             let found : among namespace rest values' ≡ Some n =
             ap (λ o. option_or o rest) (found-cons (identifier_of namespace (codes "rft_id")) (uri_of namespace n) values)
             ∙ ap (λ o. option_or (option_or o (first_found (identifier_of namespace (codes "rft_id")) values)) rest)
-            (uri_has laws namespace n (are n refl)) in
+            (plain_has laws namespace plain n (are n refl)) in
             ap (λ o. named namespace o values') found
             ∙ known_named namespace n values' (ap (λ b. b || is_one_of values (uri_of namespace n)) (bytes_eq-same (uri_of namespace n)))
 
 -- a URI of another namespace changes nothing
-other_among : AreIdentified → (namespace other : Namespace) (text : Text) → namespace ≢ other → (rest : Option Text) (values : List Text)
-    → among namespace rest (uri_of other text ∷ values) ≡ among namespace rest values
+pub other_among : AreIdentified → (namespace other : Namespace) (text : Text) → registered namespace ≢ registered other → (rest : Option Text)
+    (values : List Text) → among namespace rest (uri_of other text ∷ values) ≡ among namespace rest values
 other_among laws namespace other text apart rest values =
     let find = identifier_of namespace (codes "rft_id") in
     ap (λ o. option_or o rest)
     (found-cons find (uri_of other text) values ∙ ap (λ o. option_or o (first_found find values)) (uri_has_none laws other namespace text apart))
 
-still_named : (namespace : Namespace) (found : Option Text) (v : Text) (values : List Text) → named namespace found values ≡ unchanged
+pub still_named : (namespace : Namespace) (found : Option Text) (v : Text) (values : List Text) → named namespace found values ≡ unchanged
     → named namespace found (v ∷ values) ≡ unchanged
 still_named namespace None v values h = refl
 still_named namespace (Some n) v values h =
     known_named namespace n (v ∷ values) (more_known v values (uri_of namespace n) (named_known namespace n values h))
 
-named_keeps : AreIdentified → (namespace other : Namespace) → namespace ≢ other → (rest found : Option Text) (values : List Text)
+pub named_keeps : AreIdentified → (namespace other : Namespace) → registered namespace ≢ registered other → (rest found : Option Text) (values : List Text)
     → IsNamedAmong namespace rest values → IsNamedAmong namespace rest (values_after (named other found values) values)
 named_keeps laws namespace other apart rest None values h = h
 named_keeps laws namespace other apart rest (Some m) values h = by_test (is_one_of values (uri_of other m))
@@ -128,84 +141,34 @@ named_keeps laws namespace other apart rest (Some m) values h = by_test (is_one_
 pub sources_apart : All (λ key. bytes_eq (codes "rft_id") key ≡ false) source_keys
 sources_apart k d h = not-true _ (AllPass-from_list_all (λ key. not (bytes_eq (codes "rft_id") key)) source_keys refl k d h)
 
-rest-same : (namespace other : Namespace) (pairs : List KeyValue) → rest_of namespace (taken pairs (naming other)) ≡ rest_of namespace pairs
+pub rest-same : (namespace other : Namespace) (pairs : List KeyValue) → rest_of namespace (taken pairs (naming other)) ≡ rest_of namespace pairs
 rest-same namespace other pairs =
     found_same (first_under namespace (taken pairs (naming other))) (first_under namespace pairs) source_keys
     (λ k d h. let key = get_or source_keys k d in
     ap (first_found (identifier_of namespace key)) (all_of-taken (naming other) pairs key (sources_apart k d h)))
 
-own_named : AreIdentified → (namespace : Namespace) (pairs : List KeyValue) → IsNamed (taken pairs (naming namespace)) namespace
-own_named laws namespace pairs =
+-- the values of `rft_id` after a step that names what is found
+pub now_values : (namespace : Namespace) (pairs : List KeyValue) (found : Option Text) → nameable namespace pairs ≡ found
+    → all_of (taken pairs (naming namespace)) (codes "rft_id")
+    ≡ values_after (named namespace found (all_of pairs (codes "rft_id"))) (all_of pairs (codes "rft_id"))
+now_values namespace pairs found e =
+    let values = all_of pairs (codes "rft_id") in
+    all_of-taken-own (naming namespace) pairs ∙ ap (λ o. values_after (named namespace o values) values) e
+
+pub own_named : AreIdentified → (namespace : Namespace) → IsPlain namespace → (pairs : List KeyValue)
+    → nameable namespace pairs ≡ first_identifier namespace pairs → IsFirstNamed (taken pairs (naming namespace)) namespace
+own_named laws namespace plain pairs first =
     let values = all_of pairs (codes "rft_id") in
     let rest = rest_of namespace pairs in
-    let now : all_of (taken pairs (naming namespace)) (codes "rft_id") ≡ values_after (named namespace (among namespace rest values) values) values =
-    all_of-taken-own (naming namespace) pairs ∙ ap (λ o. values_after (named namespace o values) values) (first-among namespace pairs) in
     let is : IsAll (IsIdentifier namespace) (among namespace rest values) =
     λ n e. first_is (IsIdentifier namespace) namespace (of_is laws namespace) pairs n (first-among namespace pairs ∙ e) in
-    among_named (taken pairs (naming namespace)) namespace rest _ (rest-same namespace namespace pairs) now (named_settles laws namespace rest values is)
+    among_named (taken pairs (naming namespace)) namespace rest _ (rest-same namespace namespace pairs)
+    (now_values namespace pairs (among namespace rest values) (first ∙ first-among namespace pairs)) (named_settles laws namespace plain rest values is)
 
-still : AreIdentified → (namespace other : Namespace) → namespace ≢ other → (pairs : List KeyValue) → IsNamed pairs namespace
-    → IsNamed (taken pairs (naming other)) namespace
+pub still : AreIdentified → (namespace other : Namespace) → registered namespace ≢ registered other → (pairs : List KeyValue)
+    → IsFirstNamed pairs namespace → IsFirstNamed (taken pairs (naming other)) namespace
 still laws namespace other apart pairs h =
     let values = all_of pairs (codes "rft_id") in
     among_named (taken pairs (naming other)) namespace (rest_of namespace pairs) _ (rest-same namespace other pairs)
-    (all_of-taken-own (naming other) pairs)
-    (named_keeps laws namespace other apart (rest_of namespace pairs) (first_identifier other pairs) values (named_among pairs namespace h))
-
--- ---- after all of them
-
-pub works_named : AreIdentified → (pairs : List KeyValue) (namespace : Namespace) → IsNamed (after namings pairs) namespace
-works_named laws pairs Doi = own_named laws Doi (taken (taken pairs (naming Oclc)) (naming Pmid))
-works_named laws pairs Pmid =
-    let first = taken pairs (naming Oclc) in still laws Pmid Doi (λ e. cc) (taken first (naming Pmid)) (own_named laws Pmid first)
-works_named laws pairs Oclc =
-    let first = taken pairs (naming Oclc) in
-    still laws Oclc Doi (λ e. cc) (taken first (naming Pmid)) (still laws Oclc Pmid (λ e. cc) first (own_named laws Oclc pairs))
-
-pub named-keeps : (namespace : Namespace) (found : Option Text) (values : List Text) → (named namespace found values).keeps ≡ true
-named-keeps namespace None values = refl
-named-keeps namespace (Some n) values = by_test (is_one_of values (uri_of namespace n))
-  where
-    by_test : (b : Bool) → (cond b unchanged (leading (uri_of namespace n ∷ []))).keeps ≡ true
-    by_test true = refl
-    by_test false = refl
-
--- ---- a request that is OpenURL 1.0
-
-referent_known : AreIdentified → (namespace : Namespace) (v n : Text) → IsReferentUri v → identifier_of namespace (codes "rft_id") v ≡ Some n
-    → bytes_eq v (uri_of namespace n) ≡ true
-referent_known laws namespace _ n (registered other m is) h =
-    let same = uri_gives laws other namespace m n is h in
-    ap (λ o. bytes_eq (uri_of other m) (uri_of o n)) (sym same.0) ∙ ap (λ t. bytes_eq (uri_of other m) (uri_of other t)) (sym same.1)
-    ∙ bytes_eq-same (uri_of other m)
-referent_known laws namespace v n (other_uri _ none) h =
-    let no : identifier_of namespace (codes "rft_id") v ≡ None = referent-none namespace v (none namespace) in cc
-
-referents_known : AreIdentified → (namespace : Namespace) (values : List Text) → All IsReferentUri values
-    → IsAll (λ n. is_one_of values (uri_of namespace n) ≡ true) (first_found (identifier_of namespace (codes "rft_id")) values)
-referents_known laws namespace [] all n h = cc
-referents_known laws namespace (v ∷ vs) all n h =
-    by_found (identifier_of namespace (codes "rft_id") v) refl (referents_known laws namespace vs (All-tail IsReferentUri v vs all) n)
-    (sym (found-cons (identifier_of namespace (codes "rft_id")) v vs) ∙ h)
-  where
-    by_found : (o : Option Text) → identifier_of namespace (codes "rft_id") v ≡ o
-        → (first_found (identifier_of namespace (codes "rft_id")) vs ≡ Some n → is_one_of vs (uri_of namespace n) ≡ true)
-        → option_or o (first_found (identifier_of namespace (codes "rft_id")) vs) ≡ Some n → is_one_of (v ∷ vs) (uri_of namespace n) ≡ true
-    by_found None e more g = more_known v vs (uri_of namespace n) (more g)
-    by_found (Some m) e more g =
-        ap (λ b. b || is_one_of vs (uri_of namespace n)) (referent_known laws namespace v n (All-head IsReferentUri v vs all) (e ∙ g))
-
-pub canonical_named : AreIdentified → (pairs : List KeyValue) → Under pairs (codes "rft_id") IsReferentUri
-    → All (λ key. Under pairs key (HasNoIdentifier key)) source_keys → (namespace : Namespace) → IsNamed pairs namespace
-canonical_named laws pairs referents others namespace =
-    let values = all_of pairs (codes "rft_id") in
-    let none : rest_of namespace pairs ≡ None =
-    found_none (first_under namespace pairs) source_keys (λ k d h. let key = get_or source_keys k d in
-    found_none (identifier_of namespace key) (all_of pairs key) (λ j e g. others k d h j e g namespace)) in
-    among_named pairs namespace None values none refl
-    (by_found (first_found (identifier_of namespace (codes "rft_id")) values) (referents_known laws namespace values referents))
-  where
-    by_found : (found : Option Text) → IsAll (λ n. is_one_of (all_of pairs (codes "rft_id")) (uri_of namespace n) ≡ true) found
-        → named namespace (option_or found None) (all_of pairs (codes "rft_id")) ≡ unchanged
-    by_found None h = refl
-    by_found (Some n) h = known_named namespace n (all_of pairs (codes "rft_id")) (h n refl)
+    (now_values other pairs (nameable other pairs) refl)
+    (named_keeps laws namespace other apart (rest_of namespace pairs) (nameable other pairs) values (named_among pairs namespace h))

@@ -14,12 +14,15 @@ use Rattle.openurl_reading.specs.Versions.{correction}
 use Rattle.openurl_reading.specs.OldKeys.{old_keys, copies}
 use Rattle.openurl_reading.specs.DublinCore.{core_steps}
 use Rattle.openurl_reading.specs.Titles.{titlings}
+use Rattle.openurl_reading.specs.Texts.{text_steps}
 use Rattle.openurl_reading.specs.Referrers.{referrer_step}
 use Rattle.openurl_reading.specs.Numbers.{first_number, issn_step, eissn_step, isbn_step}
 use Rattle.openurl_reading.specs.Dates.{date_step}
 use Rattle.work_identifiers.specs.declared.namespace.Namespace.{Namespace}
-use Rattle.work_identifiers.specs.declared.namespace.Namespace.TheVariants.{Doi, Pmid, Oclc}
-use Rattle.openurl_reading.specs.Identifiers.{first_under, first_identifier, naming, namings}
+use Rattle.work_identifiers.specs.declared.namespace.Namespace.TheVariants.{Doi, Pmid, Oclc, Pmc, Arxiv}
+use Rattle.openurl_reading.specs.Identifiers.{first_under, nameable, naming, namings}
+use Rattle.work_identifiers.specs.Uris.{uri_of}
+use Rattle.openurl_reading.proofs.FoundAre.{IsAll}
 use Rattle.openurl_reading.specs.ArticleNumbers.{article_in}
 use Rattle.openurl_reading.specs.Pages.{first_page, last_page, first_page_step, last_page_step, page_steps}
 use Rattle.openurl_reading.specs.Volumes.{added_issue, volume, issue, added_issue_step, volume_step, issue_step, volume_steps}
@@ -30,15 +33,18 @@ use Rattle.openurl_reading.proofs.DaysLed.{days_have}
 use Rattle.openurl_reading.proofs.Each.{each_led, each_named}
 use Rattle.openurl_reading.proofs.Firsts.{of_first}
 use Rattle.openurl_reading.proofs.FoundAgain.{AreFoundAgain, first_has}
-use Rattle.openurl_reading.proofs.Identified.{AreIdentified}
-use Rattle.openurl_reading.proofs.IdentifierOrigins.{AreRead, identifiers_under, first_read, referent_read, naming_read, identifier_has_origin}
+use Rattle.openurl_reading.proofs.Identified.{IsPlain, AreIdentified}
+use Rattle.openurl_reading.proofs.IdentifierOrigins.{AreRead, IsApart, identifiers_under, nameable_read, naming_read}
+use Rattle.openurl_reading.proofs.PreprintOrigins.{HaveOrigins}
 use Rattle.openurl_reading.proofs.IdentifierOrigins.{uri_has_origin}
+use Rattle.openurl_reading.proofs.PreprintOrigins.{preprint_origins, doi_origins, first_origin, referent_origin}
 use Rattle.openurl_reading.proofs.KeysSettle.{same_after}
 use Rattle.openurl_reading.proofs.Origins.{no_number}
 use Rattle.openurl_reading.proofs.Origins.{isbn_has}
-use Rattle.openurl_reading.proofs.Origins.{page_keys, first_page_has, last_page_has, issns_have, second_has}
-use Rattle.openurl_reading.proofs.Sent.{IsNoConstant, IsSent, counting_values, sent_under, kind_sent}
-use Rattle.openurl_reading.proofs.Stages.{kind_steps, last_steps, with_versions, with_fields, normal_form-is}
+use Rattle.openurl_reading.proofs.Origins.{GivesPage, page_keys, first_page_has, last_page_has, issns_have, second_has}
+use Rattle.openurl_reading.proofs.Sent.{IsUnread, AreKept, counting_values, kind_sent}
+use Rattle.openurl_reading.proofs.Stages.{kind_steps, led_steps, with_versions, with_fields, normal_form-led}
+use Rattle.openurl_reading.proofs.TextOrigins.{texts_kept, texts_have, pages_give}
 use Rattle.openurl_reading.proofs.VolumesFound.{AreNumbersAgain}
 use Rattle.openurl_reading.proofs.VolumeOrigins.{GivesIssues, issues_give, added_has, volume_has, issue_has}
 use Rattle.openurl_reading.proofs.Values.{all_of-taken, all_of-taken-own}
@@ -50,12 +56,12 @@ use Rattle.openurl_reading.proofs.ReadValues.{isbn_reads, dates_under, date_read
 -- ---- volume and issue
 
 -- the values of volume and issue, before their steps
-sent_before : (sent : List Text) (copied : List KeyValue) → All (IsSent sent) copied → (key : Text) → IsNoConstant key
+sent_before : (sent : List Text) (copied : List KeyValue) → AreKept sent copied → (key : Text) → IsUnread key
     → let steps = referrer_step ∷ issn_step ∷ eissn_step ∷ isbn_step ∷ date_step ∷ [] in
     list_all (λ step. not (bytes_eq step.key key)) steps ≡ true → All (Contains sent) (all_of (after steps copied) key)
 sent_before sent copied is key other h =
     let steps = referrer_step ∷ issn_step ∷ eissn_step ∷ isbn_step ∷ date_step ∷ [] in
-    subst (All (Contains sent)) (sym (same_after steps copied key h)) (sent_under sent copied key other is)
+    subst (All (Contains sent)) (sym (same_after steps copied key h)) (is key other)
 
 volumes_read : AreNumbersAgain → (sent : List Text) (pairs : List KeyValue) → All (Contains sent) (all_of pairs (codes "rft.volume"))
     → All (Contains sent) (all_of pairs (codes "rft.issue")) → Reads sent pairs → Reads sent (after volume_steps pairs)
@@ -80,7 +86,7 @@ volumes_read numbers sent pairs vs is reads =
 -- ---- pages
 
 -- the values of pages, before the steps of pages
-pages_under : (sent : List Text) (copied : List KeyValue) → All (IsSent sent) copied
+pages_under : (sent : List Text) (copied : List KeyValue) → AreKept sent copied
     → let pairs = after (referrer_step ∷ issn_step ∷ eissn_step ∷ isbn_step ∷ date_step ∷ volume_steps) copied in
     All (λ key. All (Contains sent) (all_of pairs key)) page_keys
 pages_under sent copied is =
@@ -88,22 +94,22 @@ pages_under sent copied is =
     λ k d h. let key = get_or page_keys k d in
     subst (All (Contains sent)) (sym (same_after steps copied key (AllPass-from_list_all (λ key. list_all (λ step. not (bytes_eq step.key key)) steps)
     page_keys refl k d h)))
-    (sent_under sent copied key (
+    (is key (
       not-true _ (AllPass-from_list_all (λ key. not (bytes_eq key (codes "ctx_ver"))) page_keys refl k d h),
       not-true _ (AllPass-from_list_all (λ key. not (bytes_eq key (codes "url_ver"))) page_keys refl k d h),
       not-true _ (AllPass-from_list_all (λ key. not (bytes_eq key (codes "rft_val_fmt"))) page_keys refl k d h),
-    ) is)
+      AllPass-from_list_all (λ key. list_all (λ step. not (bytes_eq step.key key)) text_steps) page_keys refl k d h,
+    ))
 
-pages_read : (sent : List Text) (pairs : List KeyValue) → All (λ key. All (Contains sent) (all_of pairs key)) page_keys → Reads sent pairs
-    → Reads sent (after page_steps pairs)
-pages_read sent pairs all reads =
+pages_read : (sent : List Text) (pairs : List KeyValue) → All (λ key. All (Contains sent) (all_of pairs key)) page_keys
+    → All (GivesPage sent) (all_of pairs (codes "rft.pages")) → Reads sent pairs → Reads sent (after page_steps pairs)
+pages_read sent pairs all pages reads =
     let next = taken pairs last_page_step in
     let firsts = all 0 [] (lit< tt) in
     let lasts = all 1 [] (lit< tt) in
-    let pages = all 2 [] (lit< tt) in
-    let numbers = all 3 [] (lit< tt) in
+    let numbers = all 2 [] (lit< tt) in
     let firsts' = subst (All (Contains sent)) (sym (all_of-taken last_page_step pairs (codes "rft.spage") refl)) firsts in
-    let pages' = subst (All (Contains sent)) (sym (all_of-taken last_page_step pairs (codes "rft.pages") refl)) pages in
+    let pages' = subst (All (GivesPage sent)) (sym (all_of-taken last_page_step pairs (codes "rft.pages") refl)) pages in
     let numbers' = subst (All (Contains sent)) (sym (all_of-taken last_page_step pairs (codes "rft.artnum") refl)) numbers in
     other_reads sent first_page_step next (no_number (codes "rft.spage") refl)
     (each_led (HasOrigin sent) (first_page next) (first_of next (codes "rft.spage"))
@@ -115,35 +121,59 @@ pages_read sent pairs all reads =
 
 -- ---- identifiers
 
-naming_reads : (sent : List Text) (namespace : Namespace) (pairs : List KeyValue) → AreRead sent pairs → Reads sent pairs
-    → Reads sent (taken pairs (naming namespace))
+naming_reads : (sent : List Text) (namespace : Namespace) (pairs : List KeyValue)
+    → IsAll (λ n. HasOrigin sent (uri_of namespace n)) (nameable namespace pairs) → Reads sent pairs → Reads sent (taken pairs (naming namespace))
 naming_reads sent namespace pairs read reads =
     other_reads sent (naming namespace) pairs (no_number (codes "rft_id") refl)
-    (each_named (HasOrigin sent) namespace (first_identifier namespace pairs) (all_of pairs (codes "rft_id"))
-    (λ n e. uri_has_origin sent namespace n (first_read sent namespace pairs read n e))) reads
+    (each_named (HasOrigin sent) namespace (nameable namespace pairs) (all_of pairs (codes "rft_id")) read) reads
 
--- what the derived keys are read from
+-- what the derived keys are read from, before the steps of DOIs and of arXiv, and after them
 record ReadAll (sent : List Text) (pairs : List KeyValue) : Type 0 where
   numbers : Reads sent pairs
   identifiers : AreRead sent pairs
 
-namings_read : AreIdentified → (sent : List Text) (pairs : List KeyValue) → ReadAll sent pairs → ReadAll sent (after namings pairs)
-namings_read identified sent pairs reads =
-    one Doi (taken (taken pairs (naming Oclc)) (naming Pmid)) (one Pmid (taken pairs (naming Oclc)) (one Oclc pairs reads))
-  where
-    one : (namespace : Namespace) (pairs : List KeyValue) → ReadAll sent pairs → ReadAll sent (taken pairs (naming namespace))
-    one namespace pairs reads = record {
-      numbers = naming_reads sent namespace pairs reads.identifiers reads.numbers;
-      identifiers = naming_read identified sent namespace pairs reads.identifiers;
-    }
+record HaveAll (sent : List Text) (pairs : List KeyValue) : Type 0 where
+  numbers : Reads sent pairs
+  identifiers : HaveOrigins sent pairs
 
-last_reads : AreFoundAgain → AreNumbersAgain → AreIdentified → (sent : List Text) (copied : List KeyValue) → All (IsSent sent) copied → HaveOrigin sent copied
-    → ReadAll sent (after last_steps copied)
-last_reads laws numbers identified sent copied is all =
+apart_reads : AreIdentified → (sent : List Text) (namespace : Namespace) → IsApart namespace → (pairs : List KeyValue) → ReadAll sent pairs
+    → ReadAll sent (taken pairs (naming namespace))
+apart_reads identified sent namespace apart pairs reads = record {
+  numbers =
+      naming_reads sent namespace pairs (λ n e. uri_has_origin sent namespace n (nameable_read sent namespace pairs reads.identifiers n e)) reads.numbers;
+  identifiers = naming_read identified sent namespace apart pairs reads.identifiers;
+}
+
+preprint_reads : AreIdentified → (sent : List Text) (pairs : List KeyValue) → ReadAll sent pairs → HaveAll sent (taken pairs (naming Arxiv))
+preprint_reads identified sent pairs reads = record {
+  numbers = naming_reads sent Arxiv pairs (λ n e. uri_has_origin sent Arxiv n (nameable_read sent Arxiv pairs reads.identifiers n e)) reads.numbers;
+  identifiers = preprint_origins identified sent pairs reads.identifiers;
+}
+
+doi_reads : AreIdentified → (sent : List Text) (pairs : List KeyValue) → HaveAll sent pairs → HaveAll sent (taken pairs (naming Doi))
+doi_reads identified sent pairs reads = record {
+  numbers = naming_reads sent Doi pairs (λ n e. (first_origin sent pairs reads.identifiers n e).1) reads.numbers;
+  identifiers = doi_origins identified sent pairs reads.identifiers;
+}
+
+namings_read : AreIdentified → (sent : List Text) (pairs : List KeyValue) → ReadAll sent pairs → HaveAll sent (after namings pairs)
+namings_read identified sent pairs reads =
+    let first = taken pairs (naming Oclc) in
+    let second = taken first (naming Pmc) in
+    let third = taken second (naming Pmid) in
+    doi_reads identified sent (taken third (naming Arxiv)) (preprint_reads identified sent third
+    (apart_reads identified sent Pmid (refl, λ e. cc) second (apart_reads identified sent Pmc (refl, λ e. cc) first
+    (apart_reads identified sent Oclc (refl, λ e. cc) pairs reads))))
+
+last_reads : AreFoundAgain → AreNumbersAgain → AreIdentified → (sent : List Text) (copied : List KeyValue) → AreKept sent copied
+    → All (GivesPage sent) (all_of copied (codes "rft.pages")) → HaveOrigin sent copied → HaveAll sent (after led_steps copied)
+last_reads laws numbers identified sent copied is pages all =
     namings_read identified sent _ record {
       numbers = pages_read sent _ (pages_under sent copied is)
-          (volumes_read numbers sent _ (sent_before sent copied is (codes "rft.volume") (refl, refl, refl) refl)
-          (sent_before sent copied is (codes "rft.issue") (refl, refl, refl) refl)
+          (subst (All (GivesPage sent))
+          (sym (same_after (referrer_step ∷ issn_step ∷ eissn_step ∷ isbn_step ∷ date_step ∷ volume_steps) copied (codes "rft.pages") refl)) pages)
+          (volumes_read numbers sent _ (sent_before sent copied is (codes "rft.volume") (refl, refl, refl, refl) refl)
+          (sent_before sent copied is (codes "rft.issue") (refl, refl, refl, refl) refl)
           (date_reads sent _ (dates_under sent copied is)
           (isbn_reads laws sent _ (eissn_reads laws sent _ (issn_reads laws sent _ (referrer_reads sent copied is all))))));
       identifiers = identifiers_under sent copied is;
@@ -151,15 +181,16 @@ last_reads laws numbers identified sent copied is all =
 
 -- ---- all
 
-derived_have : (sent : List Text) (pairs : List KeyValue) → ReadAll sent pairs → AreDaysAll (HasOrigin sent) pairs → HaveOrigin sent (with_derived pairs)
+derived_have : (sent : List Text) (pairs : List KeyValue) → HaveAll sent pairs → AreDaysAll (HasOrigin sent) pairs → HaveOrigin sent (with_derived pairs)
 derived_have sent pairs reads days =
     let P : KeyValue → Type 0 = λ pair. HasOrigin sent pair.value in
     let numbers = reads.numbers in
     let issns = all_of pairs (codes "rft.issn") in
     let eissns = all_of pairs (codes "rft.eissn") in
     let found = All-append (HasOrigin sent) _ _ (issns_have sent issns numbers.issns) (issns_have sent eissns numbers.eissns) in
-    let identifier : (namespace : Namespace) (n : Text) → first_under namespace pairs (codes "rft_id") ≡ Some n → HasOrigin sent n =
-    λ namespace n e. identifier_has_origin sent namespace n (referent_read sent namespace pairs reads.identifiers n e) in
+    let identifier : (namespace : Namespace) → IsPlain namespace → (n : Text) → first_under namespace pairs (codes "rft_id") ≡ Some n
+    → HasOrigin sent n =
+    λ namespace plain n e. (referent_origin sent namespace pairs plain reads.identifiers n e).0 in
     All-append P (derived pairs) pairs
     (derived_values (HasOrigin sent) pairs identifier (λ n e. first_has (HasOrigin sent) (issns_of pairs) n found e)
     (second_has sent issns eissns (first_number (issns_of pairs)) numbers.issns numbers.eissns)
@@ -179,6 +210,8 @@ nothing_invented laws numbers identified request =
     let origins' = format_has sent (after titlings core)
     (titlings_have sent core (core_has sent copied (copies_have sent old_keys (with_fields first) (fields_have sent (with_versions first) versions)))) in
     let is = kind_sent sent first known in
-    let reads = last_reads laws numbers identified sent (after kind_steps copied) is origins' in
-    let days = days_have laws sent (after kind_steps copied) is in
-    subst (λ pairs. HaveOrigin sent (with_derived pairs)) (sym (normal_form-is first)) (derived_have sent _ reads days)
+    let kinds = after kind_steps copied in
+    let kept = texts_kept sent kinds is in
+    let reads = last_reads laws numbers identified sent (after text_steps kinds) kept (pages_give sent kinds is) (texts_have sent kinds is origins') in
+    let days = days_have laws sent (after text_steps kinds) kept in
+    subst (λ pairs. HaveOrigin sent (with_derived pairs)) (sym (normal_form-led first)) (derived_have sent _ reads days)

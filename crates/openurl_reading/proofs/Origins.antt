@@ -111,7 +111,15 @@ dates_have sent dates years old old_years a b c d =
 -- ---- pages
 
 abbrev pub page_keys : List Text
-page_keys = codes "rft.spage" ∷ codes "rft.epage" ∷ codes "rft.pages" ∷ codes "rft.artnum" ∷ []
+page_keys = codes "rft.spage" ∷ codes "rft.epage" ∷ codes "rft.artnum" ∷ []
+
+-- each page that is found in the value has an origin
+abbrev pub GivesPage : List Text → Text → Type 0
+GivesPage sent value = (n : Text) → first_in value ≡ Some n → HasOrigin sent n
+
+first_of_gives : (sent values : List Text) → All (GivesPage sent) values → Has sent (of_first first_in values)
+first_of_gives sent [] all n e = none_found sent n e
+first_of_gives sent (v ∷ vs) all n e = all 0 v (omega arith) n e
 
 first_of_has : (sent values : List Text) → All (Contains sent) values → Has sent (of_first first_in values)
 first_of_has sent [] all n e = none_found sent n e
@@ -125,7 +133,7 @@ pub article_has : (sent values : List Text) → All (Contains sent) values → H
 article_has sent [] all n e = none_found sent n e
 article_has sent (v ∷ vs) all n e = article_number_in v n (all 0 v (omega arith)) e
 
-pub first_page_has : (sent firsts pages numbers : List Text) → All (Contains sent) firsts → All (Contains sent) pages → All (Contains sent) numbers
+pub first_page_has : (sent firsts pages numbers : List Text) → All (Contains sent) firsts → All (GivesPage sent) pages → All (Contains sent) numbers
     → Has sent (first_of_values (of_first article_in numbers) pages firsts)
 first_page_has sent firsts pages numbers a b c = by_test (is_article number (slice_get firsts 0))
   where
@@ -134,7 +142,7 @@ first_page_has sent firsts pages numbers a b c = by_test (is_article number (sli
 
     by_test : (t : Bool) → Has sent (cond t number (option_or (of_first first_in firsts) (option_or (of_first first_in pages) number)))
     by_test true = article_has sent numbers c
-    by_test false = or_has sent _ _ (first_of_has sent firsts a) (or_has sent _ _ (first_of_has sent pages b) (article_has sent numbers c))
+    by_test false = or_has sent _ _ (first_of_has sent firsts a) (or_has sent _ _ (first_of_gives sent pages b) (article_has sent numbers c))
 
 end_has : (sent firsts : List Text) (number : Option Text) → All (Contains sent) firsts → Has sent (end_of_values number firsts)
 end_has sent firsts number a = by_test (is_article number (slice_get firsts 0))

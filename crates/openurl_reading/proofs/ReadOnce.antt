@@ -15,7 +15,8 @@ use Rattle.openurl_reading.specs.Steps.{Step, unchanged, taken, after}
 use Rattle.openurl_reading.specs.Values.{led, searched}
 use Rattle.openurl_reading.specs.Versions.{correction}
 use Rattle.openurl_reading.specs.Fields.{fields}
-use Rattle.openurl_reading.specs.OldKeys.{copies}
+use Rattle.openurl_reading.specs.OldKeys.{old_keys, copied, copies}
+use Rattle.openurl_reading.specs.Texts.{text_steps}
 use Rattle.openurl_reading.specs.Referrers.{referrer_of, referrer_step, referred}
 use Rattle.openurl_reading.specs.Numbers.{first_issn, first_eissn, first_isbn, eissn_among, issn_step, eissn_step, isbn_step}
 use Rattle.openurl_reading.specs.Dates.{date_keys, first_date, led_or_none, date_step}
@@ -33,24 +34,26 @@ use Rattle.openurl_reading.proofs.FoundAgain.{AreFoundAgain, issn_among, issn_ag
 use Rattle.openurl_reading.proofs.Identified.{AreIdentified}
 use Rattle.openurl_reading.proofs.Each.{one_has}
 use Rattle.openurl_reading.proofs.Formatted.{format_settles}
-use Rattle.openurl_reading.proofs.KeysSettle.{apart, same_after, version_settles, first_referrer, referral, format_keeps, last_keep, copies_settle}
+use Rattle.openurl_reading.proofs.KeysSettle.{apart, same_after, version_settles, first_referrer, referral, format_keeps, led_keep, last_keep, copies_settle}
 use Rattle.openurl_reading.proofs.Led.{led_settles}
-use Rattle.openurl_reading.proofs.Named.{works_named}
+use Rattle.openurl_reading.proofs.NamedPreprints.{works_named}
 use Rattle.openurl_reading.proofs.PagesLed.{ArePagesAgain, first_of_values, end_of_values, first_again, same_leading, last_settles}
 use Rattle.openurl_reading.proofs.Settled.{AreVolumesSettled, IsSettled, IsDateSettled, settled_stays}
-use Rattle.openurl_reading.proofs.Stages.{after_dates, after_volumes, kind_steps, last_steps, with_versions, with_fields, normal_form-is}
+use Rattle.openurl_reading.proofs.Stages.{after_dates, after_volumes, kind_steps, led_steps, last_steps, with_versions, with_fields, last-is}
+use Rattle.openurl_reading.proofs.Stages.{normal_form-led}
+use Rattle.openurl_reading.proofs.TextsRead.{AreReadOnce, texts_settle}
 use Rattle.openurl_reading.proofs.Titled.{all_unchanged, titlings_fill}
 use Rattle.openurl_reading.proofs.Values.{values_after, all_of-taken, all_of-taken-own}
 use Rattle.openurl_reading.proofs.VolumesFound.{AreNumbersAgain}
 use Rattle.openurl_reading.proofs.VolumesLed.{with_added, with_volume, with_issue, volumes_settle}
 
-referrer_settles : (before : List KeyValue) → referred (after last_steps before) ≡ unchanged
+referrer_settles : (before : List KeyValue) → referred (after led_steps before) ≡ unchanged
 referrer_settles before =
     let f : List Text → List Text = λ sids. map referrer_of (take 1 sids) in
     let rest = issn_step ∷ eissn_step ∷ isbn_step ∷ date_step ∷ after_dates in
-    filled_unchanged f referral (after last_steps before) refl
+    filled_unchanged f referral (after led_steps before) refl
     (all_keep_filled referral rest (taken before referrer_step) (apart rest (codes "sid") refl)
-    (All-tail (KeepsKey (codes "rfr_id")) referrer_step rest (last_keep (codes "rfr_id") refl)) (fill-fills f referral before first_referrer refl))
+    (All-tail (KeepsKey (codes "rfr_id")) referrer_step rest (led_keep (codes "rfr_id") refl)) (fill-fills f referral before first_referrer refl))
 
 issn_settles : AreFoundAgain → (before : List KeyValue) → let now = after (issn_step ∷ eissn_step ∷ isbn_step ∷ date_step ∷ after_dates) before in
     led (first_issn now) (first_of now (codes "rft.issn")) ≡ unchanged
@@ -193,32 +196,38 @@ kinds_settle before =
     date_apart Dissertation = refl
     date_apart Journal = refl
 
-settled_stages : AreFoundAgain → AreNumbersAgain → ArePagesAgain → AreIdentified → (pairs : List KeyValue)
-    → IsSettled (after last_steps (after kind_steps (after copies (with_fields pairs))))
-settled_stages laws numbers pages identified pairs =
+settled_stages : AreReadOnce → AreFoundAgain → AreNumbersAgain → ArePagesAgain → AreIdentified → (pairs : List KeyValue)
+    → IsSettled (after led_steps (after text_steps (after kind_steps (after copies (with_fields pairs)))))
+settled_stages texts_once laws numbers pages identified pairs =
     let first = taken pairs (correction (codes "ctx_ver")) in
     let second = with_versions pairs in
     let third = with_fields pairs in
     let copied_all = after copies third in
     let kinds = after kind_steps copied_all in
-    let named = taken kinds referrer_step in
+    let texts = after text_steps kinds in
+    let named = taken texts referrer_step in
     let issns = taken named issn_step in
     let eissns = taken issns eissn_step in
     let isbns = taken eissns isbn_step in
     let dates = taken isbns date_step in
     let placed = after volume_steps dates in
+    let now = after led_steps texts in
+    let last : after last_steps kinds ≡ now = last-is kinds in
     record {
-      context = version_settles (codes "ctx_ver") pairs (after last_steps kinds)
-          (same_after last_steps kinds (codes "ctx_ver") refl ∙ same_after kind_steps copied_all (codes "ctx_ver") refl
+      context = version_settles (codes "ctx_ver") pairs now
+          (same_after led_steps texts (codes "ctx_ver") refl ∙ same_after text_steps kinds (codes "ctx_ver") refl
+          ∙ same_after kind_steps copied_all (codes "ctx_ver") refl
           ∙ same_after copies third (codes "ctx_ver") refl ∙ same_after fields second (codes "ctx_ver") refl
           ∙ all_of-taken (correction (codes "url_ver")) first (codes "ctx_ver") refl);
-      transport = version_settles (codes "url_ver") first (after last_steps kinds)
-          (same_after last_steps kinds (codes "url_ver") refl ∙ same_after kind_steps copied_all (codes "url_ver") refl
+      transport = version_settles (codes "url_ver") first now
+          (same_after led_steps texts (codes "url_ver") refl ∙ same_after text_steps kinds (codes "url_ver") refl
+          ∙ same_after kind_steps copied_all (codes "url_ver") refl
           ∙ same_after copies third (codes "url_ver") refl ∙ same_after fields second (codes "url_ver") refl);
-      fields = fields_settle second;
-      copies = copies_settle third;
-      kinds = kinds_settle copied_all;
-      referrer = referrer_settles kinds;
+      fields = subst (λ p. All (λ step. step.change p ≡ unchanged) fields) last (fields_settle second);
+      copies = subst (λ p. All (λ key. copied key p ≡ unchanged) old_keys) last (copies_settle third);
+      kinds = subst (λ p. All (λ step. step.change p ≡ unchanged) kind_steps) last (kinds_settle copied_all);
+      texts = texts_settle texts_once kinds;
+      referrer = referrer_settles texts;
       issn = issn_settles laws named;
       eissn = eissn_settles laws issns;
       isbn = isbn_settles laws eissns;
@@ -229,6 +238,7 @@ settled_stages laws numbers pages identified pairs =
       works = works_named identified (after page_steps placed);
     }
 
-pub read_once : AreFoundAgain → AreNumbersAgain → ArePagesAgain → AreIdentified → (pairs : List KeyValue) → normal_form (normal_form pairs) ≡ normal_form pairs
-read_once laws numbers pages identified pairs =
-    settled_stays (normal_form pairs) (subst IsSettled (sym (normal_form-is pairs)) (settled_stages laws numbers pages identified pairs))
+pub read_once : AreReadOnce → AreFoundAgain → AreNumbersAgain → ArePagesAgain → AreIdentified → (pairs : List KeyValue)
+    → normal_form (normal_form pairs) ≡ normal_form pairs
+read_once texts_once laws numbers pages identified pairs =
+    settled_stays (normal_form pairs) (subst IsSettled (sym (normal_form-led pairs)) (settled_stages texts_once laws numbers pages identified pairs))

@@ -29,7 +29,7 @@ use Rattle.openurl_reading.proofs.KeysSettle.{same_after}
 use Rattle.openurl_reading.proofs.Origins.{number_keys, no_number}
 use Rattle.openurl_reading.proofs.Origins.{GivesIssns, GivesIsbns, sent_gives_issns, sent_gives_isbns, issn_has, eissn_has, isbn_has}
 use Rattle.openurl_reading.proofs.Origins.{dates_have, led_gives_issns, led_gives_isbns}
-use Rattle.openurl_reading.proofs.Sent.{IsNoConstant, IsSent, sent_under}
+use Rattle.openurl_reading.proofs.Sent.{IsUnread, AreKept}
 use Rattle.openurl_reading.proofs.Titled.{titlings-are}
 use Rattle.openurl_reading.proofs.Values.{all_of-taken, all_of-taken-own}
 
@@ -94,10 +94,10 @@ format_has sent (pair ∷ pairs) all =
     (each_filled (HasOrigin sent) (format_of kind ∷ []) (all_of (pair ∷ pairs) (codes "rft_val_fmt"))
     (one_has (HasOrigin sent) (format_of kind) (format_of_kind kind))) all
 
-referrer_has : (sent : List Text) (pairs : List KeyValue) → All (IsSent sent) pairs → HaveOrigin sent pairs → HaveOrigin sent (taken pairs referrer_step)
+referrer_has : (sent : List Text) (pairs : List KeyValue) → AreKept sent pairs → HaveOrigin sent pairs → HaveOrigin sent (taken pairs referrer_step)
 referrer_has sent pairs is all =
     let sids = take 1 (all_of pairs (codes "sid")) in
-    let known = All-take (Contains sent) 1 (all_of pairs (codes "sid")) (sent_under sent pairs (codes "sid") (refl, refl, refl) is) in
+    let known = All-take (Contains sent) 1 (all_of pairs (codes "sid")) (is (codes "sid") (refl, refl, refl, refl)) in
     step_has sent referrer_step pairs
     (each_filled (HasOrigin sent) (map referrer_of sids) (all_of pairs (codes "rfr_id"))
     (All-map (HasOrigin sent) referrer_of sids (λ k d h. source_in (get_or sids k d) (known k d h)))) all
@@ -141,14 +141,16 @@ step_reads sent step pairs apart values reads issns eissns isbns = record {
   all = step_has sent step pairs values reads.all;
 }
 
-pub referrer_reads : (sent : List Text) (pairs : List KeyValue) → All (IsSent sent) pairs → HaveOrigin sent pairs → Reads sent (taken pairs referrer_step)
+pub referrer_reads : (sent : List Text) (pairs : List KeyValue) → AreKept sent pairs → HaveOrigin sent pairs → Reads sent (taken pairs referrer_step)
 referrer_reads sent pairs is all =
-    let under : (key : Text) → IsNoConstant key → All (Contains sent) (all_of pairs key) = λ key other. sent_under sent pairs key other is in
+    let under : (key : Text) → IsUnread key → All (Contains sent) (all_of pairs key) = λ key other. is key other in
     record {
-      issns = kept_under (GivesIssns sent) referrer_step pairs (codes "rft.issn") refl (give_issns sent _ (under (codes "rft.issn") (refl, refl, refl)));
-      eissns = kept_under (GivesIssns sent) referrer_step pairs (codes "rft.eissn") refl (give_issns sent _ (under (codes "rft.eissn") (refl, refl, refl)));
-      isbns = kept_under (GivesIsbns sent) referrer_step pairs (codes "rft.isbn") refl (give_isbns sent _ (under (codes "rft.isbn") (refl, refl, refl)));
-      eisbns = kept_under (GivesIsbns sent) referrer_step pairs (codes "rft.eisbn") refl (give_isbns sent _ (under (codes "rft.eisbn") (refl, refl, refl)));
+      issns = kept_under (GivesIssns sent) referrer_step pairs (codes "rft.issn") refl (give_issns sent _ (under (codes "rft.issn") (refl, refl, refl, refl)));
+      eissns = kept_under (GivesIssns sent) referrer_step pairs (codes "rft.eissn") refl
+          (give_issns sent _ (under (codes "rft.eissn") (refl, refl, refl, refl)));
+      isbns = kept_under (GivesIsbns sent) referrer_step pairs (codes "rft.isbn") refl (give_isbns sent _ (under (codes "rft.isbn") (refl, refl, refl, refl)));
+      eisbns = kept_under (GivesIsbns sent) referrer_step pairs (codes "rft.eisbn") refl
+          (give_isbns sent _ (under (codes "rft.eisbn") (refl, refl, refl, refl)));
       all = referrer_has sent pairs is all;
     }
 
@@ -188,16 +190,16 @@ isbn_reads laws sent pairs reads =
     (led_gives_isbns sent (first_isbn pairs) first values found (isbn_among_again laws others values) reads.isbns))
 
 -- the values of dates, before the numbers
-pub dates_under : (sent : List Text) (copied : List KeyValue) → All (IsSent sent) copied
+pub dates_under : (sent : List Text) (copied : List KeyValue) → AreKept sent copied
     → let pairs = after (referrer_step ∷ issn_step ∷ eissn_step ∷ isbn_step ∷ []) copied in
     (n : Text) → first_date date_keys pairs ≡ Some n → HasOrigin sent n
 dates_under sent copied is =
     let steps = referrer_step ∷ issn_step ∷ eissn_step ∷ isbn_step ∷ [] in
-    let under : (key : Text) → IsNoConstant key → list_all (λ step. not (bytes_eq step.key key)) steps ≡ true
+    let under : (key : Text) → IsUnread key → list_all (λ step. not (bytes_eq step.key key)) steps ≡ true
     → All (Contains sent) (all_of (after steps copied) key) =
-    λ key other h. subst (All (Contains sent)) (sym (same_after steps copied key h)) (sent_under sent copied key other is) in
-    dates_have sent _ _ _ _ (under (codes "rft.date") (refl, refl, refl) refl) (under (codes "rft.year") (refl, refl, refl) refl)
-    (under (codes "date") (refl, refl, refl) refl) (under (codes "year") (refl, refl, refl) refl)
+    λ key other h. subst (All (Contains sent)) (sym (same_after steps copied key h)) (is key other) in
+    dates_have sent _ _ _ _ (under (codes "rft.date") (refl, refl, refl, refl) refl) (under (codes "rft.year") (refl, refl, refl, refl) refl)
+    (under (codes "date") (refl, refl, refl, refl) refl) (under (codes "year") (refl, refl, refl, refl) refl)
 
 -- a step of another key
 pub other_reads : (sent : List Text) (step : Step) (pairs : List KeyValue) → All (λ key. bytes_eq step.key key ≡ false) number_keys

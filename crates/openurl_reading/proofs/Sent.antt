@@ -1,7 +1,7 @@
 -- The values that steps read are those of the request.
 use Rattle.std.proofs.Common.{◌≡◌, List, [], ◌∷◌, map, Bool, true, false, cond, not, refl, subst, sym, take, ◌<◌, length, inl, inr}
 use Rattle.std.specs.Prelude.{codes, Contains}
-use Rattle.std.specs.List.{All}
+use Rattle.std.specs.List.{All, list_all}
 use Rattle.std.specs.Str.{bytes_eq}
 use Rattle.std.proofs.lemmas.Bool.{not-true}
 use Rattle.std.proofs.lemmas.List.Sums.{AllPass-from_list_all}
@@ -20,6 +20,7 @@ use Rattle.openurl_reading.specs.Kinds.{kind_of}
 use Rattle.openurl_reading.specs.DublinCore.{is_core, creator, is_typed, core_type, core_titles, core_steps}
 use Rattle.openurl_reading.specs.Titles.{title_key, of_title, titlings}
 use Rattle.openurl_reading.specs.Formats.{format_of, format_step}
+use Rattle.openurl_reading.specs.Texts.{text_steps}
 use Rattle.openurl_reading.specs.Origins.{all_values}
 use Rattle.openurl_reading.proofs.Copied.{IsCopyOf, no_copy, one_copy}
 use Rattle.openurl_reading.proofs.CoreCopied.{creator-is, type-is, titles-is}
@@ -35,6 +36,16 @@ IsNoConstant key = (bytes_eq key (codes "ctx_ver") ≡ false) × (bytes_eq key (
 -- unless it is a version or a format, the value is one of these
 abbrev pub IsSent : List Text → KeyValue → Type 0
 IsSent sent pair = IsNoConstant pair.key → Contains sent pair.value
+
+-- no constant, and no text
+abbrev pub IsUnread : Text → Type 0
+IsUnread key =
+    (bytes_eq key (codes "ctx_ver") ≡ false) × (bytes_eq key (codes "url_ver") ≡ false) × (bytes_eq key (codes "rft_val_fmt") ≡ false)
+    × (list_all (λ step. not (bytes_eq step.key key)) text_steps ≡ true)
+
+-- the values of each such key are among these
+abbrev pub AreKept : List Text → List KeyValue → Type 0
+AreKept sent pairs = (key : Text) → IsUnread key → All (Contains sent) (all_of pairs key)
 
 contains_values : (pairs : List KeyValue) → All (λ pair. Contains (all_values pairs) pair.value) pairs
 contains_values pairs k d h =

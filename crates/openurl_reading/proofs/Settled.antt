@@ -11,27 +11,28 @@ use Rattle.openurl_reading.specs.Values.{led}
 use Rattle.openurl_reading.specs.Versions.{correction}
 use Rattle.openurl_reading.specs.Fields.{fields}
 use Rattle.openurl_reading.specs.OldKeys.{OldKey, old_keys, filled, copied, copy, copies}
+use Rattle.openurl_reading.specs.Texts.{text_steps}
 use Rattle.openurl_reading.specs.Referrers.{referred, referrer_step}
 use Rattle.openurl_reading.specs.Numbers.{first_issn, first_eissn, first_isbn, issn_step, eissn_step, isbn_step}
 use Rattle.openurl_reading.specs.Dates.{date_keys, first_date, led_or_none, date_step}
 use Rattle.work_identifiers.specs.declared.namespace.Namespace.{Namespace}
-use Rattle.work_identifiers.specs.declared.namespace.Namespace.TheVariants.{Doi, Pmid, Oclc}
-use Rattle.openurl_reading.specs.Identifiers.{first_identifier, named, naming, namings}
+use Rattle.work_identifiers.specs.declared.namespace.Namespace.TheVariants.{Doi, Pmid, Oclc, Pmc, Arxiv}
+use Rattle.openurl_reading.specs.Identifiers.{nameable, named, naming, namings}
 use Rattle.openurl_reading.specs.Pages.{first_page, last_page, first_page_step, last_page_step, page_steps}
 use Rattle.openurl_reading.specs.Volumes.{without_own, issue_after_volume, volume_before_issue, volume_among, issue_in}
 use Rattle.openurl_reading.specs.Volumes.{added_issue_step, volume_step, issue_step, volume_steps}
 use Rattle.openurl_reading.specs.Reading.{normal_form}
 use Rattle.openurl_reading.proofs.Firsts.{not_first, of_first}
 use Rattle.openurl_reading.proofs.Others.{bytes_eq-same}
-use Rattle.openurl_reading.proofs.Stages.{after_dates, after_volumes, kind_steps, last_steps, with_versions, normal_form-is}
+use Rattle.openurl_reading.proofs.Stages.{after_dates, after_volumes, kind_steps, led_steps, with_versions, normal_form-led}
 
 -- the change of the date leaves all values
 abbrev pub IsDateSettled : Change → List Text → Type 0
 IsDateSettled change values = (change ≡ unchanged) ⊎ ((change ≡ replacing []) × (values ≡ []))
 
--- the first identifier of the namespace has its URI in `rft_id`, if there is one
+-- what the step of the namespace names has its URI in `rft_id`, if there is one
 abbrev pub IsNamed : List KeyValue → Namespace → Type 0
-IsNamed pairs namespace = named namespace (first_identifier namespace pairs) (all_of pairs (codes "rft_id")) ≡ unchanged
+IsNamed pairs namespace = named namespace (nameable namespace pairs) (all_of pairs (codes "rft_id")) ≡ unchanged
 
 -- the values of issues and of volumes stay
 pub record AreVolumesSettled (issues volumes : List Text) : Type 0 where
@@ -45,6 +46,7 @@ pub record IsSettled (pairs : List KeyValue) : Type 0 where
   pub fields : All (λ step. step.change pairs ≡ unchanged) fields
   pub copies : All (λ key. copied key pairs ≡ unchanged) old_keys
   pub kinds : All (λ step. step.change pairs ≡ unchanged) kind_steps
+  pub texts : All (λ step. step.change pairs ≡ unchanged) text_steps
   pub referrer : referred pairs ≡ unchanged
   pub issn : led (first_issn pairs) (first_of pairs (codes "rft.issn")) ≡ unchanged
   pub eissn : led (first_eissn pairs) (first_of pairs (codes "rft.eissn")) ≡ unchanged
@@ -102,8 +104,10 @@ date-stays pairs is =
 
 works-stay : (pairs : List KeyValue) → IsSettled pairs → after namings pairs ≡ pairs
 works-stay pairs is =
-    ap (after (naming Pmid ∷ naming Doi ∷ [])) (stays-unchanged (naming Oclc) pairs (is.works Oclc))
-    ∙ ap (after (naming Doi ∷ [])) (stays-unchanged (naming Pmid) pairs (is.works Pmid)) ∙ stays-unchanged (naming Doi) pairs (is.works Doi)
+    ap (after (naming Pmc ∷ naming Pmid ∷ naming Arxiv ∷ naming Doi ∷ [])) (stays-unchanged (naming Oclc) pairs (is.works Oclc))
+    ∙ ap (after (naming Pmid ∷ naming Arxiv ∷ naming Doi ∷ [])) (stays-unchanged (naming Pmc) pairs (is.works Pmc))
+    ∙ ap (after (naming Arxiv ∷ naming Doi ∷ [])) (stays-unchanged (naming Pmid) pairs (is.works Pmid))
+    ∙ ap (after (naming Doi ∷ [])) (stays-unchanged (naming Arxiv) pairs (is.works Arxiv)) ∙ stays-unchanged (naming Doi) pairs (is.works Doi)
 
 volumes-stay : (pairs : List KeyValue) → IsSettled pairs → after volume_steps pairs ≡ pairs
 volumes-stay pairs is =
@@ -114,8 +118,8 @@ pages-stay : (pairs : List KeyValue) → IsSettled pairs → after page_steps pa
 pages-stay pairs is =
     ap (after (first_page_step ∷ [])) (stays-unchanged last_page_step pairs is.last_page) ∙ stays-unchanged first_page_step pairs is.first_page
 
-last-stay : (pairs : List KeyValue) → IsSettled pairs → after last_steps pairs ≡ pairs
-last-stay pairs is =
+led-stay : (pairs : List KeyValue) → IsSettled pairs → after led_steps pairs ≡ pairs
+led-stay pairs is =
     ap (after (issn_step ∷ eissn_step ∷ isbn_step ∷ date_step ∷ after_dates)) (stays-unchanged referrer_step pairs is.referrer)
     ∙ ap (after (eissn_step ∷ isbn_step ∷ date_step ∷ after_dates)) (stays-unchanged issn_step pairs is.issn)
     ∙ ap (after (isbn_step ∷ date_step ∷ after_dates)) (stays-unchanged eissn_step pairs is.eissn)
@@ -130,7 +134,8 @@ settled_stays pairs is =
     let first : with_versions pairs ≡ pairs =
     ap (λ p. taken p (correction (codes "url_ver"))) (correction-stays (codes "ctx_ver") pairs is.context)
     ∙ correction-stays (codes "url_ver") pairs is.transport in
-    normal_form-is pairs ∙ ap (λ p. after last_steps (after kind_steps (after copies (after fields p)))) first
-    ∙ ap (λ p. after last_steps (after kind_steps (after copies p))) (steps-stay fields pairs is.fields)
-    ∙ ap (λ p. after last_steps (after kind_steps p)) (copies-stay old_keys pairs is.copies)
-    ∙ ap (after last_steps) (steps-stay kind_steps pairs is.kinds) ∙ last-stay pairs is
+    normal_form-led pairs ∙ ap (λ p. after led_steps (after text_steps (after kind_steps (after copies (after fields p))))) first
+    ∙ ap (λ p. after led_steps (after text_steps (after kind_steps (after copies p)))) (steps-stay fields pairs is.fields)
+    ∙ ap (λ p. after led_steps (after text_steps (after kind_steps p))) (copies-stay old_keys pairs is.copies)
+    ∙ ap (λ p. after led_steps (after text_steps p)) (steps-stay kind_steps pairs is.kinds)
+    ∙ ap (after led_steps) (steps-stay text_steps pairs is.texts) ∙ led-stay pairs is

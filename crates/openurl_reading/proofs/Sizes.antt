@@ -12,22 +12,23 @@ use Rattle.openurl_reading.specs.Steps.{taken, after}
 use Rattle.openurl_reading.specs.Versions.{correction}
 use Rattle.openurl_reading.specs.Fields.{fields}
 use Rattle.openurl_reading.specs.OldKeys.{copies}
+use Rattle.openurl_reading.specs.Texts.{text_steps}
 use Rattle.openurl_reading.specs.Referrers.{namespace, referrer_step}
 use Rattle.openurl_reading.specs.Numbers.{first_number, first_issn, first_eissn, first_isbn, issn_step, eissn_step, isbn_step}
 use Rattle.openurl_reading.specs.Dates.{date_keys, first_date, date_under, led_or_none, date_step}
 use Rattle.work_identifiers.specs.declared.namespace.Namespace.{Namespace}
-use Rattle.work_identifiers.specs.declared.namespace.Namespace.TheVariants.{Doi, Pmid, Oclc}
+use Rattle.work_identifiers.specs.declared.namespace.Namespace.TheVariants.{Doi, Pmid, Oclc, Pmc, Arxiv}
 use Rattle.work_identifiers.specs.Forms.{IsIdentifier}
-use Rattle.openurl_reading.specs.Identifiers.{first_under, first_identifier, naming, namings}
+use Rattle.openurl_reading.specs.Identifiers.{first_under, nameable, naming, namings}
 use Rattle.openurl_reading.specs.Pages.{first_page, last_page, first_page_step, last_page_step, page_steps}
 use Rattle.openurl_reading.specs.Volumes.{added_issue, volume, issue, added_issue_step, volume_step, issue_step, volume_steps}
 use Rattle.openurl_reading.specs.Reading.{normal_form, added, issns_of, second_issn, days_of, with_derived}
 use Rattle.openurl_reading.proofs.Additions.{day_is}
-use Rattle.openurl_reading.proofs.Identified.{under_is, first_is, of_is}
-use Rattle.openurl_reading.proofs.KeysWeigh.{AreLight, AreFormatsLight, all_three, version_weighs, keys_weigh}
+use Rattle.openurl_reading.proofs.Identified.{IsPlain, under_is, first_is, nameable_is, of_is}
+use Rattle.openurl_reading.proofs.KeysWeigh.{AreLight, AreFormatsLight, all_three, both_others, version_weighs, keys_weigh}
 use Rattle.openurl_reading.proofs.VolumeLaws.{AreFoundNumbers, added_issue_is, found_volume_is, found_issue_is}
 use Rattle.openurl_reading.proofs.PagesFound.{ArePagesShort, first_page_is, last_page_is, article_short}
-use Rattle.openurl_reading.proofs.Stages.{after_dates, kind_steps, last_steps, with_versions, normal_form-is}
+use Rattle.openurl_reading.proofs.Stages.{after_dates, kind_steps, led_steps, with_versions, normal_form-led}
 use Rattle.openurl_reading.proofs.Totals.{total, total_taken, led_weighs, named_weighs}
 
 -- ---- identifiers
@@ -35,23 +36,28 @@ use Rattle.openurl_reading.proofs.Totals.{total, total_taken, led_weighs, named_
 naming_weighs : (g : Text → ℕ) (m : ℕ) (u : Namespace → ℕ) → AreLight g m u → (namespace : Namespace) (pairs : List KeyValue)
     → total g (taken pairs (naming namespace)) ≤ u namespace + total g pairs
 naming_weighs g m u light namespace pairs =
-    let is = first_is (IsIdentifier namespace) namespace (of_is light.identified namespace) pairs in
+    let first = first_is (IsIdentifier namespace) namespace (of_is light.identified namespace) pairs in
+    let is = nameable_is (IsIdentifier namespace) namespace pairs first in
     omega (
       arith,
       total_taken g (naming namespace) pairs,
-      named_weighs g (u namespace) namespace (first_identifier namespace pairs) (all_of pairs (codes "rft_id"))
+      named_weighs g (u namespace) namespace (nameable namespace pairs) (all_of pairs (codes "rft_id"))
           (λ n e. light.uri namespace n (is n e)),
     )
 
 namings_weigh : (g : Text → ℕ) (m : ℕ) (u : Namespace → ℕ) → AreLight g m u → (pairs : List KeyValue)
-    → total g (after namings pairs) ≤ all_three u + total g pairs
+    → total g (after namings pairs) ≤ all_three u + both_others u + total g pairs
 namings_weigh g m u light pairs =
     let first = taken pairs (naming Oclc) in
+    let second = taken first (naming Pmc) in
+    let third = taken second (naming Pmid) in
     omega (
       arith,
       naming_weighs g m u light Oclc pairs,
-      naming_weighs g m u light Pmid first,
-      naming_weighs g m u light Doi (taken first (naming Pmid)),
+      naming_weighs g m u light Pmc first,
+      naming_weighs g m u light Pmid second,
+      naming_weighs g m u light Arxiv third,
+      naming_weighs g m u light Doi (taken third (naming Arxiv)),
     )
 
 -- ---- volume and issue
@@ -103,7 +109,7 @@ pages_weigh g p q light pairs =
 -- ---- all
 
 last_weigh : (g : Text → ℕ) (m r p q : ℕ) (u : Namespace → ℕ) → AreLight g m u → AreFoundNumbers (λ t. g t ≤ r) → ArePagesLight g p q → (pairs : List KeyValue)
-    → total g (after (issn_step ∷ eissn_step ∷ isbn_step ∷ date_step ∷ after_dates) pairs) ≤ 4 * m + 3 * r + p + q + all_three u + total g pairs
+    → total g (after (issn_step ∷ eissn_step ∷ isbn_step ∷ date_step ∷ after_dates) pairs) ≤ 4 * m + 3 * r + p + q + all_three u + both_others u + total g pairs
 last_weigh g m r p q u light numbers pages pairs =
     let issns = taken pairs issn_step in
     let eissns = taken issns eissn_step in
@@ -156,9 +162,9 @@ derived_weigh g m u light pairs =
       sum_by-append w (doi ++ pmid ++ oclc) issn,
       sum_by-append w (doi ++ pmid) oclc,
       sum_by-append w doi pmid,
-      identifier_weighs (codes "x.doi") Doi,
-      identifier_weighs (codes "x.pmid") Pmid,
-      identifier_weighs (codes "x.oclc") Oclc,
+      identifier_weighs (codes "x.doi") Doi refl,
+      identifier_weighs (codes "x.pmid") Pmid refl,
+      identifier_weighs (codes "x.oclc") Oclc refl,
       added_weighs g m (codes "x.issn") (first_number (issns_of pairs)) (light.found.one pairs),
       added_weighs g m (codes "x.eissn") (second_issn pairs) (light.found.other pairs),
       added_weighs g m (codes "x.isbn") (first_isbn pairs) (light.found.isbn pairs),
@@ -168,24 +174,27 @@ derived_weigh g m u light pairs =
           (day_is (λ n. g n ≤ m) date (λ days. days.last) (λ d e. (light.days pairs d e).1)),
     )
   where
-    identifier_weighs : (key : Text) (namespace : Namespace) → total g (added key (first_under namespace pairs (codes "rft_id"))) ≤ u namespace
-    identifier_weighs key namespace =
+    identifier_weighs : (key : Text) (namespace : Namespace) → IsPlain namespace
+        → total g (added key (first_under namespace pairs (codes "rft_id"))) ≤ u namespace
+    identifier_weighs key namespace plain =
         added_weighs g (u namespace) key (first_under namespace pairs (codes "rft_id"))
-        (λ n e. light.identifier namespace n (under_is (IsIdentifier namespace) namespace (of_is light.identified namespace) pairs (codes "rft_id") n e))
+        (λ n e. light.identifier namespace n plain (under_is (IsIdentifier namespace) namespace (of_is light.identified namespace) pairs (codes "rft_id") n e))
 
 -- twice the request, and some numbers, dates and identifiers
 pub reading_weighs : (g : Text → ℕ) (m f r p q : ℕ) (u : Namespace → ℕ) → AreLight g m u → AreFormatsLight g f → AreFoundNumbers (λ t. g t ≤ r)
     → ArePagesLight g p q → (pairs : List KeyValue)
-    → total g (with_derived (normal_form pairs)) ≤ 2 * total g pairs + 14 * m + f + 3 * r + p + q + 2 * all_three u
+    → total g (with_derived (normal_form pairs)) ≤ 2 * total g pairs + 14 * m + f + 3 * r + p + q + 2 * all_three u + both_others u
 reading_weighs g m f r p q u light formats numbers pages pairs =
     let first = taken pairs (correction (codes "ctx_ver")) in
     let second = with_versions pairs in
     let kinds = after kind_steps (after copies (after fields second)) in
-    let named = taken kinds referrer_step in
-    subst (λ normal. total g (with_derived normal) ≤ 2 * total g pairs + 14 * m + f + 3 * r + p + q + 2 * all_three u) (sym (normal_form-is pairs))
+    let texts = after text_steps kinds in
+    let named = taken texts referrer_step in
+    subst (λ normal. total g (with_derived normal) ≤ 2 * total g pairs + 14 * m + f + 3 * r + p + q + 2 * all_three u + both_others u)
+    (sym (normal_form-led pairs))
     (omega (
       arith,
-      derived_weigh g m u light (after last_steps kinds),
+      derived_weigh g m u light (after led_steps texts),
       last_weigh g m r p q u light numbers pages named,
       keys_weigh g m f u light formats second,
       version_weighs g m u light (codes "url_ver") first,

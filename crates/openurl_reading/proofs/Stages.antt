@@ -1,5 +1,5 @@
--- The steps in five parts: versions, the fields of a form, old keys, those that ask for the kind of the request, and the others.
-use Rattle.std.proofs.Common.{◌≡◌, List, [], ◌∷◌, ◌++◌}
+-- The steps in six parts: versions, the fields of a form, old keys, those that ask for the kind of the request, texts, and the others.
+use Rattle.std.proofs.Common.{◌≡◌, List, [], ◌∷◌, ◌++◌, ◌∙◌}
 use Rattle.std.specs.Prelude.{codes}
 use Rattle.std.proofs.lemmas.List.Sums.{fold-append}
 use Rattle.kev_read.specs.Pairs.{KeyValue}
@@ -10,6 +10,7 @@ use Rattle.openurl_reading.specs.OldKeys.{copies}
 use Rattle.openurl_reading.specs.DublinCore.{core_steps}
 use Rattle.openurl_reading.specs.Titles.{titlings}
 use Rattle.openurl_reading.specs.Formats.{format_step}
+use Rattle.openurl_reading.specs.Texts.{text_steps}
 use Rattle.openurl_reading.specs.Referrers.{referrer_step}
 use Rattle.openurl_reading.specs.Numbers.{issn_step, eissn_step, isbn_step}
 use Rattle.openurl_reading.specs.Dates.{date_step}
@@ -25,8 +26,12 @@ after_volumes = page_steps ++ namings
 abbrev pub after_dates : List Step
 after_dates = volume_steps ++ after_volumes
 
+-- those after the texts
+abbrev pub led_steps : List Step
+led_steps = referrer_step ∷ issn_step ∷ eissn_step ∷ isbn_step ∷ date_step ∷ after_dates
+
 abbrev pub last_steps : List Step
-last_steps = referrer_step ∷ issn_step ∷ eissn_step ∷ isbn_step ∷ date_step ∷ after_dates
+last_steps = text_steps ++ led_steps
 
 -- those that ask for the kind or the format
 abbrev pub kind_steps : List Step
@@ -41,3 +46,10 @@ with_fields pairs = after fields (with_versions pairs)
 pub normal_form-is : (pairs : List KeyValue) → normal_form pairs ≡ after last_steps (after kind_steps (after copies (with_fields pairs)))
 unfolding steps
 normal_form-is pairs = fold-append taken (with_fields pairs) copies (kind_steps ++ last_steps)
+
+pub last-is : (pairs : List KeyValue) → after last_steps pairs ≡ after led_steps (after text_steps pairs)
+last-is pairs = fold-append taken pairs text_steps led_steps
+
+pub normal_form-led : (pairs : List KeyValue)
+    → normal_form pairs ≡ after led_steps (after text_steps (after kind_steps (after copies (with_fields pairs))))
+normal_form-led pairs = normal_form-is pairs ∙ last-is (after kind_steps (after copies (with_fields pairs)))

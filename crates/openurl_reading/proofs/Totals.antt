@@ -9,9 +9,10 @@ use Rattle.std.proofs.lemmas.List.Elements.{All-head, All-tail, All-map}
 use Rattle.text_model.specs.Texts.{Text}
 use Rattle.kev_read.specs.Pairs.{KeyValue, has_key, all_of}
 use Rattle.work_identifiers.specs.declared.namespace.Namespace.{Namespace}
+use Rattle.work_identifiers.specs.Uris.{uri_of}
 use Rattle.openurl_reading.specs.Counting.{is_one_of}
-use Rattle.openurl_reading.specs.Identifiers.{uri_of, named}
-use Rattle.openurl_reading.specs.Steps.{Step, unchanged, leading, pairs_with, others, kept, taken, after}
+use Rattle.openurl_reading.specs.Identifiers.{named}
+use Rattle.openurl_reading.specs.Steps.{Step, unchanged, leading, replacing, pairs_with, others, kept, changed, taken, after}
 use Rattle.openurl_reading.specs.Values.{most_values, led}
 use Rattle.openurl_reading.specs.OldKeys.{OldKey, filled, copy}
 use Rattle.openurl_reading.proofs.Values.{all_of-taken, all_of-others}
@@ -51,6 +52,18 @@ total_taken g step pairs =
     let change = step.change pairs in
     let all = sum_by-append (λ (p : KeyValue). g p.value) (pairs_with step.key change.values) (kept change.keeps step.key pairs) in
     omega (arith, all, total_with g step.key change.values, total_kept g change.keeps step.key pairs)
+
+-- values that replace those of a key, and weigh no more
+pub total_replaced : (g : Text → ℕ) (key : Text) (values : List Text) (pairs : List KeyValue) → sum_by g values ≤ sum_by g (all_of pairs key)
+    → total g (changed key (replacing values) pairs) ≤ total g pairs
+total_replaced g key values pairs h =
+    omega (
+      arith,
+      sum_by-append (λ (p : KeyValue). g p.value) (pairs_with key values) (others key pairs),
+      total_with g key values,
+      total_split g key pairs,
+      h,
+    )
 
 pub filled_weighs : (g : Text → ℕ) (values known : List Text) → sum_by g (filled values known).values ≤ sum_by g values
 filled_weighs g values [] = omega arith

@@ -1,13 +1,12 @@
 -- The volume and the issue of a request are read in its values.
-use Rattle.std.proofs.Common.{◌≡◌, ◌⊎◌, List, [], ◌∷◌, ◌++◌, Bool, true, false, cond, Option, Some, None, refl, sym, ap, ◌∙◌, subst, get_or, inl, inr}
-use Rattle.std.specs.Prelude.{codes, Contains, slice_get}
+use Rattle.std.proofs.Common.{◌≡◌, List, [], ◌∷◌, ◌++◌, Bool, true, false, cond, Option, Some, None, refl, sym, ap, subst, get_or, inl, inr}
+use Rattle.std.specs.Prelude.{Contains, slice_get}
 use Rattle.std.specs.List.{All}
 use Rattle.std.specs.Option.{option_and_then}
 use Rattle.std.proofs.lemmas.List.Elements.{All-head}
 use Rattle.text_model.specs.Texts.{Text}
-use Rattle.article_places.specs.Enumerations.{Numbers, numbers_in, alone, short_supplement}
-use Rattle.openurl_reading.specs.Values.{led}
-use Rattle.openurl_reading.specs.Volumes.{read_numbers, issue_text, volume_in, issue_after, issue_after_volume, number_before, volume_before_issue}
+use Rattle.article_places.specs.Enumerations.{Numbers, short_supplement}
+use Rattle.openurl_reading.specs.Volumes.{read_numbers, issue_text, issue_after, issue_after_volume, number_before, volume_before_issue}
 use Rattle.openurl_reading.specs.Volumes.{is_volume, issue_by, issue_in, without_own, volume_among}
 use Rattle.openurl_reading.specs.Canonical.{IsDesignation, is_number}
 use Rattle.openurl_reading.specs.Origins.{HasOrigin, number_in, supplement_in, supplement_of_issue}

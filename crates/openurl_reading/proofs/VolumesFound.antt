@@ -1,16 +1,10 @@
 -- What is found as a volume or an issue is found again.
-use Rattle.std.proofs.Common.{◌≡◌, ◌≤◌, ◌+◌, ◌⊎◌, ℕ, zero, suc, List, [], ◌∷◌, ◌++◌, Bool, true, false, cond, Option, Some, None, length, take, drop}
-use Rattle.std.proofs.Common.{refl, sym, ap, ◌∙◌, subst, inl, inr, arith}
-use Rattle.std.specs.Prelude.{nat_le}
+use Rattle.std.proofs.Common.{◌≡◌, ◌⊎◌, ◌∷◌, ◌++◌, Bool, true, false, cond, Option, Some, None}
+use Rattle.std.proofs.Common.{refl, sym, ap, ◌∙◌, subst, inl, inr}
 use Rattle.std.specs.Option.{option_and_then}
 use Rattle.std.specs.Str.{bytes_eq}
-use Rattle.std.proofs.lemmas.Bool.{leb-true}
-use Rattle.std.proofs.lemmas.Bool.Decides.{nat_tests}
-use Rattle.std.proofs.lemmas.List.{length-append}
 use Rattle.text_model.specs.Texts.{Text}
-use Rattle.article_places.specs.Enumerations.{Numbers, numbers_in, alone, short_supplement}
-use Rattle.article_places.specs.Parts.{IsPartOf}
-use Rattle.openurl_reading.specs.Values.{most_bytes}
+use Rattle.article_places.specs.Enumerations.{Numbers, alone, short_supplement}
 use Rattle.openurl_reading.specs.Volumes.{read_numbers, issue_text, volume_of, volume_in, issue_after, issue_after_volume, number_before}
 use Rattle.openurl_reading.specs.Volumes.{volume_before_issue, is_volume, issue_by, issue_in}
 use Rattle.openurl_reading.specs.Canonical.{IsDesignation, is_number, is_supplement, other_designation}

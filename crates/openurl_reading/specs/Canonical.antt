@@ -8,14 +8,19 @@ use Rattle.publication_dates.specs.Forms.{IsDate}
 use Rattle.work_identifiers.specs.declared.namespace.Namespace.{Namespace}
 use Rattle.work_identifiers.specs.Forms.{IsIdentifier}
 use Rattle.work_identifiers.specs.Places.{identifier_in}
+use Rattle.work_identifiers.specs.Uris.{uri_of}
 use Rattle.article_places.specs.Enumerations.{alone, short_supplement}
 use Rattle.article_places.specs.Pages.{only}
+use Rattle.written_texts.specs.declared.readings.Role.{Role}
+use Rattle.written_texts.specs.declared.readings.Role.TheVariants.{Title, Other}
+use Rattle.written_texts.specs.Readings.{written}
 use Rattle.openurl_reading.specs.Kinds.{has}
 use Rattle.openurl_reading.specs.DublinCore.{is_core}
 use Rattle.openurl_reading.specs.OldKeys.{old_keys}
-use Rattle.openurl_reading.specs.Identifiers.{identifier_of, source_keys, uri_of}
+use Rattle.openurl_reading.specs.Identifiers.{identifier_of, source_keys}
 use Rattle.openurl_reading.specs.ArticleNumbers.{article_in}
 use Rattle.openurl_reading.specs.Pages.{read_pages}
+use Rattle.openurl_reading.specs.Texts.{title_texts, other_texts}
 use Rattle.openurl_reading.specs.Volumes.{read_numbers}
 
 -- no pair has the key
@@ -29,13 +34,17 @@ Under pairs key P = All P (all_of pairs key)
 abbrev pub IsVersion : Text → Type 0
 IsVersion value = value ≡ codes "Z39.88-2004"
 
+-- a text that is read as it is
+abbrev pub IsText : Role → Text → Type 0
+IsText role value = written role value ≡ value
+
 -- an ISSN, and neither zeros nor a span of years
 abbrev pub IsSureIssn : Text → Type 0
 IsSureIssn issn = IsIssn issn × (is_doubtful issn ≡ false)
 
--- an identifier of the referent: the URI of a DOI, or of a number of PubMed or OCLC (RFC 4452), or another URI, which has none of them
+-- an identifier of the referent: the URI of an identifier of a work, or another URI, which has none of them
 pub data IsReferentUri : Text → Type 0 where
-  registered : (namespace : Namespace) (identifier : Text) → IsIdentifier namespace identifier → IsReferentUri (uri_of namespace identifier)
+  registered_uri : (namespace : Namespace) (identifier : Text) → IsIdentifier namespace identifier → IsReferentUri (uri_of namespace identifier)
   other_uri : (value : Text) → ((namespace : Namespace) → identifier_in namespace value ≡ None) → IsReferentUri value
 
 -- no identifier, under a key other than `rft_id`
@@ -77,6 +86,8 @@ pub record IsCanonical (pairs : List KeyValue) : Type 0 where
   pub no_core : is_core pairs ≡ false
   pub no_old_keys : All (λ key. Lacks pairs key.old) old_keys
   pub no_other_keys : All (Lacks pairs) other_keys
+  pub titles : All (λ key. Under pairs key (IsText Title)) title_texts
+  pub other_texts : All (λ key. Under pairs key (IsText Other)) other_texts
   pub issns : Under pairs (codes "rft.issn") IsSureIssn
   pub eissns : Under pairs (codes "rft.eissn") IsSureIssn
   pub isbns : Under pairs (codes "rft.isbn") IsIsbn

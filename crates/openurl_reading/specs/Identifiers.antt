@@ -1,13 +1,16 @@
--- The identifiers of a request (DOIs: ISO 26324; numbers of PubMed and of OCLC): the first of each namespace is in `rft_id`, as its URI.
-use Rattle.std.specs.Prelude.{Bool, false, List, [], ◌∷◌, ◌++◌, codes, slice_get, Option, Some, None, if◌then◌else◌}
+-- The identifiers of a request (DOIs: ISO 26324; numbers of PubMed, PubMed Central and OCLC; those of arXiv): the first of each namespace is in
+-- `rft_id`, as its URI.
+use Rattle.std.specs.Prelude.{Bool, false, List, [], ◌∷◌, codes, slice_get, Option, Some, None, if◌then◌else◌}
 use Rattle.std.specs.List.{filter_map}
-use Rattle.std.specs.Option.{option_or}
+use Rattle.std.specs.Option.{option_or, is_some}
+use Rattle.std.specs.Str.{bytes_eq}
 use Rattle.text_model.specs.Texts.{Text}
 use Rattle.kev_read.specs.Pairs.{KeyValue, all_of}
 use Rattle.work_identifiers.specs.declared.namespace.Namespace.{Namespace}
-use Rattle.work_identifiers.specs.declared.namespace.Namespace.TheVariants.{Doi, Pmid, Oclc}
-use Rattle.work_identifiers.specs.Forms.{uri_start}
+use Rattle.work_identifiers.specs.declared.namespace.Namespace.TheVariants.{Doi, Pmid, Oclc, Pmc, Arxiv}
+use Rattle.work_identifiers.specs.Addresses.{doi_in_address}
 use Rattle.work_identifiers.specs.Places.{identifier_in, identifier_alone}
+use Rattle.work_identifiers.specs.Uris.{uri_of}
 use Rattle.openurl_reading.specs.Counting.{is_one_of}
 use Rattle.openurl_reading.specs.Steps.{Change, Step, unchanged, leading}
 
@@ -17,22 +20,41 @@ use Rattle.openurl_reading.specs.Steps.{Change, Step, unchanged, leading}
 abbrev pub pubmed_keys : List Text
 pubmed_keys = codes "pmid" ∷ codes "rft.pmid" ∷ []
 
+-- and under these one of PubMed Central
+abbrev pub central_keys : List Text
+central_keys = codes "pmcid" ∷ codes "rft.pmcid" ∷ []
+
 -- the key says of which namespace a value is
 abbrev pub names : Namespace → Text → Bool
 names Doi key = false
 names Pmid key = is_one_of pubmed_keys key
 names Oclc key = false
+names Pmc key = is_one_of central_keys key
+names Arxiv key = false
+
+-- the key is that of the page from which a reader comes, whose address may have a DOI anywhere
+abbrev pub is_page : Namespace → Text → Bool
+is_page Doi key = bytes_eq (codes "url") key
+is_page Pmid key = false
+is_page Oclc key = false
+is_page Pmc key = false
+is_page Arxiv key = false
+
+-- an identifier that nothing in the value names
+abbrev pub unnamed : Namespace → Text → Text → Option Text
+unnamed namespace key value =
+    if names namespace key then identifier_alone namespace value else (if is_page namespace key then doi_in_address value else None)
 
 abbrev pub identifier_of : Namespace → Text → Text → Option Text
-identifier_of namespace key value =
-    option_or (identifier_in namespace value) (if names namespace key then identifier_alone namespace value else None)
+identifier_of namespace key value = option_or (identifier_in namespace value) (unnamed namespace key value)
 
 -- ---- the first identifier of a request
 
--- the keys under which sources send identifiers; that of OpenURL 1.0 comes first
+-- the keys under which sources send identifiers; that of OpenURL 1.0 comes first, and the address of a page last
 abbrev pub source_keys : List Text
 source_keys =
-    codes "id" ∷ codes "rft.doi" ∷ codes "doi" ∷ codes "pmid" ∷ codes "rft.pmid" ∷ codes "pmcid" ∷ codes "rft.pmcid" ∷ codes "rft.identifier" ∷ []
+    codes "id" ∷ codes "rft.doi" ∷ codes "doi" ∷ codes "pmid" ∷ codes "rft.pmid" ∷ codes "pmcid" ∷ codes "rft.pmcid" ∷ codes "rft.identifier" ∷
+    codes "url" ∷ []
 
 abbrev pub identifier_keys : List Text
 identifier_keys = codes "rft_id" ∷ source_keys
@@ -44,10 +66,15 @@ first_under namespace pairs key = slice_get (filter_map (identifier_of namespace
 abbrev pub first_identifier : Namespace → List KeyValue → Option Text
 first_identifier namespace pairs = slice_get (filter_map (first_under namespace pairs) identifier_keys) 0
 
--- ---- its URI (RFC 4452)
+-- the identifier that a step names: one of arXiv only if the request has no DOI
+abbrev pub nameable : Namespace → List KeyValue → Option Text
+nameable Doi pairs = first_identifier Doi pairs
+nameable Pmid pairs = first_identifier Pmid pairs
+nameable Oclc pairs = first_identifier Oclc pairs
+nameable Pmc pairs = first_identifier Pmc pairs
+nameable Arxiv pairs = if is_some (first_identifier Doi pairs) then None else first_identifier Arxiv pairs
 
-abbrev pub uri_of : Namespace → Text → Text
-uri_of namespace identifier = uri_start namespace ++ identifier
+-- ---- its URI
 
 -- the URI leads, unless it is one of the values already
 abbrev pub named : Namespace → Option Text → List Text → Change
@@ -57,8 +84,8 @@ named namespace (Some identifier) known =
 
 abbrev pub naming : Namespace → Step
 naming namespace =
-    record { key = codes "rft_id"; change = λ pairs. named namespace (first_identifier namespace pairs) (all_of pairs (codes "rft_id")) }
+    record { key = codes "rft_id"; change = λ pairs. named namespace (nameable namespace pairs) (all_of pairs (codes "rft_id")) }
 
 -- the last one comes first: the DOI
 abbrev pub namings : List Step
-namings = naming Oclc ∷ naming Pmid ∷ naming Doi ∷ []
+namings = naming Oclc ∷ naming Pmc ∷ naming Pmid ∷ naming Arxiv ∷ naming Doi ∷ []

@@ -1,6 +1,6 @@
 -- What a request is for: a book, a dissertation or a journal (the formats of Z39.88-2004 for KEV ContextObjects).
 use Rattle.std.specs.Prelude.{Bool, not, ◌&&◌, ◌||◌, List, [], ◌∷◌, codes, Option, if◌then◌else◌}
-use Rattle.std.specs.List.{list_any, find}
+use Rattle.std.specs.List.{find}
 use Rattle.std.specs.Option.{option_and_then, is_some, unwrap_or}
 use Rattle.std.specs.Str.{trim}
 use Rattle.text_model.specs.Texts.{Text}

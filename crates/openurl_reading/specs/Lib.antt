@@ -7,6 +7,7 @@ pub mod Kinds
 pub mod DublinCore
 pub mod Titles
 pub mod Formats
+pub mod Texts
 pub mod Referrers
 pub mod Numbers
 pub mod Fields

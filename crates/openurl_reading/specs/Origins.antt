@@ -8,8 +8,13 @@ use Rattle.publication_dates.specs.Dates.{date_in}
 use Rattle.publication_dates.specs.Days.{first_day, last_day}
 use Rattle.article_places.specs.Enumerations.{Numbers, numbers_in, short_supplement}
 use Rattle.work_identifiers.specs.declared.namespace.Namespace.{Namespace}
+use Rattle.work_identifiers.specs.declared.namespace.Namespace.TheVariants.{Arxiv}
+use Rattle.work_identifiers.specs.Uris.{uri_of, arxiv_doi}
+use Rattle.written_texts.specs.declared.readings.Role.{Role}
+use Rattle.written_texts.specs.declared.readings.Role.TheVariants.{Other}
+use Rattle.written_texts.specs.Readings.{written}
 use Rattle.openurl_reading.specs.ArticleNumbers.{article_in}
-use Rattle.openurl_reading.specs.Identifiers.{identifier_of, uri_of}
+use Rattle.openurl_reading.specs.Identifiers.{identifier_of}
 use Rattle.openurl_reading.specs.Pages.{first_in, last_in}
 use Rattle.openurl_reading.specs.Values.{searched}
 use Rattle.openurl_reading.specs.Versions.{version}
@@ -29,6 +34,7 @@ pub data HasOrigin (sent : List Text) : Text → Type 0 where
   from_request : (value : Text) → Contains sent value → HasOrigin sent value
   version_of_openurl : HasOrigin sent version
   format_of_kind : (kind : Kind) → HasOrigin sent (format_of kind)
+  text_in : (role : Role) (value : Text) → Contains sent value → HasOrigin sent (written role value)
   source_in : (value : Text) → Contains sent value → HasOrigin sent (referrer_of value)
   issn_in : (value issn : Text) → Contains sent value → Contains (issns_in (searched value)) issn → HasOrigin sent issn
   isbn_in : (value isbn : Text) → Contains sent value → Contains (isbns_in (searched value)) isbn → HasOrigin sent isbn
@@ -41,9 +47,12 @@ pub data HasOrigin (sent : List Text) : Text → Type 0 where
   supplement_of_issue : (value number mark : Text) (n : Numbers) → Contains sent value → numbers_in value ≡ Some n → IsNumberOf n number
       → n.supplement ≡ Some mark → HasOrigin sent (number ++ 0x20 ∷ short_supplement mark)
   page_in : (value page : Text) → Contains sent value → first_in value ≡ Some page → HasOrigin sent page
+  page_in_text : (value page : Text) → Contains sent value → first_in (written Other value) ≡ Some page → HasOrigin sent page
   last_page_in : (value page : Text) → Contains sent value → last_in value ≡ Some page → HasOrigin sent page
   article_number_in : (value number : Text) → Contains sent value → article_in value ≡ Some number → HasOrigin sent number
   identifier_in_value : (namespace : Namespace) (key value identifier : Text) → Contains sent value
       → identifier_of namespace key value ≡ Some identifier → HasOrigin sent identifier
   uri_of_identifier : (namespace : Namespace) (key value identifier : Text) → Contains sent value
       → identifier_of namespace key value ≡ Some identifier → HasOrigin sent (uri_of namespace identifier)
+  doi_of_preprint : (key value identifier : Text) → Contains sent value → identifier_of Arxiv key value ≡ Some identifier
+      → HasOrigin sent (arxiv_doi identifier)

@@ -12,6 +12,7 @@ use Rattle.openurl_reading.specs.OldKeys.{copies}
 use Rattle.openurl_reading.specs.DublinCore.{core_steps}
 use Rattle.openurl_reading.specs.Titles.{titlings}
 use Rattle.openurl_reading.specs.Formats.{format_step}
+use Rattle.openurl_reading.specs.Texts.{text_steps}
 use Rattle.openurl_reading.specs.Referrers.{referrer_step}
 use Rattle.openurl_reading.specs.Numbers.{issns_under, first_number, other_than, issn_step, eissn_step, isbn_step, first_isbn}
 use Rattle.openurl_reading.specs.Dates.{date_step, date_under}
@@ -21,8 +22,8 @@ use Rattle.openurl_reading.specs.Volumes.{volume_steps}
 
 unfoldable pub steps : List Step
 steps =
-    versions ++ fields ++ copies ++ core_steps ++ titlings ++ format_step ∷ referrer_step ∷ issn_step ∷ eissn_step ∷ isbn_step ∷ date_step ∷
-    volume_steps ++ page_steps ++ namings
+    versions ++ fields ++ copies ++ core_steps ++ titlings ++ format_step ∷ text_steps ++ referrer_step ∷ issn_step ∷ eissn_step ∷ isbn_step ∷
+    date_step ∷ volume_steps ++ page_steps ++ namings
 
 -- the pairs of OpenURL 1.0
 abbrev pub normal_form : List KeyValue → List KeyValue

@@ -1,6 +1,6 @@
 //! Keys that the resolver adds for the rules of targets.
 
-ghost use Rattle.std.specs.Prelude.{◌≡◌, ◌++◌, IfOk, OnOk, codes};
+ghost use Rattle.std.specs.Prelude.{◌≡◌, ◌++◌, ◌∷◌, [], IfOk, OnOk, codes};
 ghost use Rattle.std.specs.Option.{option_map};
 ghost use Rattle.openurl_reading.specs.Identifiers.{first_under};
 ghost use Rattle.openurl_reading.specs.Reading as spec;
@@ -90,9 +90,19 @@ fn push_days(alloc: Global, list: &mut Vec<Pair>, pairs: &Pairs) -> Result<(), A
         ++ spec.added (codes "x.to") (option_map (λ days. days.last) (spec.days_of pairs.now))) }
 {
     if let Some(days) = days_of(alloc, pairs)? {
-        list.push(Pair::new(copy(alloc, "x.from")?, copy(alloc, days.first())?))?;
-        list.push(Pair::new(copy(alloc, "x.to")?, copy(alloc, days.last())?))?;
+        push_text(alloc, list, "x.from", days.first())?;
+        push_text(alloc, list, "x.to", days.last())?;
     }
+    Ok(())
+}
+
+/// Appends a pair.
+fn push_text(alloc: Global, list: &mut Vec<Pair>, key: &str, value: &str) -> Result<(), AllocError>
+    ensures { OnOk result (list.new.items ≡ list.old.items ++ record { key = key.now; value = value.now } ∷ []) }
+{
+    let key = copy(alloc, key)?;
+    let value = copy(alloc, value)?;
+    list.push(Pair::new(key, value))?;
     Ok(())
 }
 

@@ -1,4 +1,4 @@
-//! The identifiers of a request: DOIs, and the numbers of PubMed and OCLC.
+//! The identifiers of a request: DOIs, the numbers of PubMed, PubMed Central and OCLC, and those of arXiv.
 
 ghost use Rattle.std.specs.Prelude.{◌≡◌, IfOk, IfSome, codes};
 ghost use Rattle.std.specs.Option.{option_copied};
@@ -6,6 +6,7 @@ ghost use Rattle.std.specs.Str.{IsAscii};
 ghost use Rattle.text_model.specs.Texts.{texts_of};
 ghost use Rattle.kev_read.specs.Pairs.{all_of};
 ghost use Rattle.openurl_reading.specs.Steps.{after, taken};
+ghost use Rattle.work_identifiers.specs.declared.namespace.Namespace.TheVariants.{Arxiv};
 ghost use Rattle.openurl_reading.specs.Identifiers as spec;
 
 use crate::change::{Change, changed};
@@ -13,14 +14,16 @@ use crate::counting::is_one_of;
 use crate::pairs::{Pairs, ascii_text};
 use std::alloc::{AllocError, Global};
 use uri_text::Text;
-use work_identifiers::{Namespace, identifier_alone, identifier_in};
+use work_identifiers::{Namespace, doi_in_address, identifier_alone, identifier_in, uri_of};
 
 /// The first identifier of each namespace is in `rft_id` as its URI.
 pub(crate) fn name_works(alloc: Global, pairs: Pairs) -> Result<Pairs, AllocError>
     ensures { IfOk result (λ named. named ≡ after spec.namings pairs) }
 {
     let pairs = name_work(alloc, Namespace::Oclc, pairs)?;
+    let pairs = name_work(alloc, Namespace::Pmc, pairs)?;
     let pairs = name_work(alloc, Namespace::Pmid, pairs)?;
+    let pairs = name_work(alloc, Namespace::Arxiv, pairs)?;
     let pairs = name_work(alloc, Namespace::Doi, pairs)?;
     Ok(pairs)
 }
@@ -35,12 +38,12 @@ fn name_work(alloc: Global, namespace: Namespace, pairs: Pairs) -> Result<Pairs,
 
 fn named(alloc: Global, namespace: Namespace, pairs: &Pairs) -> Result<Change, AllocError>
     ensures { IfOk result (λ change. change
-        ≡ spec.named namespace (spec.first_identifier namespace pairs.now) (all_of pairs.now (codes "rft_id"))) }
+        ≡ spec.named namespace (spec.nameable namespace pairs.now) (all_of pairs.now (codes "rft_id"))) }
 {
-    let Some(identifier) = first_identifier(alloc, namespace, pairs)? else {
+    let Some(identifier) = nameable(alloc, namespace, pairs)? else {
         return Ok(Change::unchanged(alloc));
     };
-    let uri = uri_of(alloc, namespace, identifier.as_str())?;
+    let uri = uri_of(alloc, namespace, identifier.as_str().as_bytes())?;
     let known = pairs.all(alloc, "rft_id")?;
     if is_one_of(&known, uri.as_str()) {
         return Ok(Change::unchanged(alloc));
@@ -50,13 +53,28 @@ fn named(alloc: Global, namespace: Namespace, pairs: &Pairs) -> Result<Change, A
     Ok(Change::leading(values))
 }
 
-/// The URI of an identifier (RFC 4452).
-fn uri_of(alloc: Global, namespace: Namespace, identifier: &str) -> Result<Text, AllocError>
-    ensures { IfOk result (λ uri. uri ≡ spec.uri_of namespace identifier.now) }
+/// The identifier that a step names: one of arXiv only if the request has no DOI.
+fn nameable(alloc: Global, namespace: Namespace, pairs: &Pairs) -> Result<Option<Text>, AllocError>
+    ensures value { IfOk result (λ found. found ≡ spec.nameable namespace pairs.now) }
+    ensures ascii { IfOk result (λ found. IfSome found (λ identifier. IsAscii identifier)) }
 {
-    let mut uri = String::from_str(alloc, namespace.uri_start())?;
-    uri.push_str(identifier)?;
-    Ok(Text::new(uri))
+    match namespace {
+        Namespace::Arxiv => preprint(alloc, pairs),
+        Namespace::Doi | Namespace::Pmid | Namespace::Oclc | Namespace::Pmc => {
+            first_identifier(alloc, namespace, pairs)
+        }
+    }
+}
+
+/// The first identifier of arXiv, if the request has no DOI.
+fn preprint(alloc: Global, pairs: &Pairs) -> Result<Option<Text>, AllocError>
+    ensures value { IfOk result (λ found. found ≡ spec.nameable Arxiv pairs.now) }
+    ensures ascii { IfOk result (λ found. IfSome found (λ identifier. IsAscii identifier)) }
+{
+    if first_identifier(alloc, Namespace::Doi, pairs)?.is_some() {
+        return Ok(None);
+    }
+    first_identifier(alloc, Namespace::Arxiv, pairs)
 }
 
 /// The first identifier of a namespace.
@@ -65,7 +83,8 @@ fn first_identifier(
     namespace: Namespace,
     pairs: &Pairs,
 ) -> Result<Option<Text>, AllocError>
-    ensures { IfOk result (λ found. found ≡ spec.first_identifier namespace pairs.now) }
+    ensures value { IfOk result (λ found. found ≡ spec.first_identifier namespace pairs.now) }
+    ensures ascii { IfOk result (λ found. IfSome found (λ identifier. IsAscii identifier)) }
 {
     for key in identifier_keys() {
         if let Some(identifier) = first_under(alloc, namespace, pairs, key)? {
@@ -82,7 +101,8 @@ pub(crate) fn first_under(
     pairs: &Pairs,
     key: &str,
 ) -> Result<Option<Text>, AllocError>
-    ensures { IfOk result (λ found. found ≡ spec.first_under namespace pairs.now key.now) }
+    ensures value { IfOk result (λ found. found ≡ spec.first_under namespace pairs.now key.now) }
+    ensures ascii { IfOk result (λ found. IfSome found (λ identifier. IsAscii identifier)) }
 {
     for value in &pairs.all(alloc, key)? {
         if let Some(identifier) = identifier_of(alloc, namespace, key, value)? {
@@ -99,7 +119,8 @@ fn identifier_of(
     key: &str,
     value: &str,
 ) -> Result<Option<Text>, AllocError>
-    ensures { IfOk result (λ found. found ≡ spec.identifier_of namespace key.now value.now) }
+    ensures value { IfOk result (λ found. found ≡ spec.identifier_of namespace key.now value.now) }
+    ensures ascii { IfOk result (λ found. IfSome found (λ identifier. IsAscii identifier)) }
 {
     match part_of(alloc, namespace, key, value.as_bytes())? {
         Some(identifier) => Ok(Some(ascii_text(alloc, identifier)?)),
@@ -119,8 +140,22 @@ fn part_of<'a>(
 {
     match identifier_in(alloc, namespace, value)? {
         Some(identifier) => Ok(Some(identifier)),
-        None if names(namespace, key) => Ok(identifier_alone(namespace, value)),
-        None => Ok(None),
+        None => Ok(unnamed(namespace, key, value)),
+    }
+}
+
+/// An identifier that nothing in the value names: a number alone under a key that names it, or a DOI in the address of
+/// a page.
+fn unnamed<'a>(namespace: Namespace, key: &str, value: &'a [u8]) -> Option<&'a [u8]>
+    ensures value { option_copied result ≡ spec.unnamed namespace key.now value.now }
+    ensures ascii { IfSome result (λ identifier. IsAscii identifier.now) }
+{
+    if names(namespace, key) {
+        identifier_alone(namespace, value)
+    } else if is_page(namespace, key) {
+        doi_in_address(value)
+    } else {
+        None
     }
 }
 
@@ -130,7 +165,18 @@ fn names(namespace: Namespace, key: &str) -> bool
 {
     match namespace {
         Namespace::Pmid => is_one_of(pubmed_keys(), key),
-        Namespace::Doi | Namespace::Oclc => false,
+        Namespace::Pmc => is_one_of(central_keys(), key),
+        Namespace::Doi | Namespace::Oclc | Namespace::Arxiv => false,
+    }
+}
+
+/// Whether the key is that of the page from which a reader comes, and its DOI is meant.
+fn is_page(namespace: Namespace, key: &str) -> bool
+    ensures { result ≡ spec.is_page namespace key.now }
+{
+    match namespace {
+        Namespace::Doi => "url" == key,
+        Namespace::Pmid | Namespace::Oclc | Namespace::Pmc | Namespace::Arxiv => false,
     }
 }
 
@@ -141,7 +187,14 @@ fn pubmed_keys() -> &'static [&'static str]
     &["pmid", "rft.pmid"]
 }
 
-/// The keys of identifiers, that of OpenURL 1.0 first.
+/// The keys under which a number alone is one of PubMed Central.
+fn central_keys() -> &'static [&'static str]
+    ensures { texts_of result.now ≡ spec.central_keys }
+{
+    &["pmcid", "rft.pmcid"]
+}
+
+/// The keys of identifiers, that of OpenURL 1.0 first, and that of a page last.
 fn identifier_keys() -> &'static [&'static str]
     ensures { texts_of result.now ≡ spec.identifier_keys }
 {
@@ -155,5 +208,6 @@ fn identifier_keys() -> &'static [&'static str]
         "pmcid",
         "rft.pmcid",
         "rft.identifier",
+        "url",
     ]
 }

@@ -3,6 +3,7 @@
 
 ghost use Rattle.std.specs.Prelude.{◌≡◌, ◌≤◌, ◌+◌, ◌*◌, List, All, false, filter, length};
 ghost use Rattle.kev_read.specs.Pairs.{KeyValue, value_bytes};
+ghost use Rattle.kev_read.specs.Refusal.{states_other_version};
 ghost use Rattle.openurl_reading.specs.Canonical.{IsCanonical};
 ghost use Rattle.openurl_reading.specs.Counting.{counting, is_added_key, is_column, most_pairs};
 ghost use Rattle.openurl_reading.specs.Origins.{HasOrigin, all_values};
@@ -17,8 +18,10 @@ use standard_numbers::laws::{
     isbns_are_isbns, isbns_stay, issns_are_found_alone, issns_are_issns, issns_stay,
 };
 use work_identifiers::laws::{
-    identifiers_are_identifiers, identifiers_stay, uris_have_one_namespace,
+    dois_in_addresses_are_dois, identifiers_are_identifiers, identifiers_stay, preprints_have_dois,
+    uris_are_short, uris_have_one_namespace,
 };
+use written_texts::laws::{texts_are_bounded, texts_are_not_blank, texts_are_read_once};
 
 /// A step leaves the pairs of all other keys as they are, in their order.
 pub fn steps_touch_their_key()
@@ -33,6 +36,11 @@ pub fn sources_write_no_column()
         ≡ derived (normal_form (counting pairs)) }
 {}
 
+/// A reading states no other version than that of OpenURL 1.0, so as a query it is accepted.
+pub fn readings_state_the_version()
+    ensures { (pairs : List KeyValue) → states_other_version (reading_of pairs).pairs ≡ false }
+{}
+
 /// A request that is OpenURL 1.0 stays as it is. If all its pairs count, its reading has them after the derived ones.
 pub fn canonical_requests_stay()
     ensures steps { (pairs : List KeyValue) → IsCanonical pairs → normal_form pairs ≡ pairs }
@@ -45,6 +53,8 @@ pub fn canonical_requests_stay()
     identifiers_are_identifiers();
     identifiers_stay();
     uris_have_one_namespace();
+    preprints_have_dois();
+    dois_in_addresses_are_dois();
 }
 
 /// Reading twice is reading once. A reading is read as it is if its pairs, without the derived ones, are few enough.
@@ -68,10 +78,15 @@ pub fn readings_are_read_as_they_are()
     identifiers_are_identifiers();
     identifiers_stay();
     uris_have_one_namespace();
+    preprints_have_dois();
+    dois_in_addresses_are_dois();
+    texts_are_read_once();
+    texts_are_not_blank();
 }
 
 /// Nothing is invented: each value of a reading is one of the request, the version of OpenURL, one of three formats, or
-/// what is read in one value of the request, an identifier also as its URI.
+/// what is read in one value of the request, an identifier also as its URI, one of arXiv as its DOI, and a page also in
+/// the text that is read.
 pub fn nothing_is_invented()
     ensures { (pairs : List KeyValue) → All (λ pair. HasOrigin (all_values pairs) pair.value) (reading_of pairs).pairs }
 {
@@ -90,15 +105,17 @@ pub fn nothing_is_invented()
     identifiers_are_identifiers();
     identifiers_stay();
     uris_have_one_namespace();
+    preprints_have_dois();
+    dois_in_addresses_are_dois();
 }
 
 /// A reading has at most twice the pairs that count, of which there are at most 300, and twice the bytes of the values
 /// of the request, and what the resolver adds.
 pub fn readings_are_bounded()
-    ensures few { (pairs : List KeyValue) → length (reading_of pairs).pairs ≤ 2 * length (counting pairs) + 26 }
+    ensures few { (pairs : List KeyValue) → length (reading_of pairs).pairs ≤ 2 * length (counting pairs) + 28 }
     ensures counting { (pairs : List KeyValue) → length (counting pairs) ≤ most_pairs }
     ensures bytes { (pairs : List KeyValue)
-        → value_bytes (reading_of pairs).pairs ≤ 2 * value_bytes pairs + 3142 }
+        → value_bytes (reading_of pairs).pairs ≤ 2 * value_bytes pairs + 3242 }
 {
     issns_are_issns();
     isbns_are_isbns();
@@ -112,4 +129,8 @@ pub fn readings_are_bounded()
     identifiers_are_identifiers();
     identifiers_stay();
     uris_have_one_namespace();
+    preprints_have_dois();
+    dois_in_addresses_are_dois();
+    uris_are_short();
+    texts_are_bounded();
 }

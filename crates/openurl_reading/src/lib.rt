@@ -1,7 +1,8 @@
 //! Requests of any source, read as OpenURL 1.0 (ANSI/NISO Z39.88-2004).
 //!
-//! Sources send OpenURL 0.1, other versions, Dublin Core, the fields of forms, and identifiers, numbers and dates in
-//! free forms. Of Dublin Core, `rft.source` is not read yet. A reading has
+//! Sources send OpenURL 0.1, other versions, Dublin Core, the fields of forms, identifiers, numbers and dates in free
+//! forms, and titles and names in HTML, in LaTeX or encoded twice. Of Dublin Core, `rft.source` is not read yet. A
+//! reading has
 //!
 //! 1. the pairs that count: not those without a value, and none that names a column of holdings tables;
 //! 2. after steps, each of which changes the values of one key;
@@ -34,6 +35,7 @@ mod pairs;
 mod reading;
 mod referrer;
 mod searched;
+mod texts;
 mod titles;
 mod versions;
 mod volumes;

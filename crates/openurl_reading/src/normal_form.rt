@@ -13,6 +13,7 @@ use crate::old_keys::copy_old_keys;
 use crate::pages::lead_pages;
 use crate::pairs::Pairs;
 use crate::referrer::name_referrer;
+use crate::texts::read_texts;
 use crate::titles::copy_title;
 use crate::versions::correct;
 use crate::volumes::lead_volumes;
@@ -29,6 +30,7 @@ pub(crate) fn normal_form(alloc: Global, pairs: Pairs) -> Result<Pairs, AllocErr
     let pairs = copy_elements(alloc, pairs)?;
     let pairs = copy_title(alloc, pairs)?;
     let pairs = name_format(alloc, pairs)?;
+    let pairs = read_texts(alloc, pairs)?;
     let pairs = name_referrer(alloc, pairs)?;
     let pairs = lead_issn(alloc, pairs)?;
     let pairs = lead_eissn(alloc, pairs)?;

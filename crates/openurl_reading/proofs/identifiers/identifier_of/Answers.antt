@@ -3,12 +3,12 @@ use Rattle.std.specs.Option.{option_copied}
 use Rattle.openurl_reading.specs.Identifiers as spec
 use Rattle.openurl_reading.proofs.identifiers.identifier_of.Goals as goal
 
-pub returns-in_ok-ascii_text-in-Some : goal.returns-in_ok-ascii_text-in-Some
-returns-in_ok-ascii_text-in-Some c =
+pub returns-in_ok-ascii_text-in-Some-clause-value : goal.returns-in_ok-ascii_text-in-Some-clause-value
+returns-in_ok-ascii_text-in-Some-clause-value c =
     ap Some c.in_ok-ascii_text-in-Some.ensures ∙ sym (ap option_copied c.in-Some.is) ∙ c.in_ok-identifier.ensures.value
     ∙ ap (spec.identifier_of c.args.namespace c.args.key.now) c.as_bytes.ensures.value
 
-pub returns-in-None : goal.returns-in-None
-returns-in-None c =
+pub returns-in-None-clause-value : goal.returns-in-None-clause-value
+returns-in-None-clause-value c =
     sym (ap option_copied c.in-None.is) ∙ c.in_ok-identifier.ensures.value
     ∙ ap (spec.identifier_of c.args.namespace c.args.key.now) c.as_bytes.ensures.value

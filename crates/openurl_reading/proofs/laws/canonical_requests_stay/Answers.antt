@@ -2,7 +2,7 @@ use Rattle.std.proofs.Common.{[], ap, ◌∙◌, lit<}
 use Rattle.openurl_reading.specs.Reading.{normal_form, with_derived}
 use Rattle.openurl_reading.proofs.CanonicalStays.{kept_settled}
 use Rattle.openurl_reading.proofs.Identified.{identified}
-use Rattle.openurl_reading.proofs.Named.{canonical_named}
+use Rattle.openurl_reading.proofs.CanonicalNames.{canonical_named}
 use Rattle.openurl_reading.proofs.LowerLaws.{issn_kept, isbn_kept, date_kept}
 use Rattle.openurl_reading.proofs.Settled.{settled_stays}
 use Rattle.openurl_reading.proofs.laws.canonical_requests_stay.Goals as goal
@@ -24,6 +24,8 @@ returns-clause-steps c pairs is =
       no_old_year = missing 2 [] (lit< tt);
       no_year = missing 3 [] (lit< tt);
       no_eisbn = missing 4 [] (lit< tt);
+      titles = is.titles;
+      other_texts = is.other_texts;
       issns = λ k d h. let one = is.issns k d h in issn_kept c.issns_stay.ensures _ one.0 one.1;
       eissns = λ k d h. let one = is.eissns k d h in issn_kept c.issns_stay.ensures _ one.0 one.1;
       isbns = λ k d h. isbn_kept c.isbns_stay.ensures _ (is.isbns k d h);
@@ -35,7 +37,8 @@ returns-clause-steps c pairs is =
       pages = is.pages;
       works = canonical_named
           (identified c.identifiers_are_identifiers.ensures.named c.identifiers_are_identifiers.ensures.alone c.identifiers_stay.ensures.named
-          c.uris_have_one_namespace.ensures)
+          c.uris_have_one_namespace.ensures c.preprints_have_dois.ensures.doi c.preprints_have_dois.ensures.uri
+          c.dois_in_addresses_are_dois.ensures.are)
           pairs is.referents is.no_other_identifiers;
     })
 

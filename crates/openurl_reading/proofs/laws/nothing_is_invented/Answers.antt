@@ -1,6 +1,6 @@
 use Rattle.openurl_reading.proofs.Identified.{identified}
 use Rattle.openurl_reading.proofs.LowerLaws.{found_again}
-use Rattle.openurl_reading.proofs.VolumeLaws.{NumberLaws, numbers_again}
+use Rattle.openurl_reading.proofs.VolumeLaws.{numbers_again}
 use Rattle.openurl_reading.proofs.NothingInvented.{nothing_invented}
 use Rattle.openurl_reading.proofs.laws.nothing_is_invented.Goals as goal
 
@@ -20,4 +20,5 @@ returns c =
       after_number = c.supplements_stay.ensures.after_number;
     }))
     (identified c.identifiers_are_identifiers.ensures.named c.identifiers_are_identifiers.ensures.alone c.identifiers_stay.ensures.named
-    c.uris_have_one_namespace.ensures)
+    c.uris_have_one_namespace.ensures c.preprints_have_dois.ensures.doi c.preprints_have_dois.ensures.uri
+    c.dois_in_addresses_are_dois.ensures.are)

@@ -4,11 +4,12 @@ use Rattle.openurl_reading.specs.Counting.{accepted, counting, most_pairs}
 use Rattle.openurl_reading.specs.Reading.{normal_form, with_derived}
 use Rattle.openurl_reading.proofs.FoundAre.{AreFoundIn, found_are}
 use Rattle.openurl_reading.proofs.Identified.{identified}
-use Rattle.openurl_reading.proofs.IdentifierForms.{longest_uri, uri_short, identifier_short}
+use Rattle.openurl_reading.proofs.IdentifierForms.{identifier_short}
+use Rattle.work_identifiers.specs.Uris.{longest_uri}
 use Rattle.openurl_reading.proofs.LowerLaws.{found_short, days_short}
 use Rattle.openurl_reading.proofs.PagesFound.{pages_short}
 use Rattle.openurl_reading.proofs.VolumeForms.{numbers_short}
-use Rattle.openurl_reading.proofs.VolumeLaws.{NumberLaws, AreFoundNumbers}
+use Rattle.openurl_reading.proofs.VolumeLaws.{AreFoundNumbers}
 use Rattle.openurl_reading.proofs.KeysWeigh.{AreLight, formats_short, source_short}
 use Rattle.openurl_reading.proofs.Sizes.{ArePagesLight, pages_light, reading_weighs, counting_weighs, total-one}
 use Rattle.openurl_reading.proofs.laws.readings_are_bounded.Goals as goal
@@ -26,9 +27,11 @@ returns-clause-few c pairs =
       days = λ pairs date e. (omega arith, omega arith);
       version = omega arith;
       source = λ sid. omega arith;
+      text = λ role text. omega arith;
       identified = identified c.identifiers_are_identifiers.ensures.named c.identifiers_are_identifiers.ensures.alone
-          c.identifiers_stay.ensures.named c.uris_have_one_namespace.ensures;
-      identifier = λ namespace n is. omega arith;
+          c.identifiers_stay.ensures.named c.uris_have_one_namespace.ensures c.preprints_have_dois.ensures.doi c.preprints_have_dois.ensures.uri
+          c.dois_in_addresses_are_dois.ensures.are;
+      identifier = λ namespace n plain is. omega arith;
       uri = λ namespace n is. omega arith;
     } in
     let pages : ArePagesLight (λ n. 1) 1 1 = record { first = λ pairs n e. omega arith; last = λ pairs n e. omega arith } in
@@ -55,10 +58,12 @@ returns-clause-bytes c pairs =
       days = days_short c.dates_are_read.ensures c.days_are_days.ensures.first c.days_are_days.ensures.last;
       version = omega arith;
       source = source_short;
+      text = c.texts_are_bounded.ensures;
       identified = identified c.identifiers_are_identifiers.ensures.named c.identifiers_are_identifiers.ensures.alone
-          c.identifiers_stay.ensures.named c.uris_have_one_namespace.ensures;
-      identifier = identifier_short;
-      uri = uri_short;
+          c.identifiers_stay.ensures.named c.uris_have_one_namespace.ensures c.preprints_have_dois.ensures.doi c.preprints_have_dois.ensures.uri
+          c.dois_in_addresses_are_dois.ensures.are;
+      identifier = identifier_short c.uris_are_short.ensures;
+      uri = c.uris_are_short.ensures;
     } in
     let short = pages_short c.pages_are_parts.ensures.first c.pages_are_parts.ensures.last c.parts_are_short.ensures.part
     c.parts_are_short.ensures.last in

@@ -5,13 +5,13 @@ use Rattle.openurl_reading.proofs.IdentifierForms.{BeginsWithDigit}
 use Rattle.openurl_reading.proofs.LowerLaws.{found_again, found_digits}
 use Rattle.openurl_reading.proofs.PagesFound.{pages_again, pages_not_blank}
 use Rattle.openurl_reading.proofs.VolumeForms.{numbers_not_blank}
-use Rattle.openurl_reading.proofs.VolumeLaws.{NumberLaws, numbers_again}
+use Rattle.openurl_reading.proofs.VolumeLaws.{numbers_again}
 use Rattle.openurl_reading.proofs.ReadOnce.{read_once}
 use Rattle.openurl_reading.proofs.laws.readings_are_read_as_they_are.Goals as goal
 
 pub returns-clause-steps : goal.returns-clause-steps
 returns-clause-steps c =
-    read_once
+    read_once c.texts_are_read_once.ensures
     (found_again c.issns_are_issns.ensures c.issns_are_found_alone.ensures c.isbns_are_isbns.ensures c.isbns_stay.ensures
     c.dates_are_read.ensures c.dates_stay.ensures)
     (numbers_again (record {
@@ -26,12 +26,15 @@ returns-clause-steps c =
     }))
     (pages_again c.pages_are_parts.ensures.first c.parts_are_short.ensures.part c.pages_stay.ensures.first c.pages_stay.ensures.last)
     (identified c.identifiers_are_identifiers.ensures.named c.identifiers_are_identifiers.ensures.alone c.identifiers_stay.ensures.named
-    c.uris_have_one_namespace.ensures)
+    c.uris_have_one_namespace.ensures c.preprints_have_dois.ensures.doi c.preprints_have_dois.ensures.uri
+    c.dois_in_addresses_are_dois.ensures.are)
 
 pub returns-clause-reading : goal.returns-clause-reading
 returns-clause-reading c pairs few =
-    reading_again (identified c.identifiers_are_identifiers.ensures.named c.identifiers_are_identifiers.ensures.alone c.identifiers_stay.ensures.named
-    c.uris_have_one_namespace.ensures)
+    reading_again c.texts_are_not_blank.ensures
+    (identified c.identifiers_are_identifiers.ensures.named c.identifiers_are_identifiers.ensures.alone c.identifiers_stay.ensures.named
+    c.uris_have_one_namespace.ensures c.preprints_have_dois.ensures.doi c.preprints_have_dois.ensures.uri
+    c.dois_in_addresses_are_dois.ensures.are)
     (returns-clause-steps c)
     (found_are BeginsWithDigit (found_digits c.issns_are_issns.ensures c.isbns_are_isbns.ensures c.dates_are_read.ensures))
     (numbers_not_blank (record {

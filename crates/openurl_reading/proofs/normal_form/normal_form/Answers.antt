@@ -7,6 +7,7 @@ use Rattle.openurl_reading.specs.Versions.{correction}
 use Rattle.openurl_reading.specs.Fields.{fields}
 use Rattle.openurl_reading.specs.OldKeys.{copies}
 use Rattle.openurl_reading.specs.Formats.{format_step}
+use Rattle.openurl_reading.specs.Texts.{text_steps}
 use Rattle.openurl_reading.specs.Titles.{titlings}
 use Rattle.openurl_reading.specs.Numbers.{issn_step, eissn_step, isbn_step}
 use Rattle.openurl_reading.specs.Dates.{date_step}
@@ -14,30 +15,31 @@ use Rattle.openurl_reading.specs.Identifiers.{namings}
 use Rattle.openurl_reading.specs.Pages.{page_steps}
 use Rattle.openurl_reading.specs.Volumes.{volume_steps}
 use Rattle.openurl_reading.specs.Reading.{normal_form}
-use Rattle.openurl_reading.proofs.Stages.{kind_steps, last_steps, with_fields, normal_form-is}
+use Rattle.openurl_reading.proofs.Stages.{kind_steps, led_steps, with_fields, normal_form-led}
 use Rattle.openurl_reading.proofs.normal_form.normal_form.Goals as goal
 
-in_order : (pairs context transport fielded copied kinds after_all : List KeyValue)
+in_order : (pairs context transport fielded copied kinds texts after_all : List KeyValue)
     → context ≡ taken pairs (correction (codes "ctx_ver")) → transport ≡ taken context (correction (codes "url_ver"))
-    → fielded ≡ after fields transport → copied ≡ after copies fielded → kinds ≡ after kind_steps copied → after_all ≡ after last_steps kinds
-    → after_all ≡ normal_form pairs
-in_order pairs context transport fielded copied kinds after_all a b c d e f =
+    → fielded ≡ after fields transport → copied ≡ after copies fielded → kinds ≡ after kind_steps copied → texts ≡ after text_steps kinds
+    → after_all ≡ after led_steps texts → after_all ≡ normal_form pairs
+in_order pairs context transport fielded copied kinds texts after_all a b c d e t f =
     let first : fielded ≡ with_fields pairs = c ∙ ap (after fields) (b ∙ ap (λ p. taken p (correction (codes "url_ver"))) a) in
-    f ∙ ap (after last_steps) (e ∙ ap (after kind_steps) (d ∙ ap (after copies) first)) ∙ sym (normal_form-is pairs)
+    f ∙ ap (after led_steps) (t ∙ ap (after text_steps) (e ∙ ap (after kind_steps) (d ∙ ap (after copies) first))) ∙ sym (normal_form-led pairs)
 
 pub returns : goal.returns
 returns c =
     let kinds = c.in_ok-pairs-7.ensures
     ∙ ap (λ p. taken p format_step) (c.in_ok-pairs-6.ensures ∙ ap (after titlings) c.in_ok-pairs-5.ensures) in
-    let last = c.in_ok-pairs-15.ensures
-    ∙ ap (after namings) (c.in_ok-pairs-14.ensures
-    ∙ ap (after page_steps) (c.in_ok-pairs-13.ensures
-    ∙ ap (after volume_steps) (c.in_ok-pairs-12.ensures
-    ∙ ap (λ p. taken p date_step) (c.in_ok-pairs-11.ensures
-    ∙ ap (λ p. taken p isbn_step) (c.in_ok-pairs-10.ensures
-    ∙ ap (λ p. taken p eissn_step) (c.in_ok-pairs-9.ensures ∙ ap (λ p. taken p issn_step) c.in_ok-pairs-8.ensures)))))) in
-    in_order c.args.pairs c.in_ok-pairs.pairs c.in_ok-pairs-2.pairs c.in_ok-pairs-3.pairs c.in_ok-pairs-4.pairs c.in_ok-pairs-7.pairs
-    c.in_ok-pairs-15.pairs c.in_ok-pairs.ensures c.in_ok-pairs-2.ensures c.in_ok-pairs-3.ensures c.in_ok-pairs-4.ensures kinds last
+    let last = c.in_ok-pairs-16.ensures
+    ∙ ap (after namings) (c.in_ok-pairs-15.ensures
+    ∙ ap (after page_steps) (c.in_ok-pairs-14.ensures
+    ∙ ap (after volume_steps) (c.in_ok-pairs-13.ensures
+    ∙ ap (λ p. taken p date_step) (c.in_ok-pairs-12.ensures
+    ∙ ap (λ p. taken p isbn_step) (c.in_ok-pairs-11.ensures
+    ∙ ap (λ p. taken p eissn_step) (c.in_ok-pairs-10.ensures ∙ ap (λ p. taken p issn_step) c.in_ok-pairs-9.ensures)))))) in
+    in_order c.args.pairs c.in_ok-pairs.pairs c.in_ok-pairs-2.pairs c.in_ok-pairs-3.pairs c.in_ok-pairs-4.pairs c.in_ok-pairs-7.pairs c.in_ok-pairs-8.pairs
+    c.in_ok-pairs-16.pairs c.in_ok-pairs.ensures c.in_ok-pairs-2.ensures c.in_ok-pairs-3.ensures c.in_ok-pairs-4.ensures kinds
+    c.in_ok-pairs-8.ensures last
 
 is_err : {T : Type 0} {E : Type 0} (result : Result T E) (made : E) (P : T → Type 0) → IsErrAnd result (λ e. e ≡ made) → IfOk result P
 is_err (Err e) made P h = tt
