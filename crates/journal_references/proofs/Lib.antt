@@ -1,0 +1,9 @@
+pub mod Letters
+pub mod Steps
+pub mod Beginnings
+pub mod Kept
+pub mod Found
+pub mod Names
+pub mod ReferenceLaws
+pub mod WrittenParts
+pub mod WrittenPlaces
