@@ -1,5 +1,5 @@
 -- What a query of a source has once it is UTF-8.
-use Rattle.std.proofs.Common.{◌≡◌, true, false, cond, ◌&&◌, List, [], ◌∷◌, map, length, refl, sym, ap, ◌∙◌}
+use Rattle.std.proofs.Common.{◌≡◌, true, false, cond, ◌&&◌, List, [], ◌∷◌, map, length, refl, sym, ap, subst, ◌∙◌}
 use Rattle.std.specs.List.{All, list_all}
 use Rattle.std.specs.Str.{IsUtf8, is_utf8, chars}
 use Rattle.std.specs.Str.Lossy.{utf8_lossy}
@@ -177,3 +177,16 @@ source_number texts query =
     (λ e. raw_parsed y
     ∙ ap length (form_parsed (pairs_in (declared_in x) x) (utf8_pairs texts (declared_in x) (form.raw_pairs x)))
     ∙ length-map (form.raw_pairs x) (pair_in (declared_in x)))
+
+-- ---- a form that is read back
+
+both_bytes : (pair : Text × Text) → IsUtf8 pair.0 × IsUtf8 pair.1 → IsBytePair pair
+both_bytes pair is = (utf8_bytes pair.0 is.0, utf8_bytes pair.1 is.1)
+
+pub read_back : (pairs : List (Text × Text)) → All (λ pair. IsUtf8 pair.0 × IsUtf8 pair.1) pairs
+    → pairs_of (form.extend_pairs [] pairs) ≡ map key_value pairs
+read_back pairs all =
+    let P : Text × Text → Type 0 = λ pair. IsUtf8 pair.0 × IsUtf8 pair.1 in
+    let text : Text = form.extend_pairs [] pairs in
+    let parsed : form.parse text ≡ pairs = round_trip pairs (All-weaker P IsBytePair both_bytes pairs all) in
+    read_raw (form.raw_pairs text) (subst (All P) (sym parsed) all) ∙ ap (map key_value) parsed

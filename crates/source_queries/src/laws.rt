@@ -64,3 +64,9 @@ pub fn source_queries_are_bounded()
     texts_are_bounded();
     repairs_are_bounded();
 }
+
+/// A form of texts in UTF-8 is read back as these texts (URL Standard, sections 5.1 and 5.2).
+pub fn forms_are_read_back()
+    ensures { (pairs : List (Text × Text)) → All (λ pair. IsUtf8 pair.0 × IsUtf8 pair.1) pairs
+        → pairs_of (form.extend_pairs [] pairs) ≡ map key_value pairs }
+{}
