@@ -1,0 +1,50 @@
+//! A link for a query.
+
+ghost use Rattle.std.specs.Prelude.{◌≡◌};
+ghost use Rattle.source_menus.specs.Found as spec;
+
+use crate::parts::target_of;
+pub use menu::Text;
+use std::marker::Model;
+
+/// A link of a target.
+#[derive(Drop)]
+pub struct FoundLink<'a> {
+    /// The name of the part of the target that gave the link, as the registry has it.
+    pub name: &'a str,
+    /// The row of the part's table, counted from 0.
+    pub row: usize,
+    /// The link, an address of the web.
+    pub link: Text,
+    /// Whether the query's own request gave it; else the request for targets that answer every request did.
+    pub is_own: bool,
+}
+
+impl<'a> Model for FoundLink<'a> {
+    ghost use Rattle.source_menus.specs.Found.{FoundLink};
+
+    ghost Value = { FoundLink };
+
+    ghost view = { λ found. record {
+      name = found.name.now;
+      row = found.row;
+      link = found.link;
+      is_own = found.is_own;
+    } };
+}
+
+impl FoundLink<'_> {
+    /// The target.
+    pub fn target(&self) -> &str
+        ensures { result.now ≡ spec.target self.now }
+    {
+        target_of(self.name)
+    }
+
+    /// Whether it is a link of this target.
+    pub(crate) fn is_of(&self, target: &str) -> bool
+        ensures { result ≡ spec.is_of target.now self.now }
+    {
+        self.target() == target
+    }
+}
