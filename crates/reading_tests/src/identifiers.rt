@@ -2,7 +2,7 @@
 
 use std::alloc::{AllocError, Global};
 use std::test::Fail;
-use work_identifiers::{Namespace, identifier_alone, identifier_in};
+use work_identifiers::{Namespace, doi_in_address, identifier_alone, identifier_in, uri_of};
 
 /// Whether the identifier in a text is this; none is empty.
 fn has(
@@ -119,11 +119,210 @@ const OCLC: [(&str, &str); 13] = [
     ("info:lccn/123", ""),
 ];
 
+/// 7654321 and the others are made up.
+const PMC: [(&str, &str); 26] = [
+    ("PMC7654321", "7654321"),
+    ("pmc7654321", "7654321"),
+    ("PMC 7654321", "7654321"),
+    ("PMC7654321.1", "7654321"),
+    ("PMC7654321.1.", "7654321"),
+    ("pmcid:PMC7654321", "7654321"),
+    ("PMCID: 7654321", "7654321"),
+    ("PMCID: PMC7654321", "7654321"),
+    ("pmc:7654321", "7654321"),
+    ("info:pmcid/PMC123", "123"),
+    ("info:pmcid/123", "123"),
+    ("info:pmc/PMC123", "123"),
+    (
+        "https://pmc.ncbi.nlm.nih.gov/articles/PMC7654321/",
+        "7654321",
+    ),
+    (
+        "https://www.ncbi.nlm.nih.gov/pmc/articles/PMC7654321/pdf/x.pdf",
+        "7654321",
+    ),
+    ("//ncbi.nlm.nih.gov/pmc/articles/pmc7654321?x=y", "7654321"),
+    ("https://europepmc.org/article/PMC/PMC7654321", "7654321"),
+    (
+        "http://www.europepmc.org/articles/PMC7654321#id1",
+        "7654321",
+    ),
+    ("(PMC7654321)", "7654321"),
+    ("PMC123456789", "123456789"),
+    ("PMC1234567890", ""),
+    ("PMC7654321.1234", ""),
+    ("PMC7654321a", ""),
+    ("7654321", ""),
+    ("pmid:7654321", ""),
+    ("https://europepmc.org/article/MED/7654321", ""),
+    ("info:doi/10.5555/PMC7654321", ""),
+];
+
+/// arXiv's own help pages have the forms `2101.00001` and `math.GT/0309136`.
+const ARXIV: [(&str, &str); 37] = [
+    ("arXiv:2101.00001", "2101.00001"),
+    ("arXiv:2101.00001v2", "2101.00001"),
+    ("arXiv:0704.0001", "0704.0001"),
+    ("arXiv:2101.00001v1 [cs.LG] 3 Jan 2021", "2101.00001"),
+    ("arXiv 2101.00001", "2101.00001"),
+    ("ARXIV: 2101.00001.", "2101.00001"),
+    ("info:arxiv/2101.00001", "2101.00001"),
+    ("oai:arXiv.org:2101.00001", "2101.00001"),
+    ("arXiv:hep-th/9901001", "hep-th/9901001"),
+    ("arXiv:hep-th/9901001v3", "hep-th/9901001"),
+    ("arXiv:math.GT/0309136", "math.GT/0309136"),
+    ("info:arxiv/cond-mat/9901001", "cond-mat/9901001"),
+    ("oai:arXiv.org:solv-int/9901001", "solv-int/9901001"),
+    ("https://arxiv.org/abs/2101.00001", "2101.00001"),
+    ("http://arxiv.org/abs/2101.00001v4", "2101.00001"),
+    ("https://arxiv.org/pdf/2101.00001v4.pdf", "2101.00001"),
+    ("https://arxiv.org/pdf/2101.00001.pdf", "2101.00001"),
+    ("https://arxiv.org/html/2101.00001v1", "2101.00001"),
+    ("https://arxiv.org/abs/2101.00001?context=cs", "2101.00001"),
+    (
+        "https://www.arxiv.org/abs/math.GT/0309136",
+        "math.GT/0309136",
+    ),
+    (
+        "https://export.arxiv.org/abs/hep-th/9901001",
+        "hep-th/9901001",
+    ),
+    ("arxiv.org/pdf/hep-th/9901001v1", "hep-th/9901001"),
+    ("info:doi/10.48550/arXiv.2101.00001", "2101.00001"),
+    ("https://doi.org/10.48550/arXiv.2101.00001", "2101.00001"),
+    ("10.48550/ARXIV.MATH/0309136", "MATH/0309136"),
+    ("arXiv:2101.0001", "2101.0001"),
+    ("arXiv:2101.001", ""),
+    ("arXiv:2101.000001", ""),
+    ("arXiv:21010.0001", ""),
+    ("arXiv:hep-th/990100", ""),
+    ("arXiv:hep-th/99010011", ""),
+    ("arXiv:math.GTX/0309136", ""),
+    ("arXiv:m/0309136", ""),
+    ("2101.00001", ""),
+    ("hep-th/9901001", ""),
+    ("https://arxiv.org/list/2101.00001", ""),
+    ("10.5555/arXiv.2101.00001", ""),
+];
+
 #[test]
 fn identifiers_are_found(rt: HostRuntime) -> Result<(), Fail> {
     assert_eq!(rt; first_other(rt.alloc(), Namespace::Doi, &DOIS)?, None);
     assert_eq!(rt; first_other(rt.alloc(), Namespace::Pmid, &PUBMED)?, None);
     assert_eq!(rt; first_other(rt.alloc(), Namespace::Oclc, &OCLC)?, None);
+    assert_eq!(rt; first_other(rt.alloc(), Namespace::Pmc, &PMC)?, None);
+    assert_eq!(rt; first_other(rt.alloc(), Namespace::Arxiv, &ARXIV)?, None);
+    Ok(())
+}
+
+/// Whether the URI of an identifier is this.
+fn has_uri(
+    alloc: Global,
+    namespace: Namespace,
+    text: &str,
+    expected: &str,
+) -> Result<bool, AllocError> {
+    match identifier_alone(namespace, text.as_bytes()) {
+        Some(identifier) => Ok(uri_of(alloc, namespace, identifier)?.as_str() == expected),
+        None => Ok(false),
+    }
+}
+
+/// The identifiers of arXiv, and the URIs of their DOIs.
+const PREPRINTS: [(&str, &str); 4] = [
+    ("2101.00001", "info:doi/10.48550/arXiv.2101.00001"),
+    ("hep-th/9901001", "info:doi/10.48550/arXiv.hep-th/9901001"),
+    ("math.GT/0309136", "info:doi/10.48550/arXiv.math/0309136"),
+    ("HEP-TH/9901001", "info:doi/10.48550/arXiv.hep-th/9901001"),
+];
+
+#[test]
+fn preprints_have_the_uris_of_their_dois(rt: HostRuntime) -> Result<(), Fail> {
+    for (text, expected) in &PREPRINTS {
+        assert!(rt; has_uri(rt.alloc(), Namespace::Arxiv, text, expected)?);
+    }
+    Ok(())
+}
+
+#[test]
+fn each_identifier_has_its_uri(rt: HostRuntime) -> Result<(), Fail> {
+    let central = "https://pmc.ncbi.nlm.nih.gov/articles/PMC123/";
+    assert!(rt;
+        has_uri(
+            rt.alloc(),
+            Namespace::Doi,
+            "10.5555/ABC",
+            "info:doi/10.5555/ABC"
+        )?
+    );
+    assert!(rt; has_uri(rt.alloc(), Namespace::Pmid, "7", "info:pmid/7")?);
+    assert!(rt; has_uri(rt.alloc(), Namespace::Oclc, "00123", "info:oclcnum/00123")?);
+    assert!(rt; has_uri(rt.alloc(), Namespace::Pmc, "123", central)?);
+    Ok(())
+}
+
+/// The addresses have the forms of publishers' pages.
+const ADDRESSES: [(&str, &str); 30] = [
+    ("https://e.org/doi/10.5555/abc", "10.5555/abc"),
+    ("https://e.org/doi/full/10.5555/abc", "10.5555/abc"),
+    ("https://e.org/doi/10.5555/abc/full", "10.5555/abc"),
+    (
+        "https://e.org/doi/pdf/10.5555/abc?download=true",
+        "10.5555/abc",
+    ),
+    ("https://e.org/content/pdf/10.5555/abc.pdf", "10.5555/abc"),
+    (
+        "https://e.org/content/10.5555/abc.full.pdf+html",
+        "10.5555/abc",
+    ),
+    ("https://e.org/content/10.5555/abc/FULL-TEXT", "10.5555/abc"),
+    ("https://e.org/doi/10.5555/abc/abstract#x", "10.5555/abc"),
+    ("https://e.org/a?doi=10.5555/abc&x=y", "10.5555/abc"),
+    ("https://e.org/a?id=doi:10.5555/abc", "10.5555/abc"),
+    ("https://e.org/10.5555/abc.html", "10.5555/abc"),
+    ("https://e.org/10.5555/abc/pdf/name.pdf", "10.5555/abc"),
+    ("https://e.org/10.5555/abc.pdfs", "10.5555/abc.pdfs"),
+    ("https://e.org/10.5555/fullabc", "10.5555/fullabc"),
+    ("https://e.org/10.5555/a(b)c/suppl_file/x", "10.5555/a(b)c"),
+    ("https://e.org/10.100/x/10.5555/abc", "10.5555/abc"),
+    ("https://e.org/10.5555/a/10.5555/b", "10.5555/a/10.5555/b"),
+    ("https://e.org/10.5555/abc 10.5555/d", "10.5555/abc"),
+    ("https://e.org/10.5555/abc.", "10.5555/abc"),
+    ("https://e.org/10.5555/abc\"x", "10.5555/abc"),
+    (
+        "https://www.biorxiv.org/content/10.1101/2020.01.02.123456v2",
+        "10.1101/2020.01.02.123456",
+    ),
+    (
+        "https://www.biorxiv.org/content/10.1101/2020.01.02.123456v2.full.pdf",
+        "10.1101/2020.01.02.123456",
+    ),
+    (
+        "https://www.biorxiv.org/content/10.1101/123456",
+        "10.1101/123456",
+    ),
+    ("https://e.org/10.5555/2020v2", "10.5555/2020v2"),
+    ("https://e.org/10.5555/full", ""),
+    ("https://e.org/10.5555/", ""),
+    ("https://e.org/x10.5555/abc", ""),
+    ("10.5555/abc", ""),
+    ("https://e.org/10.5555%2Fabc", ""),
+    ("", ""),
+];
+
+/// The first address in which another DOI is found.
+fn first_other_address(cases: &[(&'static str, &'static str)]) -> Option<&'static str> {
+    for (address, expected) in cases {
+        if doi_in_address(address.as_bytes()).unwrap_or(b"") != expected.as_bytes() {
+            return Some(*address);
+        }
+    }
+    None
+}
+
+#[test]
+fn dois_in_addresses_are_found(rt: HostRuntime) -> Result<(), Fail> {
+    assert_eq!(rt; first_other_address(&ADDRESSES), None);
     Ok(())
 }
 

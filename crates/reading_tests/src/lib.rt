@@ -29,7 +29,11 @@ mod pages;
 #[cfg(test)]
 mod queries;
 #[cfg(test)]
+mod references;
+#[cfg(test)]
 mod request_pages;
+#[cfg(test)]
+mod request_texts;
 #[cfg(test)]
 mod request_volumes;
 #[cfg(test)]
@@ -44,3 +48,5 @@ mod titles;
 mod utf8;
 #[cfg(test)]
 mod works;
+#[cfg(test)]
+mod written;

@@ -107,7 +107,11 @@ const NUMBERS: [Case; 9] = [
         "info:oclcnum/123 http://www.worldcat.org/oclc/123 ",
         ["", "", "123"],
     ),
-    ("id=99990001&doi=99990001&pmcid=99990001", "", ["", "", ""]),
+    (
+        "id=99990001&doi=99990001&rft.doi=99990001",
+        "",
+        ["", "", ""],
+    ),
     ("rft_id=99990001", "99990001 ", ["", "", ""]),
     (
         "id=unknown&doi=n/a&pmid=7a&rft.doi=10.1000",
@@ -119,6 +123,125 @@ const NUMBERS: [Case; 9] = [
 #[test]
 fn numbers_of_pubmed_and_oclc_are_read(rt: HostRuntime) -> Result<(), Fail> {
     assert_eq!(rt; first_other(rt.alloc(), &NUMBERS)?, None);
+    Ok(())
+}
+
+const CENTRAL: [Case; 7] = [
+    (
+        "pmcid=123",
+        "https://pmc.ncbi.nlm.nih.gov/articles/PMC123/ ",
+        ["", "", ""],
+    ),
+    (
+        "rft.pmcid=PMC123.2",
+        "https://pmc.ncbi.nlm.nih.gov/articles/PMC123/ ",
+        ["", "", ""],
+    ),
+    (
+        "id=pmc:PMC123",
+        "https://pmc.ncbi.nlm.nih.gov/articles/PMC123/ ",
+        ["", "", ""],
+    ),
+    (
+        "rft_id=https://pmc.ncbi.nlm.nih.gov/articles/PMC123/",
+        "https://pmc.ncbi.nlm.nih.gov/articles/PMC123/ ",
+        ["", "", ""],
+    ),
+    (
+        "rft_id=https://www.ncbi.nlm.nih.gov/pmc/articles/PMC123",
+        "https://pmc.ncbi.nlm.nih.gov/articles/PMC123/ https://www.ncbi.nlm.nih.gov/pmc/articles/PMC123 ",
+        ["", "", ""],
+    ),
+    (
+        "pmcid=PMC123&pmid=7&doi=10.1000/182",
+        "info:doi/10.1000/182 info:pmid/7 https://pmc.ncbi.nlm.nih.gov/articles/PMC123/ ",
+        ["10.1000/182", "7", ""],
+    ),
+    (
+        "pmid=PMC123&id=123",
+        "https://pmc.ncbi.nlm.nih.gov/articles/PMC123/ ",
+        ["", "", ""],
+    ),
+];
+
+#[test]
+fn numbers_of_pubmed_central_are_read(rt: HostRuntime) -> Result<(), Fail> {
+    assert_eq!(rt; first_other(rt.alloc(), &CENTRAL)?, None);
+    Ok(())
+}
+
+const PREPRINTS: [Case; 6] = [
+    (
+        "id=arXiv:2101.00001v2",
+        "info:doi/10.48550/arXiv.2101.00001 ",
+        ["10.48550/arXiv.2101.00001", "", ""],
+    ),
+    (
+        "rft_id=info:arxiv/math.GT/0309136",
+        "info:doi/10.48550/arXiv.math/0309136 info:arxiv/math.GT/0309136 ",
+        ["10.48550/arXiv.math/0309136", "", ""],
+    ),
+    (
+        "id=arXiv:2101.00001&doi=10.1000/182",
+        "info:doi/10.1000/182 ",
+        ["10.1000/182", "", ""],
+    ),
+    (
+        "id=arXiv:2101.00001&url=https://e.org/doi/10.1000/182",
+        "info:doi/10.1000/182 ",
+        ["10.1000/182", "", ""],
+    ),
+    (
+        "rft_id=info:doi/10.48550/arXiv.2101.00001",
+        "info:doi/10.48550/arXiv.2101.00001 ",
+        ["10.48550/arXiv.2101.00001", "", ""],
+    ),
+    (
+        "pmid=7&id=arXiv:2101.00001",
+        "info:doi/10.48550/arXiv.2101.00001 info:pmid/7 ",
+        ["10.48550/arXiv.2101.00001", "7", ""],
+    ),
+];
+
+#[test]
+fn preprints_have_the_doi_of_arxiv(rt: HostRuntime) -> Result<(), Fail> {
+    assert_eq!(rt; first_other(rt.alloc(), &PREPRINTS)?, None);
+    Ok(())
+}
+
+const PAGES: [Case; 7] = [
+    (
+        "url=https://e.org/doi/full/10.1000/182?x=y",
+        "info:doi/10.1000/182 ",
+        ["10.1000/182", "", ""],
+    ),
+    (
+        "url=https://doi.org/10.1000/182",
+        "info:doi/10.1000/182 ",
+        ["10.1000/182", "", ""],
+    ),
+    (
+        "url=https://e.org/doi/10.1000/182&doi=10.1000/123456",
+        "info:doi/10.1000/123456 ",
+        ["10.1000/123456", "", ""],
+    ),
+    (
+        "url=https://pubmed.ncbi.nlm.nih.gov/8/&doi=10.1000/182",
+        "info:doi/10.1000/182 info:pmid/8 ",
+        ["10.1000/182", "8", ""],
+    ),
+    (
+        "url=https://arxiv.org/abs/2101.00001",
+        "info:doi/10.48550/arXiv.2101.00001 ",
+        ["10.48550/arXiv.2101.00001", "", ""],
+    ),
+    ("url=https://e.org/a/123", "", ["", "", ""]),
+    ("id=https://e.org/doi/10.1000/182", "", ["", "", ""]),
+];
+
+#[test]
+fn the_address_of_a_page_is_the_last_source(rt: HostRuntime) -> Result<(), Fail> {
+    assert_eq!(rt; first_other(rt.alloc(), &PAGES)?, None);
     Ok(())
 }
 
