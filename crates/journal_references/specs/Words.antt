@@ -8,7 +8,7 @@ use Rattle.text_model.specs.Texts.{Text}
 use Rattle.journal_references.specs.declared.words.Word.{Word}
 use Rattle.journal_references.specs.declared.words.Word.TheVariants.{OfVolume, OfIssue, OfPages}
 
--- the words before a volume, an issue, and pages or the number of an article
+-- the words and abbreviations that a source writes before a volume, before an issue, and before pages or the number of an article
 abbrev pub words : Word → List Text
 words OfVolume =
     codes "vol" ∷ codes "vols" ∷ codes "volume" ∷ codes "volumes" ∷ codes "v" ∷ codes "bd" ∷ codes "band" ∷ codes "jg" ∷

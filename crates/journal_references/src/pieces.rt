@@ -11,7 +11,7 @@ use uri_text::begins_in_any_case;
 /// How many bytes a number of a volume or an issue has at most.
 const MOST_BYTES_OF_NUMBER: usize = 9;
 
-/// How many bytes an issue in brackets has at most, and so many what is between a year and a volume.
+/// The most bytes of an issue in brackets, and of the month and the day between a year and a volume.
 const MOST_BYTES_INSIDE: usize = 20;
 
 /// How many bytes pages have at most.

@@ -17,7 +17,7 @@ pub(crate) enum Word {
 }
 
 impl Word {
-    /// The words, in English, German, French, Spanish, Portuguese and Italian.
+    /// The words for it and their abbreviations, in English, German, French, Spanish, Portuguese and Italian.
     fn words(self) -> &'static [&'static str]
         ensures { texts_of result.now ≡ spec.words self }
     {
