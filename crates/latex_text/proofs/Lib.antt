@@ -1,4 +1,5 @@
 pub mod PlaceSteps
+pub mod PlacesOf
 pub mod Frees
 pub mod Settled
 pub mod Characters

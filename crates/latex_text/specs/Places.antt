@@ -1,6 +1,6 @@
 -- Places in a text in LaTeX: what is before a byte decides what the byte means (LaTeX2e: An unofficial reference manual,
 -- sections "LaTeX command syntax" and "Math formulas").
-use Rattle.std.specs.Prelude.{ℕ, ◌==◌, ◌||◌, ◌&&◌, not, nat_lt, Bool, true, false, [], ◌∷◌, if◌then◌else◌}
+use Rattle.std.specs.Prelude.{ℕ, ◌==◌, ◌||◌, ◌&&◌, not, nat_lt, Bool, true, false, List, [], ◌∷◌, if◌then◌else◌}
 use Rattle.std.specs.Char.{is_ascii_alphabetic, is_ascii_alphanumeric}
 use Rattle.std.specs.List.{list_any}
 use Rattle.text_model.specs.Texts.{Text}
@@ -56,6 +56,11 @@ next Formula b = if b == dollar then Start else Formula
 abbrev pub place_after : Place → Text → Place
 place_after place [] = place
 place_after place (b ∷ t) = place_after (next place b) t
+
+-- the place of each byte of a text
+abbrev pub places : Place → Text → List Place
+places place [] = []
+places place (b ∷ t) = place ∷ places (next place b) t
 
 -- a command may begin here
 abbrev pub has_commands : Place → Bool

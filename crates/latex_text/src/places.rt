@@ -1,8 +1,10 @@
 //! Places in a text: what is before a byte decides what the byte means.
 
-ghost use Rattle.std.specs.Prelude.{◌≡◌};
+ghost use Rattle.std.specs.Prelude.{◌≡◌, IfOk};
 ghost use Rattle.latex_text.specs.Places as spec;
 ghost use Rattle.latex_text.specs.declared.places.Place.TheVariants.{Start};
+
+use std::alloc::{AllocError, Global};
 
 /// What is before a byte.
 #[derive(Clone, Copy)]
@@ -110,13 +112,15 @@ impl Place {
     }
 }
 
-/// The place after a text.
-pub(crate) fn place_after(text: &[u8]) -> Place
-    ensures { result ≡ spec.place_after Start text.now }
+/// The place of each byte of a text.
+pub(crate) fn places_in(alloc: Global, text: &[u8]) -> Result<Vec<Place>, AllocError>
+    ensures { IfOk result (λ places. places.items ≡ spec.places Start text.now) }
 {
+    let mut places = Vec::with_capacity(alloc, text.len())?;
     let mut place = Place::Start;
     for byte in text {
+        places.push(place)?;
         place = place.next(*byte);
     }
-    place
+    Ok(places)
 }

@@ -1,14 +1,15 @@
 //! Texts without the commands of LaTeX.
 
 ghost use Rattle.std.specs.Prelude.{◌≡◌, ◌++◌, ◌∷◌, [], IfOk, OnOk};
-ghost use Rattle.latex_text.specs.Places.{place_after};
+ghost use Rattle.latex_text.specs.Places.{has};
 ghost use Rattle.latex_text.specs.Texts as spec;
 ghost use Rattle.latex_text.specs.Commands as commands;
 ghost use Rattle.latex_text.specs.declared.places.Place.TheVariants.{Start};
 
 use crate::commands::{Command, command_of};
 use crate::groups::{closing_at, push_ungrouped};
-use crate::places::{Place, place_after};
+use crate::laws::plain_texts_stay;
+use crate::places::{Place, places_in};
 use std::alloc::{AllocError, Global};
 
 /// How many bytes a title has at most; a longer text stays.
@@ -65,10 +66,11 @@ fn put(alloc: Global, place: Place, byte: u8, mut rest: Vec<u8>) -> Result<Vec<u
 fn read(alloc: Global, text: &[u8]) -> Result<Vec<u8>, AllocError>
     ensures { IfOk result (λ read. read.items ≡ spec.read text.now) }
 {
+    let places = places_in(alloc, text)?;
     let mut read = Vec::with_capacity(alloc, text.len())?;
     let mut rest = text;
     while let [before @ .., byte] = rest {
-        read = put(alloc, place_after(before), *byte, read)?;
+        read = put(alloc, places[before.len()], *byte, read)?;
         rest = before;
     }
     Ok(read)
@@ -80,6 +82,12 @@ fn is_blank(text: &[u8]) -> bool
     text.iter().all(|byte| *byte <= b' ')
 }
 
+fn has(text: &[u8], mark: u8) -> bool
+    ensures { result ≡ has mark text.now }
+{
+    text.iter().any(|byte| *byte == mark)
+}
+
 /// The text without the commands of LaTeX, and with the letters that they denote; one that is longer than 2,000 bytes,
 /// or of which nothing would be left, as it is.
 ///
@@ -88,7 +96,8 @@ fn is_blank(text: &[u8]) -> bool
 pub fn without_latex(alloc: Global, text: &[u8]) -> Result<Vec<u8>, AllocError>
     ensures { IfOk result (λ text_read. text_read.items ≡ spec.without_latex text.now) }
 {
-    if text.len() <= MOST_BYTES {
+    plain_texts_stay();
+    if text.len() <= MOST_BYTES && (has(text, b'\\') || has(text, b'{')) {
         let read = read(alloc, text)?;
         if !is_blank(&read) {
             return Ok(read);
