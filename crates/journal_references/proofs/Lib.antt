@@ -7,3 +7,4 @@ pub mod Names
 pub mod ReferenceLaws
 pub mod WrittenParts
 pub mod WrittenPlaces
+pub mod Prefixes

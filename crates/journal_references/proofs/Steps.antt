@@ -1,13 +1,13 @@
 -- One form more, and one place more.
 use Rattle.std.proofs.Common.{◌≡◌, ℕ, suc, ◌+◌, ◌-◌, ◌<◌, ◌≤◌, List, false, cond, Option, Some, None, length, get_or, take, drop, sym, ap, ◌∙◌, arith}
 use Rattle.std.specs.Borrow.{Bor}
-use Rattle.std.specs.Option.{option_map}
+use Rattle.std.specs.Option.{option_and_then, option_map}
 use Rattle.std.proofs.lemmas.List.{at_drop_more}
 use Rattle.text_model.specs.Texts.{Text}
 use Rattle.journal_references.specs.declared.groups.Group.{Group}
 use Rattle.journal_references.specs.Pieces.{last}
-use Rattle.journal_references.specs.Parts.{Match, unread}
-use Rattle.journal_references.specs.Forms.{forms_of, match_groups, first_match}
+use Rattle.journal_references.specs.Parts.{Match, match_parts, unread}
+use Rattle.journal_references.specs.Forms.{forms_of, parts, match_groups, first_match}
 use Rattle.journal_references.specs.Forms as forms
 use Rattle.journal_references.specs.References.{Reference, reference_at, first_reference}
 use Rattle.journal_references.specs.References as references
@@ -70,3 +70,15 @@ place_last t n h = ap (first_reference t n) (none_left (length t) n h)
     none_left m n h = omega arith
 
 pub ruleset place_steps = (place_here, place_later, place_last)
+
+-- ---- groups
+
+pub group_more : (groups : List Group) (i : ℕ) (d : Group) (m n : Match) (all : Option Match) → i < length groups
+    → Some n ≡ match_parts (parts (get_or groups i d)) m → match_groups (drop i groups) m ≡ all → match_groups (drop (i + 1) groups) n ≡ all
+group_more groups i d m n all h e so_far =
+    ap (option_and_then (match_groups (drop (i + 1) groups))) e ∙ sym (at_drop_more (λ l. match_groups l m) groups i d h) ∙ so_far
+
+pub group_fails : (groups : List Group) (i : ℕ) (d : Group) (m : Match) (all : Option Match) → i < length groups
+    → None ≡ match_parts (parts (get_or groups i d)) m → match_groups (drop i groups) m ≡ all → None ≡ all
+group_fails groups i d m all h e so_far =
+    ap (option_and_then (match_groups (drop (i + 1) groups))) e ∙ sym (at_drop_more (λ l. match_groups l m) groups i d h) ∙ so_far

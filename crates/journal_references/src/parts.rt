@@ -35,7 +35,12 @@ fn spaces(text: &[u8]) -> usize
     ensures value { result ≡ spec.spaces text.now }
     ensures within { result ≤ length text.now }
 {
-    text.iter().take_while(|byte| is_space(**byte)).count()
+    for (at, byte) in text.iter().enumerate() {
+        if !is_space(*byte) {
+            return at;
+        }
+    }
+    text.len()
 }
 
 fn sign_length(sign: u8, text: &[u8]) -> Option<usize>
@@ -79,7 +84,12 @@ fn month_gap(text: &[u8]) -> usize
     ensures value { result ≡ prefix_len spec.is_month_gap text.now }
     ensures within { result ≤ length text.now }
 {
-    text.iter().take_while(|byte| is_month_gap(**byte)).count()
+    for (at, byte) in text.iter().enumerate() {
+        if !is_month_gap(*byte) {
+            return at;
+        }
+    }
+    text.len()
 }
 
 fn month_length(text: &[u8]) -> usize

@@ -84,13 +84,23 @@ fn is_closed(text: &[u8]) -> bool
 fn are_digits(text: &[u8]) -> bool
     ensures { result ≡ list_all is_ascii_digit text.now }
 {
-    text.iter().all(|byte| byte.is_ascii_digit())
+    for byte in text {
+        if !byte.is_ascii_digit() {
+            return false;
+        }
+    }
+    true
 }
 
 pub(crate) fn has_digit(text: &[u8]) -> bool
     ensures { result ≡ list_any is_ascii_digit text.now }
 {
-    text.iter().any(|byte| byte.is_ascii_digit())
+    for byte in text {
+        if byte.is_ascii_digit() {
+            return true;
+        }
+    }
+    false
 }
 
 fn count_of_digits(text: &[u8]) -> usize
@@ -168,13 +178,23 @@ fn is_roman_byte(byte: u8) -> bool
 fn are_roman(text: &[u8]) -> bool
     ensures { result ≡ list_all spec.is_roman_byte text.now }
 {
-    text.iter().all(|byte| is_roman_byte(*byte))
+    for byte in text {
+        if !is_roman_byte(*byte) {
+            return false;
+        }
+    }
+    true
 }
 
 fn has_hyphen(text: &[u8]) -> bool
     ensures { result ≡ list_any spec.is_hyphen text.now }
 {
-    text.iter().any(|byte| is_hyphen(*byte))
+    for byte in text {
+        if is_hyphen(*byte) {
+            return true;
+        }
+    }
+    false
 }
 
 /// Whether this is a range of pages in Roman numerals.
@@ -214,7 +234,12 @@ impl Piece {
         ensures value { result ≡ prefix_len (spec.is_byte self) text.now }
         ensures within { result ≤ length text.now }
     {
-        text.iter().take_while(|byte| self.is_byte(**byte)).count()
+        for (at, byte) in text.iter().enumerate() {
+            if !self.is_byte(*byte) {
+                return at;
+            }
+        }
+        text.len()
     }
 
     /// Whether the run passes the test.

@@ -92,7 +92,6 @@ fn place_at(text: &[u8], count: usize) -> Option<Place<'_>>
 }
 
 /// The first reference.
-#[tactic(auto, using(crate::proofs::Steps::place_steps))]
 pub(crate) fn first_place(text: &[u8]) -> Option<Place<'_>>
     ensures { option_map spec.place_of result ≡ spec.first_reference text.now 0 (length text.now) }
 {

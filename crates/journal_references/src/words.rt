@@ -60,7 +60,12 @@ fn is_same(word: &[u8], other: &str) -> bool
 fn is_one_of(words: &[&str], word: &[u8]) -> bool
     ensures { result ≡ spec.is_one_of (texts_of words.now) word.now }
 {
-    words.iter().any(|other| is_same(word, other))
+    for other in words {
+        if is_same(word, other) {
+            return true;
+        }
+    }
+    false
 }
 
 /// How many letters the text begins with.
@@ -68,9 +73,12 @@ pub(crate) fn letters(text: &[u8]) -> usize
     ensures value { result ≡ spec.letters text.now }
     ensures within { result ≤ length text.now }
 {
-    text.iter()
-        .take_while(|byte| byte.is_ascii_alphabetic())
-        .count()
+    for (at, byte) in text.iter().enumerate() {
+        if !byte.is_ascii_alphabetic() {
+            return at;
+        }
+    }
+    text.len()
 }
 
 /// A space, a full stop or a colon.
@@ -85,7 +93,12 @@ fn gap(text: &[u8]) -> usize
     ensures value { result ≡ spec.gap text.now }
     ensures within { result ≤ length text.now }
 {
-    text.iter().take_while(|byte| is_gap(**byte)).count()
+    for (at, byte) in text.iter().enumerate() {
+        if !is_gap(*byte) {
+            return at;
+        }
+    }
+    text.len()
 }
 
 /// Whether this is one letter, as in `v. 12`, but not `p`, as in `p45`.

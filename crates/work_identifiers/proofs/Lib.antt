@@ -8,4 +8,5 @@ pub mod FoundAgain
 pub mod Parts
 pub mod PreprintForms
 pub mod PreprintDois
+pub mod Prefixes
 pub mod Preprints

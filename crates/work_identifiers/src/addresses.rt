@@ -92,7 +92,12 @@ fn closed_length(text: &[u8]) -> usize
     ensures value { result ≡ prefix_len spec.is_no_closer text.now }
     ensures within { result ≤ length text.now }
 {
-    text.iter().take_while(|byte| is_no_closer(**byte)).count()
+    for (at, byte) in text.iter().enumerate() {
+        if !is_no_closer(*byte) {
+            return at;
+        }
+    }
+    text.len()
 }
 
 /// The text up to the first slash or full stop with a view after it.
@@ -147,7 +152,12 @@ fn word_length(text: &[u8]) -> usize
     ensures value { result ≡ prefix_len spec.is_in_word text.now }
     ensures within { result ≤ length text.now }
 {
-    text.iter().take_while(|byte| is_in_word(**byte)).count()
+    for (at, byte) in text.iter().enumerate() {
+        if !is_in_word(*byte) {
+            return at;
+        }
+    }
+    text.len()
 }
 
 /// What a page shows of an article, and the forms of its file.

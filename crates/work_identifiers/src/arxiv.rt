@@ -77,14 +77,24 @@ fn lead_length(text: &[u8]) -> usize
     ensures value { result ≡ spec.lead_length text.now }
     ensures within { result ≤ length text.now }
 {
-    text.iter().take_while(|byte| is_lead_byte(**byte)).count()
+    for (at, byte) in text.iter().enumerate() {
+        if !is_lead_byte(*byte) {
+            return at;
+        }
+    }
+    text.len()
 }
 
 fn name_length(lead: &[u8]) -> usize
     ensures value { result ≡ spec.name_length lead.now }
     ensures within { result ≤ length lead.now }
 {
-    lead.iter().take_while(|byte| is_name_byte(**byte)).count()
+    for (at, byte) in lead.iter().enumerate() {
+        if !is_name_byte(*byte) {
+            return at;
+        }
+    }
+    lead.len()
 }
 
 /// The archive, and the digits and full stops after it.
@@ -101,9 +111,12 @@ pub(crate) fn number_length(text: &[u8]) -> usize
     ensures value { result ≡ prefix_len spec.is_digit_or_stop text.now }
     ensures within { result ≤ length text.now }
 {
-    text.iter()
-        .take_while(|byte| is_digit_or_stop(**byte))
-        .count()
+    for (at, byte) in text.iter().enumerate() {
+        if !is_digit_or_stop(*byte) {
+            return at;
+        }
+    }
+    text.len()
 }
 
 /// The name of the archive, and what follows its subject class.

@@ -90,7 +90,12 @@ fn number_length(text: &[u8]) -> usize
     ensures value { result ≡ prefix_len spec.is_no_stop text.now }
     ensures within { result ≤ length text.now }
 {
-    text.iter().take_while(|byte| is_no_stop(**byte)).count()
+    for (at, byte) in text.iter().enumerate() {
+        if !is_no_stop(*byte) {
+            return at;
+        }
+    }
+    text.len()
 }
 
 /// A number without its version.

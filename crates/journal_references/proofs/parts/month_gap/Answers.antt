@@ -1,0 +1,12 @@
+use Rattle.std.proofs.Common.{sym, ◌∙◌}
+use Rattle.journal_references.specs.Parts.{is_month_gap}
+use Rattle.journal_references.proofs.Prefixes.{prefix_more, prefix_at}
+use Rattle.journal_references.proofs.parts.month_gap.Goals as goal
+
+pub returns-then-not-is_month_gap-clause-value : goal.returns-then-not-is_month_gap-clause-value
+returns-then-not-is_month_gap-clause-value c =
+    prefix_at is_month_gap c.args.text.now c.loop-at.at c.loop-at-test.true (sym c.is_month_gap.ensures ∙ c.if-not-is_month_gap.true) c.loop-at.invariant
+
+pub loop-at-preserved : goal.loop-at-preserved
+loop-at-preserved c =
+    prefix_more is_month_gap c.args.text.now c.loop-at.at c.loop-at-test.true (sym c.is_month_gap.ensures ∙ c.if-not-is_month_gap.false) c.loop-at.invariant
