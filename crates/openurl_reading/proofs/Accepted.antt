@@ -18,7 +18,6 @@ use Rattle.openurl_reading.specs.Identifiers.{nameable, naming, namings}
 use Rattle.work_identifiers.specs.Uris.{uri_of}
 use Rattle.openurl_reading.specs.Steps.{taken, after}
 use Rattle.openurl_reading.specs.Values.{led}
-use Rattle.openurl_reading.specs.Versions.{correction}
 use Rattle.openurl_reading.specs.OldKeys.{OldKey, old_keys, copies}
 use Rattle.openurl_reading.specs.declared.kinds.Kind.{Kind}
 use Rattle.openurl_reading.specs.declared.kinds.Kind.TheVariants.{Book, Dissertation, Journal}
@@ -26,6 +25,7 @@ use Rattle.openurl_reading.specs.Kinds.{kind_of}
 use Rattle.openurl_reading.specs.DublinCore.{core_steps}
 use Rattle.openurl_reading.specs.Titles.{title_key, of_title, titlings}
 use Rattle.openurl_reading.specs.Formats.{format_of, format_step}
+use Rattle.openurl_reading.specs.Citations.{citing_steps}
 use Rattle.openurl_reading.specs.Texts.{text_steps}
 use Rattle.openurl_reading.specs.Referrers.{namespace, referrer_of, referrer_step}
 use Rattle.openurl_reading.specs.Numbers.{first_issn, first_eissn, first_isbn, issn_step, eissn_step, isbn_step}
@@ -33,6 +33,7 @@ use Rattle.openurl_reading.specs.Dates.{date_keys, first_date, led_or_none, date
 use Rattle.openurl_reading.specs.Pages.{first_page, last_page, first_page_step, last_page_step, page_steps}
 use Rattle.openurl_reading.specs.Volumes.{added_issue, volume, issue, added_issue_step, volume_step, issue_step, volume_steps}
 use Rattle.openurl_reading.specs.Reading.{normal_form}
+use Rattle.openurl_reading.proofs.CitedParts.{citing_passes}
 use Rattle.openurl_reading.proofs.CoreCopied.{core_pass}
 use Rattle.openurl_reading.proofs.Each.{none_has, one_has, each_filled, each_led, each_named}
 use Rattle.openurl_reading.proofs.FieldsCopied.{fields_pass}
@@ -40,7 +41,7 @@ use Rattle.openurl_reading.proofs.FoundAre.{AreFound}
 use Rattle.openurl_reading.proofs.Identified.{AreIdentified, first_is, nameable_is, of_is}
 use Rattle.openurl_reading.proofs.IdentifierForms.{BeginsWithDigit, doi_begins, number_begins}
 use Rattle.openurl_reading.proofs.PagesFound.{AreFoundPages, IsNotBlank, first_page_is, last_page_is}
-use Rattle.openurl_reading.proofs.Passing.{AreAccepted, allows, Passes, not_blank, under_pass, step_passes, version_passes, copies_pass, old_keys_allow}
+use Rattle.openurl_reading.proofs.Passing.{AreAccepted, allows, Passes, not_blank, under_pass, step_passes, versions_pass, copies_pass, old_keys_allow}
 use Rattle.openurl_reading.proofs.Stages.{kind_steps, led_steps, with_versions, with_fields, normal_form-led}
 use Rattle.openurl_reading.proofs.TextsPass.{AreFilled, texts_pass}
 use Rattle.openurl_reading.proofs.Titled.{titlings-are}
@@ -213,16 +214,16 @@ led_pass identified found numbers pages pairs all =
 pub normal_form_passes : AreFilled → AreIdentified → AreFound BeginsWithDigit → AreFoundNumbers IsNotBlank → AreFoundPages IsNotBlank
     → (pairs : List KeyValue) → AreAccepted pairs → AreAccepted (normal_form pairs)
 normal_form_passes filled identified found numbers pages pairs all =
-    let first = taken pairs (correction (codes "ctx_ver")) in
     let fields = with_fields pairs in
     let copied = after copies fields in
     let core = after core_steps copied in
     subst AreAccepted (sym (normal_form-led pairs))
-    (led_pass identified found numbers pages (after text_steps (after kind_steps copied))
-    (texts_pass filled (after kind_steps copied)
+    (led_pass identified found numbers pages (after text_steps (after citing_steps (after kind_steps copied)))
+    (texts_pass filled (after citing_steps (after kind_steps copied))
+    (citing_passes (after kind_steps copied)
     (format_passes (after titlings core)
     (titlings_pass core
     (core_pass copied
     (copies_pass old_keys fields old_keys_allow
     (fields_pass (with_versions pairs)
-    (version_passes (codes "url_ver") first refl (version_passes (codes "ctx_ver") pairs refl all)))))))))
+    (versions_pass pairs all)))))))))

@@ -12,7 +12,7 @@ use Rattle.work_identifiers.specs.declared.namespace.Namespace.TheVariants.{Doi,
 use Rattle.openurl_reading.specs.Identifiers.{first_under}
 use Rattle.openurl_reading.specs.Numbers.{first_number, first_isbn}
 use Rattle.openurl_reading.specs.Dates.{date_under}
-use Rattle.openurl_reading.specs.Reading.{added, issns_of, second_issn, days_of, derived}
+use Rattle.openurl_reading.specs.Reading.{added, issns_of, second_issn, days_of, doi_encoded, derived}
 use Rattle.openurl_reading.proofs.Each.{none_has, one_has}
 use Rattle.openurl_reading.proofs.FoundAre.{IsAll}
 use Rattle.openurl_reading.proofs.Identified.{IsPlain}
@@ -31,20 +31,23 @@ additions pairs =
     ∷ record { key = codes "x.isbn"; value = first_isbn pairs }
     ∷ record { key = codes "x.from"; value = option_map (λ days. days.first) (days_of pairs) }
     ∷ record { key = codes "x.to"; value = option_map (λ days. days.last) (days_of pairs) }
+    ∷ record { key = codes "x.doi_encoded"; value = doi_encoded pairs }
     ∷ []
 
 abbrev pub pairs_added : List Addition → List KeyValue
 pairs_added list = flat_map (λ addition. added addition.key addition.value) list
 
-eight : (a b c d e f g h : List KeyValue) → a ++ b ++ c ++ d ++ e ++ f ++ g ++ h ≡ a ++ (b ++ (c ++ (d ++ (e ++ (f ++ (g ++ (h ++ [])))))))
-eight a b c d e f g h = simp (append_assoc, append-nil)
+nine : (a b c d e f g h i : List KeyValue)
+    → a ++ b ++ c ++ d ++ e ++ f ++ g ++ h ++ i ≡ a ++ (b ++ (c ++ (d ++ (e ++ (f ++ (g ++ (h ++ (i ++ []))))))))
+nine a b c d e f g h i = simp (append_assoc, append-nil)
 
 pub derived-is : (pairs : List KeyValue) → derived pairs ≡ pairs_added (additions pairs)
 derived-is pairs =
-    eight (added (codes "x.doi") (first_under Doi pairs (codes "rft_id"))) (added (codes "x.pmid") (first_under Pmid pairs (codes "rft_id")))
+    nine (added (codes "x.doi") (first_under Doi pairs (codes "rft_id"))) (added (codes "x.pmid") (first_under Pmid pairs (codes "rft_id")))
     (added (codes "x.oclc") (first_under Oclc pairs (codes "rft_id"))) (added (codes "x.issn") (first_number (issns_of pairs)))
     (added (codes "x.eissn") (second_issn pairs)) (added (codes "x.isbn") (first_isbn pairs))
     (added (codes "x.from") (option_map (λ days. days.first) (days_of pairs))) (added (codes "x.to") (option_map (λ days. days.last) (days_of pairs)))
+    (added (codes "x.doi_encoded") (doi_encoded pairs))
 
 -- what holds of each value that is added
 abbrev pub IsEach : (KeyValue → Type 0) → Addition → Type 0
@@ -77,11 +80,13 @@ day_is P (Some date) day h n e = let same : day (first_and_last date) ≡ n = cc
 pub derived_values : (P : Text → Type 0) (pairs : List KeyValue)
     → ((namespace : Namespace) → IsPlain namespace → IsAll P (first_under namespace pairs (codes "rft_id")))
     → IsAll P (first_number (issns_of pairs)) → IsAll P (second_issn pairs) → IsAll P (first_isbn pairs) → AreDaysAll P pairs
+    → IsAll P (doi_encoded pairs)
     → All (λ pair. P pair.value) (derived pairs)
-derived_values P pairs identifiers issn eissn isbn days =
+derived_values P pairs identifiers issn eissn isbn days encoded =
     let Q : KeyValue → Type 0 = λ pair. P pair.value in
     let date = date_under pairs (codes "rft.date") in
     All-append Q _ _
+    (All-append Q _ _
     (All-append Q _ _
     (All-append Q _ _
     (All-append Q _ _
@@ -95,4 +100,5 @@ derived_values P pairs identifiers issn eissn isbn days =
     (each_added Q (codes "x.isbn") (first_isbn pairs) isbn))
     (each_added Q (codes "x.from") (option_map (λ days. days.first) (days_of pairs))
     (day_is P date (λ days. days.first) (λ d e. (days d e).0))))
-    (each_added Q (codes "x.to") (option_map (λ days. days.last) (days_of pairs)) (day_is P date (λ days. days.last) (λ d e. (days d e).1)))
+    (each_added Q (codes "x.to") (option_map (λ days. days.last) (days_of pairs)) (day_is P date (λ days. days.last) (λ d e. (days d e).1))))
+    (each_added Q (codes "x.doi_encoded") (doi_encoded pairs) encoded)

@@ -6,6 +6,7 @@ use Rattle.std.proofs.lemmas.List.Elements.{filter-append}
 use Rattle.std.proofs.lemmas.List.Sums.{AllPass-from_list_all}
 use Rattle.kev_read.specs.Pairs.{KeyValue}
 use Rattle.openurl_reading.specs.Counting.{is_free, is_void, accepted, is_accepted, counting, most_pairs}
+use Rattle.openurl_reading.specs.Retractions.{is_retracted}
 use Rattle.openurl_reading.specs.Reading.{normal_form, derived, with_derived, reading_of}
 use Rattle.openurl_reading.proofs.Accepted.{normal_form_passes}
 use Rattle.openurl_reading.proofs.Additions.{additions, all_derived}
@@ -34,7 +35,8 @@ pub reading_again : AreFilled → AreIdentified → ((pairs : List KeyValue) →
     → AreFoundNumbers IsNotBlank → AreFoundPages IsNotBlank
     → (pairs : List KeyValue)
     → length (normal_form (counting pairs)) ≤ most_pairs
-    → reading_of (reading_of pairs).pairs ≡ record { pairs = (reading_of pairs).pairs; left_out = 0 }
+    → reading_of (reading_of pairs).pairs
+    ≡ record { pairs = (reading_of pairs).pairs; left_out = 0; is_retracted = is_retracted (normal_form (counting pairs)) }
 reading_again filled identified once found numbers pages pairs few =
     let normal = normal_form (counting pairs) in
     let same = accepted_again normal (normal_form_passes filled identified found numbers pages (counting pairs) (counting_pass pairs)) in
@@ -42,4 +44,5 @@ reading_again filled identified once found numbers pages pairs few =
     let read : with_derived (normal_form (counting (with_derived normal))) ≡ with_derived normal =
     ap (λ list. with_derived (normal_form list)) counted ∙ ap with_derived (once (counting pairs)) in
     let none : length (accepted (with_derived normal)) - most_pairs ≡ 0 = ap (λ list. length list - most_pairs) same ∙ omega (arith, few) in
-    λ i. record { pairs = read i; left_out = none i }
+    let noted : is_retracted (counting (with_derived normal)) ≡ is_retracted normal = ap is_retracted counted in
+    λ i. record { pairs = read i; left_out = none i; is_retracted = noted i }

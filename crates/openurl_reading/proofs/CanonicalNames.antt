@@ -1,5 +1,5 @@
 -- The identifiers of a request that is OpenURL 1.0 are named already.
-use Rattle.std.proofs.Common.{◌≡◌, List, [], ◌∷◌, true, cond, ◌||◌, Option, Some, None, refl, sym, ap, ◌∙◌, get_or}
+use Rattle.std.proofs.Common.{◌≡◌, List, [], ◌∷◌, true, cond, ◌||◌, Option, Some, None, refl, sym, ap, ◌∙◌, subst, inl, inr, get_or}
 use Rattle.std.specs.Prelude.{◌≢◌, codes}
 use Rattle.std.specs.List.{All}
 use Rattle.std.specs.Option.{option_or, is_some}
@@ -15,6 +15,7 @@ use Rattle.openurl_reading.specs.Counting.{is_one_of}
 use Rattle.openurl_reading.specs.Steps.{unchanged}
 use Rattle.openurl_reading.specs.Identifiers.{identifier_of, source_keys, first_under, first_identifier, named}
 use Rattle.openurl_reading.specs.Canonical.{IsReferentUri, registered_uri, other_uri, HasNoIdentifier, Under}
+use Rattle.openurl_reading.proofs.Apart.{same_or_apart, apart}
 use Rattle.openurl_reading.proofs.FoundAre.{IsAll}
 use Rattle.openurl_reading.proofs.Identified.{first_found, found-cons, found_none}
 use Rattle.openurl_reading.proofs.Identified.{IsPlain, AreIdentified, referent-none, uri_has_none, preprint_has, some_same, none_given}
@@ -36,32 +37,26 @@ none_same : AreIdentified → (namespace other : Namespace) → registered names
 none_same laws namespace other apart n m h =
     absurd (none_given (identifier_of namespace (codes "rft_id") (uri_of other m)) n (uri_has_none laws other namespace m apart) h)
 
+own_or_doi : AreIdentified → (other : Namespace) (n m : Text) → IsIdentifier other m
+    → identifier_of (registered other) (codes "rft_id") (uri_of other m) ≡ Some n → uri_of other m ≡ uri_of (registered other) n
+own_or_doi laws Doi n m is h = own_same laws Doi refl n m is h
+own_or_doi laws Pmid n m is h = own_same laws Pmid refl n m is h
+own_or_doi laws Oclc n m is h = own_same laws Oclc refl n m is h
+own_or_doi laws Pmc n m is h = own_same laws Pmc refl n m is h
+own_or_doi laws Arxiv n m is h =
+    laws.preprint_uri m
+    ∙ ap (uri_of Doi) (some_same (identifier_of Doi (codes "rft_id") (uri_of Arxiv m)) (arxiv_doi m) n (preprint_has laws m is) h)
+
 -- the identifier in a URI has that URI
 uri_same : AreIdentified → (namespace other : Namespace) → IsPlain namespace → (n m : Text) → IsIdentifier other m
     → identifier_of namespace (codes "rft_id") (uri_of other m) ≡ Some n → uri_of other m ≡ uri_of namespace n
-uri_same laws Arxiv other plain n m is h = cc
-uri_same laws Doi Doi plain n m is h = own_same laws Doi plain n m is h
-uri_same laws Doi Pmid plain n m is h = none_same laws Doi Pmid (λ e. cc) n m h
-uri_same laws Doi Oclc plain n m is h = none_same laws Doi Oclc (λ e. cc) n m h
-uri_same laws Doi Pmc plain n m is h = none_same laws Doi Pmc (λ e. cc) n m h
-uri_same laws Doi Arxiv plain n m is h =
-    laws.preprint_uri m
-    ∙ ap (uri_of Doi) (some_same (identifier_of Doi (codes "rft_id") (uri_of Arxiv m)) (arxiv_doi m) n (preprint_has laws m is) h)
-uri_same laws Pmid Doi plain n m is h = none_same laws Pmid Doi (λ e. cc) n m h
-uri_same laws Pmid Pmid plain n m is h = own_same laws Pmid plain n m is h
-uri_same laws Pmid Oclc plain n m is h = none_same laws Pmid Oclc (λ e. cc) n m h
-uri_same laws Pmid Pmc plain n m is h = none_same laws Pmid Pmc (λ e. cc) n m h
-uri_same laws Pmid Arxiv plain n m is h = none_same laws Pmid Arxiv (λ e. cc) n m h
-uri_same laws Oclc Doi plain n m is h = none_same laws Oclc Doi (λ e. cc) n m h
-uri_same laws Oclc Pmid plain n m is h = none_same laws Oclc Pmid (λ e. cc) n m h
-uri_same laws Oclc Oclc plain n m is h = own_same laws Oclc plain n m is h
-uri_same laws Oclc Pmc plain n m is h = none_same laws Oclc Pmc (λ e. cc) n m h
-uri_same laws Oclc Arxiv plain n m is h = none_same laws Oclc Arxiv (λ e. cc) n m h
-uri_same laws Pmc Doi plain n m is h = none_same laws Pmc Doi (λ e. cc) n m h
-uri_same laws Pmc Pmid plain n m is h = none_same laws Pmc Pmid (λ e. cc) n m h
-uri_same laws Pmc Oclc plain n m is h = none_same laws Pmc Oclc (λ e. cc) n m h
-uri_same laws Pmc Pmc plain n m is h = own_same laws Pmc plain n m is h
-uri_same laws Pmc Arxiv plain n m is h = none_same laws Pmc Arxiv (λ e. cc) n m h
+uri_same laws namespace other plain n m is h =
+    elim (same_or_apart (registered namespace) (registered other)) [
+      | inl e ↦
+          subst (λ k. identifier_of k (codes "rft_id") (uri_of other m) ≡ Some n → uri_of other m ≡ uri_of k n) (sym e ∙ plain)
+          (own_or_doi laws other n m is) h
+      | inr other_uris ↦ none_same laws namespace other other_uris n m h
+    ]
 
 referent_known : AreIdentified → (namespace : Namespace) → IsPlain namespace → (v n : Text) → IsReferentUri v
     → identifier_of namespace (codes "rft_id") v ≡ Some n → bytes_eq v (uri_of namespace n) ≡ true
@@ -110,9 +105,9 @@ no_preprint laws _ (registered_uri Doi m is) h =
     absurd (none_given (identifier_of Doi (codes "rft_id") (uri_of Doi m)) m h (plain_has laws Doi refl m is))
 no_preprint laws _ (registered_uri Arxiv m is) h =
     absurd (none_given (identifier_of Doi (codes "rft_id") (uri_of Arxiv m)) (arxiv_doi m) h (preprint_has laws m is))
-no_preprint laws _ (registered_uri Pmid m is) h = uri_has_none laws Pmid Arxiv m (λ e. cc)
-no_preprint laws _ (registered_uri Oclc m is) h = uri_has_none laws Oclc Arxiv m (λ e. cc)
-no_preprint laws _ (registered_uri Pmc m is) h = uri_has_none laws Pmc Arxiv m (λ e. cc)
+no_preprint laws _ (registered_uri Pmid m is) h = uri_has_none laws Pmid Arxiv m (apart Doi Pmid refl)
+no_preprint laws _ (registered_uri Oclc m is) h = uri_has_none laws Oclc Arxiv m (apart Doi Oclc refl)
+no_preprint laws _ (registered_uri Pmc m is) h = uri_has_none laws Pmc Arxiv m (apart Doi Pmc refl)
 no_preprint laws v (other_uri _ none) h = referent-none Arxiv v (none Arxiv)
 
 or_none : (a b : Option Text) → option_or a b ≡ None → (a ≡ None) × (b ≡ None)

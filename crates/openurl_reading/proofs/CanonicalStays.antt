@@ -1,17 +1,19 @@
 -- A request that is OpenURL 1.0 stays as it is.
-use Rattle.std.proofs.Common.{◌≡◌, List, [], ◌∷◌, ◌++◌, true, false, None, Some, Option, refl, ap, ◌∙◌, inl, inr, ◌⊎◌, get_or, take, drop, map, not}
+use Rattle.std.proofs.Common.{◌≡◌, List, [], ◌∷◌, ◌++◌, true, false, None, Some, Option, refl, ap, ◌∙◌, inl, inr, ◌⊎◌, get_or, take, drop, map, not, lit<}
 use Rattle.std.specs.Prelude.{codes, slice_get}
 use Rattle.std.specs.List.{All, flat_map}
+use Rattle.std.specs.Option.{option_and_then}
 use Rattle.std.proofs.lemmas.List.Elements.{All-append, All-head, All-tail, All-take}
 use Rattle.text_model.specs.Texts.{Text}
 use Rattle.kev_read.specs.Pairs.{KeyValue, all_of}
-use Rattle.kev_read.specs.Refusal.{is_other_version}
 use Rattle.standard_numbers.specs.Issn.{issns_in}
 use Rattle.standard_numbers.specs.Isbn.{isbns_in}
 use Rattle.publication_dates.specs.Dates.{date_in}
 use Rattle.work_identifiers.specs.declared.namespace.Namespace.{Namespace}
+use Rattle.journal_references.specs.References.{reference_in}
 use Rattle.written_texts.specs.declared.readings.Role.TheVariants.{Title, Other}
 use Rattle.openurl_reading.specs.Steps.{Step, unchanged, replacing}
+use Rattle.openurl_reading.specs.Versions.{version, encoding, is_other}
 use Rattle.openurl_reading.specs.Kinds.{has}
 use Rattle.openurl_reading.specs.DublinCore.{is_core, core_steps}
 use Rattle.openurl_reading.specs.Titles.{titlings}
@@ -23,8 +25,10 @@ use Rattle.openurl_reading.specs.Referrers.{referrer_of, referred}
 use Rattle.openurl_reading.specs.Numbers.{eissn_among, other_than}
 use Rattle.openurl_reading.specs.Dates.{led_or_none}
 use Rattle.openurl_reading.specs.ArticleNumbers.{article_in}
+use Rattle.openurl_reading.specs.Citations.{after_name, cited_in}
 use Rattle.openurl_reading.specs.Texts.{title_texts, other_texts}
-use Rattle.openurl_reading.specs.Canonical.{Lacks, Under, IsText, IsVersion, IsDesignation, IsPage, ArePagesApart}
+use Rattle.openurl_reading.specs.Canonical.{Lacks, Under, HasNoReference, IsText, IsVersion, IsEncoding, IsDesignation, IsPage, ArePagesApart}
+use Rattle.openurl_reading.proofs.CitingSteps.{uncited_stays}
 use Rattle.openurl_reading.proofs.Copied.{copying-none, both_unchanged}
 use Rattle.openurl_reading.proofs.CoreSettles.{not_core_stays}
 use Rattle.openurl_reading.proofs.DateLed.{date_among, rest_of, IsSettledAmong}
@@ -40,10 +44,10 @@ use Rattle.openurl_reading.proofs.TextsRead.{texts_stay}
 use Rattle.openurl_reading.proofs.Titled.{untitled-stays}
 use Rattle.openurl_reading.proofs.VolumesLed.{designations_settle}
 
--- versions
-version-known : (values : List Text) → All IsVersion values → is_other_version (slice_get values 0) ≡ false
-version-known [] all = refl
-version-known (v ∷ vs) all = rw (All-head IsVersion v vs all) refl
+-- versions and encoding
+stated-known : (value : Text) (values : List Text) → All (λ v. v ≡ value) values → is_other value (slice_get values 0) ≡ false
+stated-known value [] all = refl
+stated-known value (v ∷ vs) all = rw (All-head (λ v. v ≡ value) v vs all) (rw (bytes_eq-same value) refl)
 
 -- keys that nothing fills
 copies_settled : (keys : List OldKey) (pairs : List KeyValue) → All (λ key. Lacks pairs key.old) keys → All (λ key. copied key pairs ≡ unchanged) keys
@@ -74,6 +78,13 @@ referrer_settled : (pairs : List KeyValue) → Lacks pairs (codes "sid") → ref
 referrer_settled pairs none =
     let known = all_of pairs (codes "rfr_id") in
     ap (λ sids. filled (map referrer_of (take 1 sids)) known) none ∙ filled-none known
+
+-- titles in which no reference is
+no_citation : (values : List Text) → All (IsText Title) values → All HasNoReference values → option_and_then cited_in (slice_get values 0) ≡ None
+no_citation [] texts none = refl
+no_citation (v ∷ vs) texts none =
+    ap (λ text. option_and_then after_name (reference_in text)) (All-head (IsText Title) v vs texts)
+    ∙ ap (option_and_then after_name) (All-head HasNoReference v vs none)
 
 -- ---- numbers that are found as they are
 
@@ -138,6 +149,7 @@ date_settled values years dates old_years a b c all =
 pub record HasKept (pairs : List KeyValue) : Type 0 where
   pub context : Under pairs (codes "ctx_ver") IsVersion
   pub transport : Under pairs (codes "url_ver") IsVersion
+  pub encoding : Under pairs (codes "ctx_enc") IsEncoding
   pub no_old_keys : All (λ key. Lacks pairs key.old) old_keys
   pub no_number : Lacks pairs (codes "number")
   pub no_identifier : Lacks pairs (codes "identifier")
@@ -150,6 +162,7 @@ pub record HasKept (pairs : List KeyValue) : Type 0 where
   pub no_old_year : Lacks pairs (codes "year")
   pub no_eisbn : Lacks pairs (codes "rft.eisbn")
   pub titles : All (λ key. Under pairs key (IsText Title)) title_texts
+  pub journals : Under pairs (codes "rft.jtitle") HasNoReference
   pub other_texts : All (λ key. Under pairs key (IsText Other)) other_texts
   pub issns : Under pairs (codes "rft.issn") (IsKept issns_in)
   pub eissns : Under pairs (codes "rft.eissn") (IsKept issns_in)
@@ -168,11 +181,13 @@ kept_settled pairs kept =
     let eissns = all_of pairs (codes "rft.eissn") in
     let isbns = all_of pairs (codes "rft.isbn") in
     record {
-      context = version-known (all_of pairs (codes "ctx_ver")) kept.context;
-      transport = version-known (all_of pairs (codes "url_ver")) kept.transport;
+      context = stated-known version (all_of pairs (codes "ctx_ver")) kept.context;
+      transport = stated-known version (all_of pairs (codes "url_ver")) kept.transport;
+      encoding = stated-known encoding (all_of pairs (codes "ctx_enc")) kept.encoding;
       fields = fields_settled pairs kept.no_number kept.no_identifier;
       copies = copies_settled old_keys pairs kept.no_old_keys;
       kinds = kinds_settled pairs kept.no_core kept.no_title kept.format;
+      cited = uncited_stays pairs (no_citation (all_of pairs (codes "rft.jtitle")) (kept.titles 1 [] (lit< tt)) kept.journals);
       texts = texts_stay pairs kept.titles kept.other_texts;
       referrer = referrer_settled pairs kept.no_source;
       issn = ap (λ n. led n (slice_get issns 0)) (issn_leads issns kept.issns) ∙ led-same (slice_get issns 0);

@@ -9,6 +9,7 @@ use Rattle.text_model.specs.Texts.{Text}
 use Rattle.kev_read.specs.Pairs.{KeyValue, all_of}
 use Rattle.openurl_reading.specs.declared.kinds.Kind.{Kind}
 use Rattle.openurl_reading.specs.DublinCore.{is_core, creator, core_type, is_genre, is_typed, of_core_title}
+use Rattle.openurl_reading.specs.DublinCore.{is_journal, is_sourced, core_source}
 use Rattle.openurl_reading.specs.DublinCore.{is_in_journal, is_book, is_of_core_book, core_titles, core_steps}
 use Rattle.openurl_reading.specs.Formats.{format_step}
 use Rattle.openurl_reading.specs.Kinds.{has, kind_of}
@@ -16,6 +17,7 @@ use Rattle.openurl_reading.specs.OldKeys.{OldKey, copying}
 use Rattle.openurl_reading.specs.Steps.{Step, unchanged, taken, after}
 use Rattle.openurl_reading.specs.Values.{most_values}
 use Rattle.openurl_reading.specs.Titles.{titlings}
+use Rattle.openurl_reading.proofs.CitingSteps.{before_name}
 use Rattle.openurl_reading.proofs.Copied.{copying-none, copying-failed, copying-made, not_copied}
 use Rattle.openurl_reading.proofs.Copied.{copying_keeps, copying_settles, copying-filled, still_some}
 use Rattle.openurl_reading.proofs.Each.{one_has}
@@ -33,8 +35,11 @@ use Rattle.openurl_reading.proofs.CoreFalls.{core_falls, and-false, and_falls, I
 abbrev after_article : List Step
 after_article = copying is_of_core_book (of_core_title (codes "rft.btitle")) ∷ after_core
 
+abbrev after_source : List Step
+after_source = copying is_in_journal (of_core_title (codes "rft.atitle")) ∷ after_article
+
 abbrev after_type : List Step
-after_type = copying is_in_journal (of_core_title (codes "rft.atitle")) ∷ after_article
+after_type = copying is_sourced core_source ∷ after_source
 
 abbrev after_creator : List Step
 after_creator = copying is_typed core_type ∷ after_type
@@ -44,10 +49,13 @@ article_keeps key h =
     All-cons (KeepsKey key) (copying is_of_core_book (of_core_title (codes "rft.btitle"))) after_core
     (copying_keeps key is_of_core_book (of_core_title (codes "rft.btitle"))) (after_core_keep key h)
 
-type_keeps : (key : Text) → bytes_eq (codes "rft.date") key ≡ false → All (KeepsKey key) after_type
-type_keeps key h =
+source_keeps : (key : Text) → bytes_eq (codes "rft.date") key ≡ false → All (KeepsKey key) after_source
+source_keeps key h =
     All-cons (KeepsKey key) (copying is_in_journal (of_core_title (codes "rft.atitle"))) after_article
     (copying_keeps key is_in_journal (of_core_title (codes "rft.atitle"))) (article_keeps key h)
+
+type_keeps : (key : Text) → bytes_eq (codes "rft.date") key ≡ false → All (KeepsKey key) after_type
+type_keeps key h = All-cons (KeepsKey key) (copying is_sourced core_source) after_source (copying_keeps key is_sourced core_source) (source_keeps key h)
 
 creator_keeps : (key : Text) → bytes_eq (codes "rft.date") key ≡ false → All (KeepsKey key) after_creator
 creator_keeps key h = All-cons (KeepsKey key) (copying is_typed core_type) after_type (copying_keeps key is_typed core_type) (type_keeps key h)
@@ -64,9 +72,20 @@ type_settles before =
     let now = after after_type (taken before (copying is_typed core_type)) in
     copying_settles is_typed core_type before after_type refl (apart after_type (codes "rft.type") refl) (type_keeps (codes "rft.genre") refl)
     (λ fails. copying-failed is_typed core_type now
-    (and_falls (is_core before) (is_core now) _ _ (core_falls (copying is_typed core_type ∷ core_titles ++ titlings) before refl)
+    (and_falls (is_core before) (is_core now) _ _
+    (core_falls (copying is_typed core_type ∷ copying is_sourced core_source ∷ core_titles ++ titlings) before refl)
     (ap (λ values. option_map_or is_genre (slice_get values 0) false)
     (same_after (copying is_typed core_type ∷ after_type) before (codes "rft.type") refl)) fails))
+
+source_settles : (before : List KeyValue)
+    → (copying is_sourced core_source).change (after after_source (taken before (copying is_sourced core_source))) ≡ unchanged
+source_settles before =
+    let now = after after_source (taken before (copying is_sourced core_source)) in
+    copying_settles is_sourced core_source before after_source refl (apart after_source (codes "rft.source") refl) (source_keeps (codes "rft.jtitle") refl)
+    (λ fails. copying-failed is_sourced core_source now
+    (and_falls (is_core before) (is_core now) _ _ (core_falls (copying is_sourced core_source ∷ core_titles ++ titlings) before refl)
+    (ap (λ values. option_map_or is_journal (slice_get values 0) false)
+    (same_after (copying is_sourced core_source ∷ after_source) before (codes "rft.source") refl)) fails))
 
 -- ---- the titles
 
@@ -77,19 +96,21 @@ titles_keep : (key : Text) → bytes_eq (codes "rft.date") key ≡ false → All
 titles_keep key h = All-cons (KeepsKey key) format_step last_steps (format_keeps key) (last_keep key h)
 
 titles_some : (key : Text) (pairs : List KeyValue) → list_all (λ step. not (bytes_eq step.key key)) led_steps ≡ true
+    → list_all (λ step. not (bytes_eq step.key key)) before_name ≡ true
     → bytes_eq (codes "rft_val_fmt") key ≡ false → has_some (after after_titles pairs) key ≡ has_some pairs key
-titles_some key pairs h apart =
-    last_some key (taken pairs format_step) h ∙ ap (λ values. is_some (slice_get values 0)) (all_of-taken format_step pairs key apart)
+titles_some key pairs h g apart =
+    last_some key (taken pairs format_step) h g ∙ ap (λ values. is_some (slice_get values 0)) (all_of-taken format_step pairs key apart)
 
 titles_none : (key : Text) (pairs : List KeyValue) → list_all (λ step. not (bytes_eq step.key key)) led_steps ≡ true
+    → list_all (λ step. not (bytes_eq step.key key)) before_name ≡ true
     → bytes_eq (codes "rft_val_fmt") key ≡ false → all_of pairs key ≡ [] → all_of (after after_titles pairs) key ≡ []
-titles_none key pairs h apart none = last_none key (taken pairs format_step) h (all_of-taken format_step pairs key apart ∙ none)
+titles_none key pairs h g apart none = last_none key (taken pairs format_step) h g (all_of-taken format_step pairs key apart ∙ none)
 
 still_filled : (key : Text) (before now : List KeyValue) → bytes_eq (codes "rft.date") key ≡ false → now ≡ before → IsFilled (of_core_title key) before
     → IsFilled (of_core_title key) (after after_titles now)
 unfolding IsFilled
 still_filled key before now h same (inl none) =
-    inl (titles_none (codes "rft.title") now refl refl (ap (λ p. all_of p (codes "rft.title")) same ∙ none))
+    inl (titles_none (codes "rft.title") now refl refl refl (ap (λ p. all_of p (codes "rft.title")) same ∙ none))
 still_filled key before now h same (inr some) =
     inr (still_some key after_titles now (titles_keep key h) (subst (λ p. HasSome (all_of p key)) (sym same) some))
 
@@ -133,15 +154,15 @@ article_settles before = settles (title_apart next)
         copying-failed is_in_journal article now
         (and_falls (is_core before) (is_core now) (has before (codes "rft.jtitle")) (has now (codes "rft.jtitle"))
         (core_falls (core_titles ++ titlings) before refl)
-        (titles_some (codes "rft.jtitle") titled refl refl
+        (titles_some (codes "rft.jtitle") titled refl refl refl
         ∙ ap (λ values. is_some (slice_get values 0)) (ap (λ p. all_of p (codes "rft.jtitle")) same ∙ journals)) e)
 
     settles : IsTitleApart next titled → (copying is_in_journal article).change now ≡ unchanged
     settles (all_kept same) = by_test (is_in_journal before) refl same
-    settles (no_title none) = copying-none is_in_journal article now (titles_none (codes "rft.title") titled refl refl none)
+    settles (no_title none) = copying-none is_in_journal article now (titles_none (codes "rft.title") titled refl refl refl none)
     settles (of_dissertation same kind none) =
         copying-failed is_in_journal article now
-        (ap (λ values. is_core now && is_some (slice_get values 0)) (titles_none (codes "rft.jtitle") titled refl refl (same 6 [] (lit< tt) ∙ none))
+        (ap (λ values. is_core now && is_some (slice_get values 0)) (titles_none (codes "rft.jtitle") titled refl refl refl (same 6 [] (lit< tt) ∙ none))
         ∙ and-false (is_core now))
 
 book_settles : (before : List KeyValue) → let key = of_core_title (codes "rft.btitle") in
@@ -177,12 +198,12 @@ book_settles before = settles (title_apart next)
         copying-failed is_of_core_book book now
         (and_falls (is_core before) (is_core now) _ _ (core_falls (copying is_of_core_book book ∷ titlings) before refl)
         (same_test (has_some now (codes "rft.jtitle")) (has_some before (codes "rft.jtitle")) (kind_of now) (kind_of before)
-        (titles_some (codes "rft.jtitle") titled refl refl ∙ ap (λ p. has_some p (codes "rft.jtitle")) still)
+        (titles_some (codes "rft.jtitle") titled refl refl refl ∙ ap (λ p. has_some p (codes "rft.jtitle")) still)
         (kinds (subst (λ p. AreKindsSame p next) (sym same) (kinds_after [] next refl)) ∙ ap kind_of (not_copied is_of_core_book book before e))) e)
 
     settles : IsTitleApart next titled → (copying is_of_core_book book).change now ≡ unchanged
     settles (all_kept same) = by_test (is_of_core_book before) refl same
-    settles (no_title none) = copying-none is_of_core_book book now (titles_none (codes "rft.title") titled refl refl none)
+    settles (no_title none) = copying-none is_of_core_book book now (titles_none (codes "rft.title") titled refl refl refl none)
     settles (of_dissertation same kind none) =
         let known = is_core now in
         let free = not (has now (codes "rft.jtitle")) in
@@ -193,12 +214,14 @@ pub core_settles : (before : List KeyValue) → All (λ step. step.change (after
 core_settles before =
     let first = taken before (copying is_core creator) in
     let second = taken first (copying is_typed core_type) in
-    let third = taken second (copying is_in_journal (of_core_title (codes "rft.atitle"))) in
+    let sourced = taken second (copying is_sourced core_source) in
+    let third = taken sourced (copying is_in_journal (of_core_title (codes "rft.atitle"))) in
     let P : Step → Type 0 = λ step. step.change (after last_steps (after kind_steps before)) ≡ unchanged in
-    All-cons P (copying is_core creator) (copying is_typed core_type ∷ core_titles) (creator_settles before)
-    (All-cons P (copying is_typed core_type) core_titles (type_settles first)
+    All-cons P (copying is_core creator) (copying is_typed core_type ∷ copying is_sourced core_source ∷ core_titles) (creator_settles before)
+    (All-cons P (copying is_typed core_type) (copying is_sourced core_source ∷ core_titles) (type_settles first)
+    (All-cons P (copying is_sourced core_source) core_titles (source_settles second)
     (All-cons P (copying is_in_journal (of_core_title (codes "rft.atitle"))) (copying is_of_core_book (of_core_title (codes "rft.btitle")) ∷ [])
-    (article_settles second) (one_has P (copying is_of_core_book (of_core_title (codes "rft.btitle"))) (book_settles third))))
+    (article_settles sourced) (one_has P (copying is_of_core_book (of_core_title (codes "rft.btitle"))) (book_settles third)))))
 
 -- ---- a request that is not Dublin Core
 
@@ -207,10 +230,14 @@ not_core_stays pairs fails =
     let P : Step → Type 0 = λ step. step.change pairs ≡ unchanged in
     let article = of_core_title (codes "rft.atitle") in
     let book = of_core_title (codes "rft.btitle") in
-    All-cons P (copying is_core creator) (copying is_typed core_type ∷ core_titles) (copying-failed is_core creator pairs fails)
-    (All-cons P (copying is_typed core_type) core_titles
+    All-cons P (copying is_core creator) (copying is_typed core_type ∷ copying is_sourced core_source ∷ core_titles)
+    (copying-failed is_core creator pairs fails)
+    (All-cons P (copying is_typed core_type) (copying is_sourced core_source ∷ core_titles)
     (copying-failed is_typed core_type pairs (ap (λ b. b && option_map_or is_genre (slice_get (all_of pairs (codes "rft.type")) 0) false) fails))
+    (All-cons P (copying is_sourced core_source) core_titles
+    (copying-failed is_sourced core_source pairs
+    (ap (λ b. b && option_map_or is_journal (slice_get (all_of pairs (codes "rft.source")) 0) false) fails))
     (All-cons P (copying is_in_journal article) (copying is_of_core_book book ∷ [])
     (copying-failed is_in_journal article pairs (ap (λ b. b && has pairs (codes "rft.jtitle")) fails))
     (one_has P (copying is_of_core_book book)
-    (copying-failed is_of_core_book book pairs (ap (λ b. b && (not (has pairs (codes "rft.jtitle")) && is_book (kind_of pairs))) fails)))))
+    (copying-failed is_of_core_book book pairs (ap (λ b. b && (not (has pairs (codes "rft.jtitle")) && is_book (kind_of pairs))) fails))))))

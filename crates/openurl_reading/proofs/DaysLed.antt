@@ -55,9 +55,9 @@ found_sent P sent each copied is =
     → IsAll P (date_of_first (all_of (after steps copied) key)) =
     λ key other h. date_sent P sent each (all_of (after steps copied) key)
     (subst (All (Contains sent)) (sym (same_after steps copied key h)) (is key other)) in
-    or_is P _ _ (one (codes "rft.date") (refl, refl, refl, refl) refl)
-    (or_is P _ _ (one (codes "rft.year") (refl, refl, refl, refl) refl)
-    (or_is P _ _ (one (codes "date") (refl, refl, refl, refl) refl) (or_is P _ _ (one (codes "year") (refl, refl, refl, refl) refl) (none_is P))))
+    or_is P _ _ (one (codes "rft.date") (refl, refl) refl)
+    (or_is P _ _ (one (codes "rft.year") (refl, refl) refl)
+    (or_is P _ _ (one (codes "date") (refl, refl) refl) (or_is P _ _ (one (codes "year") (refl, refl) refl) (none_is P))))
 
 -- the date of a reading
 date_is_sent : AreFoundAgain → (P : Text → Type 0) (sent : List Text) → AreEach P sent → (copied : List KeyValue) → AreKept sent copied

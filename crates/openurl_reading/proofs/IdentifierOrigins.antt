@@ -1,5 +1,5 @@
 -- Each identifier that is found was read in one value of the request.
-use Rattle.std.proofs.Common.{◌≡◌, List, [], ◌∷◌, ◌++◌, cond, not, Some, refl, sym, subst, ap, ◌∙◌, get_or, lit<}
+use Rattle.std.proofs.Common.{◌≡◌, List, [], ◌∷◌, ◌++◌, cond, not, Some, refl, sym, subst, ap, ◌∙◌, inl, inr, get_or, lit<}
 use Rattle.std.specs.Prelude.{◌≢◌, codes, Contains}
 use Rattle.std.specs.List.{All, list_all}
 use Rattle.std.specs.Str.{bytes_eq}
@@ -9,9 +9,10 @@ use Rattle.std.proofs.lemmas.List.Elements.{All-append, All-cons, All-tail}
 use Rattle.text_model.specs.Texts.{Text}
 use Rattle.kev_read.specs.Pairs.{KeyValue, all_of}
 use Rattle.work_identifiers.specs.declared.namespace.Namespace.{Namespace}
-use Rattle.work_identifiers.specs.declared.namespace.Namespace.TheVariants.{Doi, Pmid, Oclc, Pmc, Arxiv}
+use Rattle.work_identifiers.specs.declared.namespace.Namespace.TheVariants.{Doi}
 use Rattle.work_identifiers.specs.Forms.{IsIdentifier}
 use Rattle.work_identifiers.specs.Uris.{uri_of, registered}
+use Rattle.openurl_reading.specs.Counting.{is_one_of}
 use Rattle.openurl_reading.specs.Steps.{taken, after}
 use Rattle.openurl_reading.specs.Texts.{text_steps}
 use Rattle.openurl_reading.specs.Referrers.{referrer_step}
@@ -21,13 +22,14 @@ use Rattle.openurl_reading.specs.Identifiers.{identifier_of, source_keys, identi
 use Rattle.openurl_reading.specs.Pages.{page_steps}
 use Rattle.openurl_reading.specs.Volumes.{volume_steps}
 use Rattle.openurl_reading.specs.Origins.{HasOrigin, identifier_in_value, uri_of_identifier}
+use Rattle.openurl_reading.proofs.Apart.{same_or_apart, own_uris}
 use Rattle.openurl_reading.proofs.Each.{each_named}
 use Rattle.openurl_reading.proofs.FoundAre.{IsAll}
 use Rattle.openurl_reading.proofs.Identified.{IsPlain, AreIdentified, found_is, first_is, nameable_is, of_is, uri_has_none, some_same, none_given}
 use Rattle.openurl_reading.proofs.KeysSettle.{same_after}
 use Rattle.openurl_reading.proofs.Named.{sources_apart, plain_has}
 use Rattle.openurl_reading.proofs.NamedPreprints.{named-keeps}
-use Rattle.openurl_reading.proofs.Sent.{AreKept}
+use Rattle.openurl_reading.proofs.Sent.{constant_keys, AreKept}
 use Rattle.openurl_reading.proofs.Values.{all_of-taken, all_of-taken-own}
 
 -- it is read in a value of the request
@@ -66,9 +68,7 @@ identifiers_under sent copied is =
     subst (All (Contains sent)) (sym (same_after steps copied key (AllPass-from_list_all (λ key. list_all (λ step. not (bytes_eq step.key key)) steps)
     identifier_keys refl k d h)))
     (is key (
-      not-true _ (AllPass-from_list_all (λ key. not (bytes_eq key (codes "ctx_ver"))) identifier_keys refl k d h),
-      not-true _ (AllPass-from_list_all (λ key. not (bytes_eq key (codes "url_ver"))) identifier_keys refl k d h),
-      not-true _ (AllPass-from_list_all (λ key. not (bytes_eq key (codes "rft_val_fmt"))) identifier_keys refl k d h),
+      not-true _ (AllPass-from_list_all (λ key. not (is_one_of constant_keys key)) identifier_keys refl k d h),
       AllPass-from_list_all (λ key. list_all (λ step. not (bytes_eq step.key key)) text_steps) identifier_keys refl k d h,
     )))
 
@@ -136,23 +136,14 @@ none_gives laws namespace other apart n m h =
 
 pub apart_gives : AreIdentified → (namespace other : Namespace) → IsApart namespace → (n m : Text) → IsIdentifier namespace n
     → identifier_of other (codes "rft_id") (uri_of namespace n) ≡ Some m → (namespace ≡ other) × (n ≡ m)
-apart_gives laws Pmid Doi apart n m is h = none_gives laws Pmid Doi (λ e. cc) n m h
-apart_gives laws Pmid Pmid apart n m is h = own_gives laws Pmid apart.0 n m is h
-apart_gives laws Pmid Oclc apart n m is h = none_gives laws Pmid Oclc (λ e. cc) n m h
-apart_gives laws Pmid Pmc apart n m is h = none_gives laws Pmid Pmc (λ e. cc) n m h
-apart_gives laws Pmid Arxiv apart n m is h = none_gives laws Pmid Arxiv (λ e. cc) n m h
-apart_gives laws Oclc Doi apart n m is h = none_gives laws Oclc Doi (λ e. cc) n m h
-apart_gives laws Oclc Pmid apart n m is h = none_gives laws Oclc Pmid (λ e. cc) n m h
-apart_gives laws Oclc Oclc apart n m is h = own_gives laws Oclc apart.0 n m is h
-apart_gives laws Oclc Pmc apart n m is h = none_gives laws Oclc Pmc (λ e. cc) n m h
-apart_gives laws Oclc Arxiv apart n m is h = none_gives laws Oclc Arxiv (λ e. cc) n m h
-apart_gives laws Pmc Doi apart n m is h = none_gives laws Pmc Doi (λ e. cc) n m h
-apart_gives laws Pmc Pmid apart n m is h = none_gives laws Pmc Pmid (λ e. cc) n m h
-apart_gives laws Pmc Oclc apart n m is h = none_gives laws Pmc Oclc (λ e. cc) n m h
-apart_gives laws Pmc Pmc apart n m is h = own_gives laws Pmc apart.0 n m is h
-apart_gives laws Pmc Arxiv apart n m is h = none_gives laws Pmc Arxiv (λ e. cc) n m h
-apart_gives laws Doi other apart n m is h = absurd (apart.1 refl)
-apart_gives laws Arxiv other apart n m is h = absurd (apart.1 refl)
+apart_gives laws namespace other is_apart n m is h =
+    elim (same_or_apart (registered other) (registered namespace)) [
+      | inl e ↦
+          let same : namespace ≡ other = sym is_apart.0 ∙ sym e ∙ own_uris other (λ doi. is_apart.1 (sym e ∙ doi)) in
+          subst (λ k. identifier_of k (codes "rft_id") (uri_of namespace n) ≡ Some m → (namespace ≡ k) × (n ≡ m)) same
+          (own_gives laws namespace is_apart.0 n m is) h
+      | inr other_uris ↦ none_gives laws namespace other other_uris n m h
+    ]
 
 pub uri_read : AreIdentified → (sent : List Text) (namespace : Namespace) → IsApart namespace → (n : Text) → IsIdentifier namespace n
     → IsRead sent namespace n → GivesRead sent (codes "rft_id") (uri_of namespace n)

@@ -8,15 +8,16 @@ use Rattle.std.proofs.lemmas.List.Sums.{AllPass-from_list_all}
 use Rattle.std.proofs.lemmas.List.Elements.{All-append, All-cons, All-map}
 use Rattle.text_model.specs.Texts.{Text}
 use Rattle.kev_read.specs.Pairs.{KeyValue, all_of, first_of}
-use Rattle.kev_read.specs.Refusal.{is_other_version}
 use Rattle.openurl_reading.specs.Steps.{Step, unchanged, replacing, taken, after}
 use Rattle.openurl_reading.specs.Values.{most_values}
-use Rattle.openurl_reading.specs.Versions.{version, correction}
+use Rattle.openurl_reading.specs.Versions.{is_other, correction}
 use Rattle.openurl_reading.specs.OldKeys.{OldKey, old_keys, copies, copied, copying}
-use Rattle.openurl_reading.specs.DublinCore.{is_core, creator, is_typed, core_type, of_core_title, is_in_journal, is_of_core_book, core_titles, core_steps}
+use Rattle.openurl_reading.specs.DublinCore.{is_core, creator, is_typed, core_type, is_sourced, core_source, of_core_title}
+use Rattle.openurl_reading.specs.DublinCore.{is_in_journal, is_of_core_book, core_titles, core_steps}
 use Rattle.openurl_reading.specs.Titles.{is_titled, title_key, title_keys, of_title, titling, titlings}
 use Rattle.openurl_reading.specs.Formats.{formatted, format_of, format_step}
 use Rattle.openurl_reading.specs.Kinds.{kind_of}
+use Rattle.openurl_reading.specs.Citations.{citing_steps}
 use Rattle.openurl_reading.specs.Texts.{text_steps}
 use Rattle.openurl_reading.specs.Referrers.{referrer_of, referrer_step}
 use Rattle.openurl_reading.specs.Numbers.{first_issn, first_eissn, first_isbn, issn_step, eissn_step, isbn_step}
@@ -26,11 +27,13 @@ use Rattle.work_identifiers.specs.declared.namespace.Namespace.TheVariants.{Doi,
 use Rattle.openurl_reading.specs.Identifiers.{nameable, naming, namings}
 use Rattle.openurl_reading.specs.Pages.{first_page, last_page, first_page_step, last_page_step}
 use Rattle.openurl_reading.specs.Volumes.{added_issue, volume, issue, added_issue_step, volume_step, issue_step}
+use Rattle.openurl_reading.proofs.CitingKeeps.{citing_keep}
 use Rattle.openurl_reading.proofs.Copied.{copied-keeps, copying_keeps}
 use Rattle.openurl_reading.proofs.Each.{one_has}
 use Rattle.openurl_reading.proofs.Filled.{MakesSome, KeepsKey, filled_unchanged, filled-keeps, all_keep_filled, copies_fill}
 use Rattle.openurl_reading.proofs.Led.{led-keeps}
 use Rattle.openurl_reading.proofs.NamedPreprints.{named-keeps}
+use Rattle.openurl_reading.proofs.Others.{bytes_eq-same}
 use Rattle.openurl_reading.proofs.Stages.{after_dates, after_volumes, kind_steps, led_steps, last_steps}
 use Rattle.openurl_reading.proofs.TextsKept.{texts_keep}
 use Rattle.openurl_reading.proofs.Values.{values_after, all_of-taken-own, all_of-after}
@@ -44,18 +47,18 @@ pub same_after : (steps : List Step) (pairs : List KeyValue) (key : Text) → li
     → all_of (after steps pairs) key ≡ all_of pairs key
 same_after steps pairs key h = all_of-after steps pairs key (apart steps key h)
 
--- ---- versions
+-- ---- versions and encoding
 
-corrected-own : (values : List Text) (b : Bool) → is_other_version (slice_get values 0) ≡ b
-    → is_other_version (slice_get (values_after (cond b (replacing (version ∷ [])) unchanged) values) 0) ≡ false
-corrected-own values true h = refl
-corrected-own values false h = h
+corrected-own : (value : Text) (values : List Text) (b : Bool) → is_other value (slice_get values 0) ≡ b
+    → is_other value (slice_get (values_after (cond b (replacing (value ∷ [])) unchanged) values) 0) ≡ false
+corrected-own value values true h = rw (bytes_eq-same value) refl
+corrected-own value values false h = h
 
-pub version_settles : (key : Text) (before now : List KeyValue) → all_of now key ≡ all_of (taken before (correction key)) key
-    → is_other_version (first_of now key) ≡ false
-version_settles key before now e =
-    subst (λ values. is_other_version (slice_get values 0) ≡ false) (sym (e ∙ all_of-taken-own (correction key) before))
-    (corrected-own (all_of before key) (is_other_version (first_of before key)) refl)
+pub correction_settles : (key value : Text) (before now : List KeyValue) → all_of now key ≡ all_of (taken before (correction key value)) key
+    → is_other value (first_of now key) ≡ false
+correction_settles key value before now e =
+    subst (λ values. is_other value (slice_get values 0) ≡ false) (sym (e ∙ all_of-taken-own (correction key value) before))
+    (corrected-own value (all_of before key) (is_other value (first_of before key)) refl)
 
 -- ---- keys that are filled from others
 
@@ -109,15 +112,19 @@ format_keeps key = inr (λ p. inl (formatted-keeps p))
 
 core_steps_keep : (key : Text) → All (KeepsKey key) core_steps
 core_steps_keep key =
-    All-cons (KeepsKey key) (copying is_core creator) (copying is_typed core_type ∷ core_titles) (copying_keeps key is_core creator)
-    (All-cons (KeepsKey key) (copying is_typed core_type) core_titles (copying_keeps key is_typed core_type)
+    All-cons (KeepsKey key) (copying is_core creator) (copying is_typed core_type ∷ copying is_sourced core_source ∷ core_titles)
+    (copying_keeps key is_core creator)
+    (All-cons (KeepsKey key) (copying is_typed core_type) (copying is_sourced core_source ∷ core_titles) (copying_keeps key is_typed core_type)
+    (All-cons (KeepsKey key) (copying is_sourced core_source) core_titles (copying_keeps key is_sourced core_source)
     (All-cons (KeepsKey key) (copying is_in_journal (of_core_title (codes "rft.atitle"))) (copying is_of_core_book (of_core_title (codes "rft.btitle")) ∷ [])
     (copying_keeps key is_in_journal (of_core_title (codes "rft.atitle")))
     (one_has (KeepsKey key) (copying is_of_core_book (of_core_title (codes "rft.btitle")))
-    (copying_keeps key is_of_core_book (of_core_title (codes "rft.btitle"))))))
+    (copying_keeps key is_of_core_book (of_core_title (codes "rft.btitle")))))))
 
 pub last_keep : (key : Text) → bytes_eq (codes "rft.date") key ≡ false → All (KeepsKey key) last_steps
-last_keep key h = All-append (KeepsKey key) text_steps led_steps (texts_keep key) (led_keep key h)
+last_keep key h =
+    All-append (KeepsKey key) citing_steps (text_steps ++ led_steps) (citing_keep key)
+    (All-append (KeepsKey key) text_steps led_steps (texts_keep key) (led_keep key h))
 
 -- the steps after those of Dublin Core
 abbrev pub after_core : List Step

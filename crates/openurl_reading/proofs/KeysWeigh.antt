@@ -8,18 +8,18 @@ use Rattle.std.proofs.lemmas.List.Sums.{sum_by-take-le, sum_by-cons, AllPass-fro
 use Rattle.std.proofs.lemmas.List.{length-append}
 use Rattle.text_model.specs.Texts.{Text}
 use Rattle.kev_read.specs.Pairs.{KeyValue, all_of, first_of}
-use Rattle.kev_read.specs.Refusal.{is_other_version}
 use Rattle.openurl_reading.specs.Steps.{unchanged, replacing, taken, after}
-use Rattle.openurl_reading.specs.Versions.{version, correction}
+use Rattle.openurl_reading.specs.Versions.{version, is_other, correction}
 use Rattle.openurl_reading.specs.declared.kinds.Kind.{Kind}
 use Rattle.openurl_reading.specs.declared.kinds.Kind.TheVariants.{Book, Dissertation, Journal}
 use Rattle.openurl_reading.specs.Kinds.{kind_of}
 use Rattle.openurl_reading.specs.Fields.{number_fields, identifier_fields, fields}
 use Rattle.openurl_reading.specs.OldKeys.{OldKey, old_keys, copy, copying, copies}
-use Rattle.openurl_reading.specs.DublinCore.{is_core, creator, is_typed, core_type, core_titles, core_steps}
+use Rattle.openurl_reading.specs.DublinCore.{is_core, creator, is_typed, core_type, is_sourced, core_source, core_titles, core_steps}
 use Rattle.openurl_reading.specs.Titles.{title_key, of_title, titlings}
 use Rattle.openurl_reading.specs.Formats.{format_of, format_step}
 use Rattle.openurl_reading.specs.Values.{most_values}
+use Rattle.openurl_reading.specs.Citations.{citing_steps}
 use Rattle.openurl_reading.specs.Texts.{text_steps}
 use Rattle.openurl_reading.specs.Referrers.{namespace, referrer_of, referrer_step}
 use Rattle.work_identifiers.specs.declared.namespace.Namespace.{Namespace}
@@ -27,8 +27,9 @@ use Rattle.work_identifiers.specs.declared.namespace.Namespace.TheVariants.{Doi,
 use Rattle.work_identifiers.specs.Forms.{IsIdentifier}
 use Rattle.work_identifiers.specs.Uris.{uri_of}
 use Rattle.openurl_reading.proofs.Additions.{AreDaysAll}
+use Rattle.openurl_reading.proofs.Cited.{AreCitedLight, citing_weighs}
 use Rattle.openurl_reading.proofs.Copied.{IsCopyOf, no_copy, one_copy}
-use Rattle.openurl_reading.proofs.CoreCopied.{creator-is, type-is, titles-is}
+use Rattle.openurl_reading.proofs.CoreCopied.{creator-is, type-is, source-is, titles-is}
 use Rattle.openurl_reading.proofs.FieldsCopied.{number-is, identifier-is}
 use Rattle.openurl_reading.proofs.FoundAre.{AreFound}
 use Rattle.openurl_reading.proofs.Identified.{IsPlain, AreIdentified}
@@ -61,15 +62,14 @@ all_three u = u Doi + u Pmid + u Oclc
 abbrev pub both_others : (Namespace → ℕ) → ℕ
 both_others u = u Pmc + u Arxiv
 
--- ---- versions
+-- ---- versions and encoding
 
-pub version_weighs : (g : Text → ℕ) (m : ℕ) (u : Namespace → ℕ) → AreLight g m u → (key : Text) (pairs : List KeyValue)
-    → total g (taken pairs (correction key)) ≤ m + total g pairs
-version_weighs g m u light key pairs =
-    omega (arith, total_taken g (correction key) pairs, by_test (is_other_version (first_of pairs key)))
+pub correction_weighs : (g : Text → ℕ) (key value : Text) (pairs : List KeyValue) → total g (taken pairs (correction key value)) ≤ g value + total g pairs
+correction_weighs g key value pairs =
+    omega (arith, total_taken g (correction key value) pairs, by_test (is_other value (first_of pairs key)))
   where
-    by_test : (b : Bool) → sum_by g (cond b (replacing (version ∷ [])) unchanged).values ≤ m
-    by_test true = omega (arith, sum_by-cons g version [], light.version)
+    by_test : (b : Bool) → sum_by g (cond b (replacing (value ∷ [])) unchanged).values ≤ g value
+    by_test true = omega (arith, sum_by-cons g value [])
     by_test false = omega arith
 
 -- ---- old keys, what the kind gives, and the source
@@ -134,20 +134,26 @@ fields_weigh g pairs =
     )
 
 core_weighs : (g : Text → ℕ) (pairs : List KeyValue) → total g (after core_steps pairs)
-    ≤ sum_by g (all_of pairs (codes "rft.creator")) + sum_by g (all_of pairs (codes "rft.type")) + sum_by g (all_of pairs (codes "rft.title")) + total g pairs
+    ≤ sum_by g (all_of pairs (codes "rft.creator")) + sum_by g (all_of pairs (codes "rft.type")) + sum_by g (all_of pairs (codes "rft.source"))
+    + sum_by g (all_of pairs (codes "rft.title")) + total g pairs
 core_weighs g pairs =
     let first = taken pairs (copying is_core creator) in
     let second = taken first (copying is_typed core_type) in
+    let third = taken second (copying is_sourced core_source) in
     let types : sum_by g (all_of first (codes "rft.type")) ≡ sum_by g (all_of pairs (codes "rft.type")) =
     ap (sum_by g) (same_after (copying is_core creator ∷ []) pairs (codes "rft.type") refl) in
-    let titles : sum_by g (all_of second (codes "rft.title")) ≡ sum_by g (all_of pairs (codes "rft.title")) =
-    ap (sum_by g) (same_after (copying is_core creator ∷ copying is_typed core_type ∷ []) pairs (codes "rft.title") refl) in
+    let sources : sum_by g (all_of second (codes "rft.source")) ≡ sum_by g (all_of pairs (codes "rft.source")) =
+    ap (sum_by g) (same_after (copying is_core creator ∷ copying is_typed core_type ∷ []) pairs (codes "rft.source") refl) in
+    let titles : sum_by g (all_of third (codes "rft.title")) ≡ sum_by g (all_of pairs (codes "rft.title")) =
+    ap (sum_by g) (same_after (copying is_core creator ∷ copying is_typed core_type ∷ copying is_sourced core_source ∷ []) pairs (codes "rft.title") refl) in
     omega (
       arith,
       copy_of_weighs g (codes "rft.creator") pairs first (creator-is pairs),
       copy_of_weighs g (codes "rft.type") first second (type-is first),
-      copy_of_weighs g (codes "rft.title") second (after core_titles second) (titles-is second),
+      copy_of_weighs g (codes "rft.source") second third (source-is second),
+      copy_of_weighs g (codes "rft.title") third (after core_titles third) (titles-is third),
       types,
+      sources,
       titles,
     )
 
@@ -157,20 +163,23 @@ olds_after_fields g pairs =
     shares-same g (olds old_keys) (after fields pairs) pairs (λ k d h. same_after fields pairs (get_or (olds old_keys) k d)
     (AllPass-from_list_all (λ key. list_all (λ step. not (bytes_eq step.key key)) fields) (olds old_keys) refl k d h))
 
-pub keys_weigh : (g : Text → ℕ) (m f : ℕ) (u : Namespace → ℕ) → AreLight g m u → AreFormatsLight g f → (before : List KeyValue)
-    → total g (taken (after text_steps (after kind_steps (after copies (after fields before)))) referrer_step) ≤ m + f + 2 * total g before
-keys_weigh g m f u light formats before =
+pub keys_weigh : (g : Text → ℕ) (m f w : ℕ) (u : Namespace → ℕ) → AreLight g m u → AreFormatsLight g f → AreCitedLight g w → (before : List KeyValue)
+    → total g (taken (after text_steps (after citing_steps (after kind_steps (after copies (after fields before))))) referrer_step)
+    ≤ m + f + 5 * w + 2 * total g before
+keys_weigh g m f w u light formats cited before =
     let pairs = after fields before in
     let copied = after copies pairs in
     let core = after core_steps copied in
     let titled = after titlings core in
     let kinds = taken titled format_step in
-    let texts = after text_steps kinds in
+    let placed = after citing_steps kinds in
+    let texts = after text_steps placed in
     let sids = all_of texts (codes "sid") in
     let all = total_taken g referrer_step texts in
     let few = filled_weighs g (map referrer_of (take 1 sids)) (all_of texts (codes "rfr_id")) in
     let same : sum_by g sids ≡ sum_by g (all_of before (codes "sid")) =
-    ap (sum_by g) (same_after text_steps kinds (codes "sid") refl ∙ same_after kind_steps copied (codes "sid") refl ∙ same_after copies pairs (codes "sid") refl
+    ap (sum_by g) (same_after text_steps placed (codes "sid") refl ∙ same_after citing_steps kinds (codes "sid") refl
+    ∙ same_after kind_steps copied (codes "sid") refl ∙ same_after copies pairs (codes "sid") refl
     ∙ same_after fields before (codes "sid") refl) in
     let under : (key : Text) → list_all (λ step. not (bytes_eq step.key key)) copies ≡ true → list_all (λ step. not (bytes_eq step.key key)) fields ≡ true
     → sum_by g (all_of copied key) ≡ sum_by g (all_of before key) =
@@ -178,7 +187,8 @@ keys_weigh g m f u light formats before =
     let titles : sum_by g (all_of core (codes "title")) ≡ sum_by g (all_of before (codes "title")) =
     ap (sum_by g) (same_after core_steps copied (codes "title") refl) ∙ under (codes "title") refl refl in
     let each = shares-le g
-    (codes "number" ∷ codes "identifier" ∷ codes "rft.creator" ∷ codes "rft.type" ∷ codes "rft.title" ∷ codes "title" ∷ codes "sid" ∷ olds old_keys)
+    (codes "number" ∷ codes "identifier" ∷ codes "rft.creator" ∷ codes "rft.type" ∷ codes "rft.source" ∷ codes "rft.title" ∷ codes "title" ∷ codes "sid" ∷
+    olds old_keys)
     before refl in
     omega (
       arith,
@@ -186,13 +196,15 @@ keys_weigh g m f u light formats before =
       few,
       source_weighs g m u light sids,
       same,
-      texts_weigh g light.text kinds,
+      texts_weigh g light.text placed,
+      citing_weighs g w cited kinds,
       format_weighs g f formats titled,
       titlings_weigh g core,
       titles,
       core_weighs g copied,
       under (codes "rft.creator") refl refl,
       under (codes "rft.type") refl refl,
+      under (codes "rft.source") refl refl,
       under (codes "rft.title") refl refl,
       copies_weigh g old_keys pairs all_apart,
       olds_after_fields g before,

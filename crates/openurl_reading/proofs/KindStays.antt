@@ -1,8 +1,8 @@
 -- What a request is for stays when numbers lead their keys.
-use Rattle.std.proofs.Common.{◌≡◌, List, [], ◌∷◌, Bool, true, false, cond, not, ◌&&◌, ◌||◌, Option, Some, None, refl, sym, ap, ◌∙◌, get_or, lit<}
+use Rattle.std.proofs.Common.{◌≡◌, List, [], ◌∷◌, Bool, true, false, not, ◌&&◌, ◌||◌, None, refl, sym, ap, ◌∙◌, get_or, lit<}
 use Rattle.std.specs.Prelude.{codes, slice_get, if◌then◌else◌}
 use Rattle.std.specs.List.{All, list_all}
-use Rattle.std.specs.Option.{option_and_then, is_some, unwrap_or}
+use Rattle.std.specs.Option.{option_and_then, unwrap_or}
 use Rattle.std.specs.Str.{bytes_eq}
 use Rattle.std.proofs.lemmas.List.Sums.{AllPass-from_list_all}
 use Rattle.text_model.specs.Texts.{Text}
@@ -12,36 +12,24 @@ use Rattle.openurl_reading.specs.declared.kinds.Kind.TheVariants.{Book, Journal}
 use Rattle.openurl_reading.specs.Kinds.{kind_named, kind_of}
 use Rattle.openurl_reading.specs.Numbers.{issn_step, eissn_step, isbn_step, eissn_among}
 use Rattle.openurl_reading.specs.Dates.{date_step}
+use Rattle.openurl_reading.specs.Citations.{citing_steps}
 use Rattle.openurl_reading.specs.Texts.{text_steps}
 use Rattle.openurl_reading.specs.Referrers.{referrer_step}
-use Rattle.openurl_reading.specs.Steps.{Step, unchanged, leading, taken, after}
+use Rattle.openurl_reading.specs.Steps.{Step, taken, after}
 use Rattle.openurl_reading.specs.Values.{led}
+use Rattle.openurl_reading.proofs.CitingSteps.{citing_some}
 use Rattle.openurl_reading.proofs.FoundAgain.{issn_among, further_among, isbn_among}
 use Rattle.openurl_reading.proofs.KeysSettle.{same_after}
+use Rattle.openurl_reading.proofs.Led.{are_some, led_some}
 use Rattle.openurl_reading.proofs.Stages.{after_dates, led_steps, last_steps, last-is}
 use Rattle.openurl_reading.proofs.TextsSome.{texts_some}
 use Rattle.openurl_reading.proofs.Values.{values_after, all_of-taken, all_of-taken-own}
-
--- there is a value
-abbrev pub are_some : List Text → Bool
-are_some values = is_some (slice_get values 0)
 
 -- the kind, by the values of the keys that say it
 abbrev pub kind_by : (genres isbns eisbns issns eissns books journals : List Text) → Kind
 kind_by genres isbns eisbns issns eissns books journals =
     unwrap_or (option_and_then kind_named (slice_get genres 0))
     (if ((are_some isbns || are_some eisbns) && not (are_some issns || are_some eissns)) || (are_some books && not (are_some journals)) then Book else Journal)
-
--- a number that leads is found in values, so there are some before it
-led_some : (found : Option Text) (values : List Text) → (values ≡ [] → found ≡ None)
-    → are_some (values_after (led found (slice_get values 0)) values) ≡ are_some values
-led_some found [] none = ap (λ o. are_some (values_after (led o None) [])) (none refl)
-led_some None (v ∷ vs) none = refl
-led_some (Some n) (v ∷ vs) none = by_test (bytes_eq v n)
-  where
-    by_test : (b : Bool) → are_some (values_after (cond b unchanged (leading (n ∷ []))) (v ∷ vs)) ≡ true
-    by_test true = refl
-    by_test false = refl
 
 or-true : (b : Bool) → b || true ≡ true
 or-true true = refl
@@ -122,8 +110,19 @@ texts_kind_stays pairs =
     either : {a a' b b' : Bool} → a ≡ a' → b ≡ b' → (a || b) ≡ (a' || b')
     either {a} {a'} {b} {b'} e g = rw (e, g) refl
 
+citing_kind_stays : (pairs : List KeyValue) → kind_of (after citing_steps pairs) ≡ kind_of pairs
+citing_kind_stays pairs =
+    same_kind _ _ _ _ _ _ _ _ _ _ (same_after citing_steps pairs (codes "rft.genre") refl)
+    (ap (λ vs. are_some vs || are_some (all_of (after citing_steps pairs) (codes "rft.eisbn"))) (same_after citing_steps pairs (codes "rft.isbn") refl)
+    ∙ ap (λ vs. are_some (all_of pairs (codes "rft.isbn")) || are_some vs) (same_after citing_steps pairs (codes "rft.eisbn") refl))
+    (ap (λ vs. are_some vs || are_some (all_of (after citing_steps pairs) (codes "rft.eissn"))) (same_after citing_steps pairs (codes "rft.issn") refl)
+    ∙ ap (λ vs. are_some (all_of pairs (codes "rft.issn")) || are_some vs) (same_after citing_steps pairs (codes "rft.eissn") refl))
+    (ap are_some (same_after citing_steps pairs (codes "rft.btitle") refl)) (citing_some (codes "rft.jtitle") pairs refl)
+
 pub kind_stays : (pairs : List KeyValue) → kind_of (after last_steps pairs) ≡ kind_of pairs
-kind_stays pairs = ap kind_of (last-is pairs) ∙ led_kind_stays (after text_steps pairs) ∙ texts_kind_stays pairs
+kind_stays pairs =
+    let cited = after citing_steps pairs in
+    ap kind_of (last-is pairs) ∙ led_kind_stays (after text_steps cited) ∙ texts_kind_stays cited ∙ citing_kind_stays pairs
 
 -- the keys that say it
 abbrev pub kind_keys : List Text

@@ -1,6 +1,6 @@
 -- What leads the values of its key leads them again.
 use Rattle.std.proofs.Common.{◌≡◌, ℕ, zero, suc, List, [], ◌∷◌, ◌++◌, take, Bool, true, false, cond, Option, Some, None, refl, ap, ◌∙◌, inl, inr, ◌⊎◌}
-use Rattle.std.specs.Prelude.{slice_get}
+use Rattle.std.specs.Prelude.{is_some, slice_get}
 use Rattle.std.specs.List.{flat_map}
 use Rattle.std.specs.Str.{bytes_eq}
 use Rattle.text_model.specs.Texts.{Text}
@@ -67,3 +67,20 @@ first_again f values k n e (inl one) = inl (ap (λ found. slice_get (found ++ fl
 first_again f values k n e (inr none) =
     let same = ap (λ found. slice_get (found ++ flat_map f (take k values)) 0) none in
     elim (fewer f values k) [ inl again ↦ inl (same ∙ again ∙ e) | inr nothing ↦ inr (same ∙ nothing) ]
+
+-- ---- whether there are values
+
+-- there is a value
+abbrev pub are_some : List Text → Bool
+are_some values = is_some (slice_get values 0)
+
+-- what leads is found in values, so there are some before it
+pub led_some : (found : Option Text) (values : List Text) → (values ≡ [] → found ≡ None)
+    → are_some (values_after (led found (slice_get values 0)) values) ≡ are_some values
+led_some found [] none = ap (λ o. are_some (values_after (led o None) [])) (none refl)
+led_some None (v ∷ vs) none = refl
+led_some (Some n) (v ∷ vs) none = by_test (bytes_eq v n)
+  where
+    by_test : (b : Bool) → are_some (values_after (cond b unchanged (leading (n ∷ []))) (v ∷ vs)) ≡ true
+    by_test true = refl
+    by_test false = refl

@@ -1,8 +1,12 @@
 pub mod Accepted
 pub mod Additions
 pub mod Again
-pub mod AnyTexts
+pub mod Apart
 pub mod CanonicalStays
+pub mod CitingSteps
+pub mod Cited
+pub mod CitedParts
+pub mod CitingKeeps
 pub mod Copied
 pub mod CoreCopied
 pub mod CoreFalls
@@ -24,6 +28,7 @@ pub mod Identified
 pub mod KeysSettle
 pub mod KeysWeigh
 pub mod KindStays
+pub mod KindsSettle
 pub mod Led
 pub mod LowerLaws
 pub mod Named
@@ -40,6 +45,7 @@ pub mod ReadOnce
 pub mod ReadValues
 pub mod Sent
 pub mod Settled
+pub mod DerivedWeigh
 pub mod Sizes
 pub mod Stages
 pub mod TextOrigins
@@ -56,5 +62,6 @@ pub mod VolumeForms
 pub mod VolumeOrigins
 pub mod VolumesFound
 pub mod VolumesLed
+pub mod Walks
 pub mod DaysLed
 pub mod VersionsStated

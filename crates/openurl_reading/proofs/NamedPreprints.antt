@@ -11,6 +11,7 @@ use Rattle.work_identifiers.specs.Uris.{uri_of, arxiv_doi}
 use Rattle.openurl_reading.specs.Counting.{is_one_of}
 use Rattle.openurl_reading.specs.Steps.{unchanged, leading, taken, after}
 use Rattle.openurl_reading.specs.Identifiers.{identifier_of, first_identifier, nameable, named, naming, namings}
+use Rattle.openurl_reading.proofs.Apart.{apart}
 use Rattle.openurl_reading.proofs.Identified.{first_found, found-cons, first_is, nameable_is}
 use Rattle.openurl_reading.proofs.Identified.{AreIdentified, of_is, preprint_has}
 use Rattle.openurl_reading.proofs.Settled.{IsNamed}
@@ -101,18 +102,19 @@ works_named laws pairs Oclc =
     let first = taken pairs (naming Oclc) in
     let second = taken first (naming Pmc) in
     let third = taken second (naming Pmid) in
-    still laws Oclc Doi (λ e. cc) (taken third (naming Arxiv)) (still laws Oclc Arxiv (λ e. cc) third (still laws Oclc Pmid (λ e. cc) second
-    (still laws Oclc Pmc (λ e. cc) first (own_named laws Oclc refl pairs refl))))
+    still laws Oclc Doi (apart Oclc Doi refl) (taken third (naming Arxiv)) (still laws Oclc Arxiv (apart Oclc Doi refl) third
+    (still laws Oclc Pmid (apart Oclc Pmid refl) second (still laws Oclc Pmc (apart Oclc Pmc refl) first (own_named laws Oclc refl pairs refl))))
 works_named laws pairs Pmc =
     let first = taken pairs (naming Oclc) in
     let second = taken first (naming Pmc) in
     let third = taken second (naming Pmid) in
-    still laws Pmc Doi (λ e. cc) (taken third (naming Arxiv)) (still laws Pmc Arxiv (λ e. cc) third (still laws Pmc Pmid (λ e. cc) second
-    (own_named laws Pmc refl first refl)))
+    still laws Pmc Doi (apart Pmc Doi refl) (taken third (naming Arxiv)) (still laws Pmc Arxiv (apart Pmc Doi refl) third
+    (still laws Pmc Pmid (apart Pmc Pmid refl) second (own_named laws Pmc refl first refl)))
 works_named laws pairs Pmid =
     let second = taken (taken pairs (naming Oclc)) (naming Pmc) in
     let third = taken second (naming Pmid) in
-    still laws Pmid Doi (λ e. cc) (taken third (naming Arxiv)) (still laws Pmid Arxiv (λ e. cc) third (own_named laws Pmid refl second refl))
+    still laws Pmid Doi (apart Pmid Doi refl) (taken third (naming Arxiv)) (still laws Pmid Arxiv (apart Pmid Doi refl) third
+    (own_named laws Pmid refl second refl))
 works_named laws pairs Arxiv =
     let third = taken (taken (taken pairs (naming Oclc)) (naming Pmc)) (naming Pmid) in
     preprint_still laws (taken third (naming Arxiv)) (preprint_own laws third)

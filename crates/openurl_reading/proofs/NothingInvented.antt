@@ -1,6 +1,6 @@
 -- Each value of a reading has an origin.
-use Rattle.std.proofs.Common.{◌≡◌, List, [], ◌∷◌, true, not, Some, refl, sym, subst, get_or, lit<}
-use Rattle.std.specs.Prelude.{codes, Contains}
+use Rattle.std.proofs.Common.{◌≡◌, List, [], ◌∷◌, true, not, Option, Some, None, refl, sym, subst, get_or, lit<}
+use Rattle.std.specs.Prelude.{codes, Contains, option_and_then}
 use Rattle.std.specs.List.{All, list_all}
 use Rattle.std.specs.Str.{bytes_eq}
 use Rattle.std.proofs.lemmas.Bool.{not-true}
@@ -8,12 +8,12 @@ use Rattle.std.proofs.lemmas.List.Sums.{AllPass-from_list_all}
 use Rattle.std.proofs.lemmas.List.Elements.{All-append}
 use Rattle.text_model.specs.Texts.{Text}
 use Rattle.kev_read.specs.Pairs.{KeyValue, all_of, first_of}
-use Rattle.openurl_reading.specs.Counting.{counting}
+use Rattle.openurl_reading.specs.Counting.{is_one_of, counting}
 use Rattle.openurl_reading.specs.Steps.{taken, after}
-use Rattle.openurl_reading.specs.Versions.{correction}
 use Rattle.openurl_reading.specs.OldKeys.{old_keys, copies}
 use Rattle.openurl_reading.specs.DublinCore.{core_steps}
 use Rattle.openurl_reading.specs.Titles.{titlings}
+use Rattle.openurl_reading.specs.Citations.{citing_steps}
 use Rattle.openurl_reading.specs.Texts.{text_steps}
 use Rattle.openurl_reading.specs.Referrers.{referrer_step}
 use Rattle.openurl_reading.specs.Numbers.{first_number, issn_step, eissn_step, isbn_step}
@@ -21,14 +21,17 @@ use Rattle.openurl_reading.specs.Dates.{date_step}
 use Rattle.work_identifiers.specs.declared.namespace.Namespace.{Namespace}
 use Rattle.work_identifiers.specs.declared.namespace.Namespace.TheVariants.{Doi, Pmid, Oclc, Pmc, Arxiv}
 use Rattle.openurl_reading.specs.Identifiers.{first_under, nameable, naming, namings}
+use Rattle.openurl_reading.specs.EncodedDois.{encoded_doi}
 use Rattle.work_identifiers.specs.Uris.{uri_of}
 use Rattle.openurl_reading.proofs.FoundAre.{IsAll}
 use Rattle.openurl_reading.specs.ArticleNumbers.{article_in}
 use Rattle.openurl_reading.specs.Pages.{first_page, last_page, first_page_step, last_page_step, page_steps}
 use Rattle.openurl_reading.specs.Volumes.{added_issue, volume, issue, added_issue_step, volume_step, issue_step, volume_steps}
 use Rattle.openurl_reading.specs.Reading.{normal_form, issns_of, derived, with_derived}
-use Rattle.openurl_reading.specs.Origins.{HasOrigin, from_request, all_values}
+use Rattle.openurl_reading.specs.Origins.{HasOrigin, from_request, encoding_of_doi, all_values, read_values}
 use Rattle.openurl_reading.proofs.Additions.{AreDaysAll, derived_values}
+use Rattle.openurl_reading.proofs.Apart.{apart}
+use Rattle.openurl_reading.proofs.CitedParts.{more_values, cited_sent, cited_have}
 use Rattle.openurl_reading.proofs.DaysLed.{days_have}
 use Rattle.openurl_reading.proofs.Each.{each_led, each_named}
 use Rattle.openurl_reading.proofs.Firsts.{of_first}
@@ -42,13 +45,13 @@ use Rattle.openurl_reading.proofs.KeysSettle.{same_after}
 use Rattle.openurl_reading.proofs.Origins.{no_number}
 use Rattle.openurl_reading.proofs.Origins.{isbn_has}
 use Rattle.openurl_reading.proofs.Origins.{GivesPage, page_keys, first_page_has, last_page_has, issns_have, second_has}
-use Rattle.openurl_reading.proofs.Sent.{IsUnread, AreKept, counting_values, kind_sent}
+use Rattle.openurl_reading.proofs.Sent.{constant_keys, IsUnread, AreKept, counting_values, kind_sent}
 use Rattle.openurl_reading.proofs.Stages.{kind_steps, led_steps, with_versions, with_fields, normal_form-led}
 use Rattle.openurl_reading.proofs.TextOrigins.{texts_kept, texts_have, pages_give}
 use Rattle.openurl_reading.proofs.VolumesFound.{AreNumbersAgain}
 use Rattle.openurl_reading.proofs.VolumeOrigins.{GivesIssues, issues_give, added_has, volume_has, issue_has}
 use Rattle.openurl_reading.proofs.Values.{all_of-taken, all_of-taken-own}
-use Rattle.openurl_reading.proofs.ReadValues.{HaveOrigin, version_has, copies_have, fields_have, core_has, titlings_have, format_has}
+use Rattle.openurl_reading.proofs.ReadValues.{HaveOrigin, versions_have, copies_have, fields_have, core_has, titlings_have, format_has}
 use Rattle.openurl_reading.proofs.ReadValues.{Reads, other_reads, referrer_reads, issn_reads}
 use Rattle.openurl_reading.proofs.ReadValues.{eissn_reads}
 use Rattle.openurl_reading.proofs.ReadValues.{isbn_reads, dates_under, date_reads}
@@ -95,9 +98,7 @@ pages_under sent copied is =
     subst (All (Contains sent)) (sym (same_after steps copied key (AllPass-from_list_all (λ key. list_all (λ step. not (bytes_eq step.key key)) steps)
     page_keys refl k d h)))
     (is key (
-      not-true _ (AllPass-from_list_all (λ key. not (bytes_eq key (codes "ctx_ver"))) page_keys refl k d h),
-      not-true _ (AllPass-from_list_all (λ key. not (bytes_eq key (codes "url_ver"))) page_keys refl k d h),
-      not-true _ (AllPass-from_list_all (λ key. not (bytes_eq key (codes "rft_val_fmt"))) page_keys refl k d h),
+      not-true _ (AllPass-from_list_all (λ key. not (is_one_of constant_keys key)) page_keys refl k d h),
       AllPass-from_list_all (λ key. list_all (λ step. not (bytes_eq step.key key)) text_steps) page_keys refl k d h,
     ))
 
@@ -162,8 +163,8 @@ namings_read identified sent pairs reads =
     let second = taken first (naming Pmc) in
     let third = taken second (naming Pmid) in
     doi_reads identified sent (taken third (naming Arxiv)) (preprint_reads identified sent third
-    (apart_reads identified sent Pmid (refl, λ e. cc) second (apart_reads identified sent Pmc (refl, λ e. cc) first
-    (apart_reads identified sent Oclc (refl, λ e. cc) pairs reads))))
+    (apart_reads identified sent Pmid (refl, apart Pmid Doi refl) second (apart_reads identified sent Pmc (refl, apart Pmc Doi refl) first
+    (apart_reads identified sent Oclc (refl, apart Oclc Doi refl) pairs reads))))
 
 last_reads : AreFoundAgain → AreNumbersAgain → AreIdentified → (sent : List Text) (copied : List KeyValue) → AreKept sent copied
     → All (GivesPage sent) (all_of copied (codes "rft.pages")) → HaveOrigin sent copied → HaveAll sent (after led_steps copied)
@@ -172,14 +173,18 @@ last_reads laws numbers identified sent copied is pages all =
       numbers = pages_read sent _ (pages_under sent copied is)
           (subst (All (GivesPage sent))
           (sym (same_after (referrer_step ∷ issn_step ∷ eissn_step ∷ isbn_step ∷ date_step ∷ volume_steps) copied (codes "rft.pages") refl)) pages)
-          (volumes_read numbers sent _ (sent_before sent copied is (codes "rft.volume") (refl, refl, refl, refl) refl)
-          (sent_before sent copied is (codes "rft.issue") (refl, refl, refl, refl) refl)
+          (volumes_read numbers sent _ (sent_before sent copied is (codes "rft.volume") (refl, refl) refl)
+          (sent_before sent copied is (codes "rft.issue") (refl, refl) refl)
           (date_reads sent _ (dates_under sent copied is)
           (isbn_reads laws sent _ (eissn_reads laws sent _ (issn_reads laws sent _ (referrer_reads sent copied is all))))));
       identifiers = identifiers_under sent copied is;
     }
 
 -- ---- all
+
+encoded_has : (sent : List Text) (doi : Option Text) → IsAll (HasOrigin sent) doi → IsAll (HasOrigin sent) (option_and_then encoded_doi doi)
+encoded_has sent None h n e = cc
+encoded_has sent (Some doi) h n e = encoding_of_doi doi n (h doi refl) e
 
 derived_have : (sent : List Text) (pairs : List KeyValue) → HaveAll sent pairs → AreDaysAll (HasOrigin sent) pairs → HaveOrigin sent (with_derived pairs)
 derived_have sent pairs reads days =
@@ -194,24 +199,29 @@ derived_have sent pairs reads days =
     All-append P (derived pairs) pairs
     (derived_values (HasOrigin sent) pairs identifier (λ n e. first_has (HasOrigin sent) (issns_of pairs) n found e)
     (second_has sent issns eissns (first_number (issns_of pairs)) numbers.issns numbers.eissns)
-    (isbn_has sent (all_of pairs (codes "rft.eisbn")) (all_of pairs (codes "rft.isbn")) numbers.eisbns numbers.isbns) days)
+    (isbn_has sent (all_of pairs (codes "rft.eisbn")) (all_of pairs (codes "rft.isbn")) numbers.eisbns numbers.isbns) days
+    (encoded_has sent (first_under Doi pairs (codes "rft_id")) (identifier Doi refl)))
     numbers.all
 
 pub nothing_invented : AreFoundAgain → AreNumbersAgain → AreIdentified → (request : List KeyValue)
-    → All (λ pair. HasOrigin (all_values request) pair.value) (with_derived (normal_form (counting request)))
+    → All (λ pair. HasOrigin (read_values request) pair.value) (with_derived (normal_form (counting request)))
 nothing_invented laws numbers identified request =
-    let sent = all_values request in
+    let sent = read_values request in
     let first = counting request in
     let known = counting_values request in
-    let origins : HaveOrigin sent first = λ k d h. from_request (get_or first k d).value (known k d h) in
-    let versions = version_has sent (codes "url_ver") (taken first (correction (codes "ctx_ver"))) (version_has sent (codes "ctx_ver") first origins) in
+    let origins : HaveOrigin sent first =
+    λ k d h. let value = (get_or first k d).value in from_request value (more_values request value (known k d h)) in
+    let versions = versions_have sent first origins in
     let copied = after copies (with_fields first) in
     let core = after core_steps copied in
     let origins' = format_has sent (after titlings core)
     (titlings_have sent core (core_has sent copied (copies_have sent old_keys (with_fields first) (fields_have sent (with_versions first) versions)))) in
-    let is = kind_sent sent first known in
     let kinds = after kind_steps copied in
-    let kept = texts_kept sent kinds is in
-    let reads = last_reads laws numbers identified sent (after text_steps kinds) kept (pages_give sent kinds is) (texts_have sent kinds is origins') in
-    let days = days_have laws sent (after text_steps kinds) kept in
+    let values = kind_sent (all_values request) first known in
+    let cited = after citing_steps kinds in
+    let is = cited_sent request kinds values in
+    let kept = texts_kept sent cited is in
+    let reads = last_reads laws numbers identified sent (after text_steps cited) kept (pages_give sent cited is)
+    (texts_have sent cited is (cited_have request kinds values origins')) in
+    let days = days_have laws sent (after text_steps cited) kept in
     subst (λ pairs. HaveOrigin sent (with_derived pairs)) (sym (normal_form-led first)) (derived_have sent _ reads days)

@@ -9,11 +9,10 @@ use Rattle.std.proofs.lemmas.List.Sums.{AllPass-from_list_all}
 use Rattle.std.proofs.lemmas.List.Elements.{All-cons, All-head, All-tail, All-take}
 use Rattle.text_model.specs.Texts.{Text}
 use Rattle.kev_read.specs.Pairs.{KeyValue, all_of, first_of}
-use Rattle.kev_read.specs.Refusal.{is_other_version}
 use Rattle.openurl_reading.specs.Counting.{is_free, is_void, is_blank, is_any, is_prefix, is_one_of, row_keys, is_accepted, accepted, counting, most_pairs}
 use Rattle.openurl_reading.specs.Steps.{Step, unchanged, replacing, taken, after}
 use Rattle.openurl_reading.specs.Values.{most_values}
-use Rattle.openurl_reading.specs.Versions.{version, correction}
+use Rattle.openurl_reading.specs.Versions.{version, encoding, is_other, correction, versions}
 use Rattle.openurl_reading.specs.OldKeys.{OldKey, old_keys, copy}
 use Rattle.openurl_reading.proofs.Each.{none_has, one_has, each_taken, each_of_key, each_filled}
 use Rattle.openurl_reading.proofs.Values.{same_key}
@@ -76,12 +75,18 @@ under_pass pairs key all =
 pub step_passes : (step : Step) (pairs : List KeyValue) → All (Passes step.key) (step.change pairs).values → AreAccepted pairs → AreAccepted (taken pairs step)
 step_passes step pairs values all = each_taken (λ pair. is_accepted pair ≡ true) step pairs values all
 
-pub version_passes : (key : Text) (pairs : List KeyValue) → Passes key version → AreAccepted pairs → AreAccepted (taken pairs (correction key))
-version_passes key pairs passes all = step_passes (correction key) pairs (by_test (is_other_version (first_of pairs key))) all
+correction_passes : (key value : Text) (pairs : List KeyValue) → Passes key value → AreAccepted pairs → AreAccepted (taken pairs (correction key value))
+correction_passes key value pairs passes all = step_passes (correction key value) pairs (by_test (is_other value (first_of pairs key))) all
   where
-    by_test : (b : Bool) → All (Passes key) (cond b (replacing (version ∷ [])) unchanged).values
-    by_test true = one_has (Passes key) version passes
+    by_test : (b : Bool) → All (Passes key) (cond b (replacing (value ∷ [])) unchanged).values
+    by_test true = one_has (Passes key) value passes
     by_test false = none_has (Passes key)
+
+pub versions_pass : (pairs : List KeyValue) → AreAccepted pairs → AreAccepted (after versions pairs)
+versions_pass pairs all =
+    let first = taken pairs (correction (codes "ctx_ver") version) in
+    correction_passes (codes "ctx_enc") encoding (taken first (correction (codes "url_ver") version)) refl
+    (correction_passes (codes "url_ver") version first refl (correction_passes (codes "ctx_ver") version pairs refl all))
 
 pub copies_pass : (keys : List OldKey) (pairs : List KeyValue) → All (λ key. allows key.old key.new ≡ true) keys → AreAccepted pairs
     → AreAccepted (after (map copy keys) pairs)

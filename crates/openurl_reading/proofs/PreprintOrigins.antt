@@ -1,17 +1,18 @@
 -- What has its origin in the request, also after the steps of DOIs and of arXiv.
-use Rattle.std.proofs.Common.{◌≡◌, List, [], None, refl, sym, subst, ap, ◌∙◌, get_or, lit<}
+use Rattle.std.proofs.Common.{◌≡◌, List, [], None, refl, sym, subst, ap, ◌∙◌, inl, inr, get_or, lit<}
 use Rattle.std.specs.Prelude.{◌≢◌, codes}
 use Rattle.std.specs.List.{All}
 use Rattle.std.proofs.lemmas.List.Elements.{All-append}
 use Rattle.text_model.specs.Texts.{Text}
 use Rattle.kev_read.specs.Pairs.{KeyValue, all_of}
 use Rattle.work_identifiers.specs.declared.namespace.Namespace.{Namespace}
-use Rattle.work_identifiers.specs.declared.namespace.Namespace.TheVariants.{Doi, Pmid, Oclc, Pmc, Arxiv}
+use Rattle.work_identifiers.specs.declared.namespace.Namespace.TheVariants.{Doi, Arxiv}
 use Rattle.work_identifiers.specs.Forms.{IsIdentifier}
 use Rattle.work_identifiers.specs.Uris.{uri_of, registered, arxiv_doi}
 use Rattle.openurl_reading.specs.Steps.{taken}
 use Rattle.openurl_reading.specs.Identifiers.{identifier_of, identifier_keys, first_under, first_identifier, nameable, named, naming}
 use Rattle.openurl_reading.specs.Origins.{HasOrigin, doi_of_preprint}
+use Rattle.openurl_reading.proofs.Apart.{same_or_apart}
 use Rattle.openurl_reading.proofs.Each.{each_named}
 use Rattle.openurl_reading.proofs.FoundAre.{IsAll}
 use Rattle.openurl_reading.proofs.Identified.{IsPlain, AreIdentified, found_is, uri_has_none, some_same, none_given}
@@ -52,17 +53,22 @@ other_origin laws sent uri d same namespace apart n e =
     ap (identifier_of namespace (codes "rft_id")) same ∙ uri_has_none laws Doi namespace d apart in
     absurd (none_given (identifier_of namespace (codes "rft_id") uri) n none e)
 
--- the URI of a DOI has that DOI alone
-doi_origin : AreIdentified → (sent : List Text) (uri d : Text) → uri ≡ uri_of Doi d → IsIdentifier Doi d → HasOrigin sent d → HasOrigin sent uri
-    → GivesOrigin sent (codes "rft_id") uri
-doi_origin laws sent uri d same is has has_uri Doi plain n e =
+doi_alone : AreIdentified → (sent : List Text) (uri d : Text) → uri ≡ uri_of Doi d → IsIdentifier Doi d → HasOrigin sent d → HasOrigin sent uri
+    → IsAll (HasBoth sent Doi) (identifier_of Doi (codes "rft_id") uri)
+doi_alone laws sent uri d same is has has_uri n e =
     let one : d ≡ n =
     some_same (identifier_of Doi (codes "rft_id") uri) d n (ap (identifier_of Doi (codes "rft_id")) same ∙ plain_has laws Doi refl d is) e in
     (subst (HasOrigin sent) one has, subst (HasOrigin sent) (same ∙ ap (uri_of Doi) one) has_uri)
-doi_origin laws sent uri d same is has has_uri Pmid plain n e = other_origin laws sent uri d same Pmid (λ q. cc) n e
-doi_origin laws sent uri d same is has has_uri Oclc plain n e = other_origin laws sent uri d same Oclc (λ q. cc) n e
-doi_origin laws sent uri d same is has has_uri Pmc plain n e = other_origin laws sent uri d same Pmc (λ q. cc) n e
-doi_origin laws sent uri d same is has has_uri Arxiv plain n e = cc
+
+-- the URI of a DOI has that DOI alone
+doi_origin : AreIdentified → (sent : List Text) (uri d : Text) → uri ≡ uri_of Doi d → IsIdentifier Doi d → HasOrigin sent d → HasOrigin sent uri
+    → GivesOrigin sent (codes "rft_id") uri
+doi_origin laws sent uri d same is has has_uri namespace plain =
+    elim (same_or_apart namespace Doi) [
+      | inl doi ↦
+          subst (λ k. IsAll (HasBoth sent k) (identifier_of k (codes "rft_id") uri)) (sym doi) (doi_alone laws sent uri d same is has has_uri)
+      | inr other ↦ other_origin laws sent uri d same namespace (λ doi. other (sym plain ∙ doi))
+    ]
 
 preprint_gives : AreIdentified → (sent : List Text) (pairs : List KeyValue) → AreRead sent pairs
     → All (GivesOrigin sent (codes "rft_id")) (all_of (taken pairs (naming Arxiv)) (codes "rft_id"))

@@ -1,21 +1,17 @@
 -- After all steps, no step changes anything: each has done its work, and the later ones do not undo it.
-use Rattle.std.proofs.Common.{◌≡◌, List, [], ◌∷◌, ◌++◌, false, refl, sym, ap, ◌∙◌, subst, take, map}
+use Rattle.std.proofs.Common.{◌≡◌, List, [], ◌∷◌, true, not, refl, sym, ap, ◌∙◌, subst, take, map}
 use Rattle.std.specs.Prelude.{codes, slice_get}
-use Rattle.std.specs.List.{All}
+use Rattle.std.specs.List.{All, list_all}
 use Rattle.std.specs.Str.{bytes_eq}
-use Rattle.std.proofs.lemmas.List.Elements.{All-append, All-cons, All-tail}
+use Rattle.std.proofs.lemmas.List.Elements.{All-tail}
 use Rattle.text_model.specs.Texts.{Text}
 use Rattle.kev_read.specs.Pairs.{KeyValue, all_of, first_of}
-use Rattle.openurl_reading.specs.declared.kinds.Kind.{Kind}
-use Rattle.openurl_reading.specs.declared.kinds.Kind.TheVariants.{Book, Dissertation, Journal}
-use Rattle.openurl_reading.specs.DublinCore.{core_steps}
-use Rattle.openurl_reading.specs.Titles.{title_key, title_keys, of_title, titlings}
-use Rattle.openurl_reading.specs.Formats.{format_step}
-use Rattle.openurl_reading.specs.Steps.{Step, unchanged, taken, after}
+use Rattle.openurl_reading.specs.Steps.{unchanged, taken, after}
 use Rattle.openurl_reading.specs.Values.{led, searched}
-use Rattle.openurl_reading.specs.Versions.{correction}
+use Rattle.openurl_reading.specs.Versions.{version, encoding, correction}
 use Rattle.openurl_reading.specs.Fields.{fields}
 use Rattle.openurl_reading.specs.OldKeys.{old_keys, copied, copies}
+use Rattle.openurl_reading.specs.Citations.{citing_steps}
 use Rattle.openurl_reading.specs.Texts.{text_steps}
 use Rattle.openurl_reading.specs.Referrers.{referrer_of, referrer_step, referred}
 use Rattle.openurl_reading.specs.Numbers.{first_issn, first_eissn, first_isbn, eissn_among, issn_step, eissn_step, isbn_step}
@@ -27,14 +23,13 @@ use Rattle.openurl_reading.specs.Volumes.{added_issue_step, volume_step, issue_s
 use Rattle.openurl_reading.specs.Reading.{normal_form}
 use Rattle.openurl_reading.proofs.Firsts.{of_first}
 use Rattle.openurl_reading.proofs.DateLed.{rest_of, IsSettledAmong, date_settles, found_again}
-use Rattle.openurl_reading.proofs.CoreSettles.{core_settles}
+use Rattle.openurl_reading.proofs.CitingSteps.{citing_settles}
 use Rattle.openurl_reading.proofs.FieldsCopied.{fields_settle}
 use Rattle.openurl_reading.proofs.Filled.{KeepsKey, filled_unchanged, fill-fills, all_keep_filled}
 use Rattle.openurl_reading.proofs.FoundAgain.{AreFoundAgain, issn_among, issn_again, further_among, eissn_again, isbn_among, isbn_again}
 use Rattle.openurl_reading.proofs.Identified.{AreIdentified}
-use Rattle.openurl_reading.proofs.Each.{one_has}
-use Rattle.openurl_reading.proofs.Formatted.{format_settles}
-use Rattle.openurl_reading.proofs.KeysSettle.{apart, same_after, version_settles, first_referrer, referral, format_keeps, led_keep, last_keep, copies_settle}
+use Rattle.openurl_reading.proofs.KindsSettle.{kinds_settle}
+use Rattle.openurl_reading.proofs.KeysSettle.{apart, same_after, correction_settles, first_referrer, referral, led_keep, copies_settle}
 use Rattle.openurl_reading.proofs.Led.{led_settles}
 use Rattle.openurl_reading.proofs.NamedPreprints.{works_named}
 use Rattle.openurl_reading.proofs.PagesLed.{ArePagesAgain, first_of_values, end_of_values, first_again, same_leading, last_settles}
@@ -42,7 +37,6 @@ use Rattle.openurl_reading.proofs.Settled.{AreVolumesSettled, IsSettled, IsDateS
 use Rattle.openurl_reading.proofs.Stages.{after_dates, after_volumes, kind_steps, led_steps, last_steps, with_versions, with_fields, last-is}
 use Rattle.openurl_reading.proofs.Stages.{normal_form-led}
 use Rattle.openurl_reading.proofs.TextsRead.{AreReadOnce, texts_settle}
-use Rattle.openurl_reading.proofs.Titled.{all_unchanged, titlings_fill}
 use Rattle.openurl_reading.proofs.Values.{values_after, all_of-taken, all_of-taken-own}
 use Rattle.openurl_reading.proofs.VolumesFound.{AreNumbersAgain}
 use Rattle.openurl_reading.proofs.VolumesLed.{with_added, with_volume, with_issue, volumes_settle}
@@ -175,36 +169,17 @@ first_page_settles again before =
     (sym (same_after namings (taken before first_page_step) key refl ∙ all_of-taken-own first_page_step before))
     (led_settles (first_of_values number pages) values (first_again again number pages values))))
 
--- the elements of Dublin Core, the titles, and then the format
-kinds_settle : (before : List KeyValue) → All (λ step. step.change (after last_steps (after kind_steps before)) ≡ unchanged) kind_steps
-kinds_settle before =
-    let core = after core_steps before in
-    let titled = after titlings core in
-    let now = after last_steps (taken titled format_step) in
-    let one = titlings_fill core in
-    let key = of_title (title_key one.0) in
-    let P : Step → Type 0 = λ step. step.change now ≡ unchanged in
-    All-append P core_steps (titlings ++ format_step ∷ []) (core_settles before)
-    (All-append P titlings (format_step ∷ [])
-    (all_unchanged title_keys one.0 now
-    (all_keep_filled key (format_step ∷ last_steps) titled (apart (format_step ∷ last_steps) (codes "title") refl)
-    (All-cons (KeepsKey key.new) format_step last_steps (format_keeps key.new) (last_keep key.new (date_apart one.0))) one.1))
-    (one_has P format_step (format_settles titled)))
-  where
-    date_apart : (kind : Kind) → bytes_eq (codes "rft.date") (title_key kind) ≡ false
-    date_apart Book = refl
-    date_apart Dissertation = refl
-    date_apart Journal = refl
-
 settled_stages : AreReadOnce → AreFoundAgain → AreNumbersAgain → ArePagesAgain → AreIdentified → (pairs : List KeyValue)
-    → IsSettled (after led_steps (after text_steps (after kind_steps (after copies (with_fields pairs)))))
+    → IsSettled (after led_steps (after text_steps (after citing_steps (after kind_steps (after copies (with_fields pairs))))))
 settled_stages texts_once laws numbers pages identified pairs =
-    let first = taken pairs (correction (codes "ctx_ver")) in
+    let first = taken pairs (correction (codes "ctx_ver") version) in
+    let stated = taken first (correction (codes "url_ver") version) in
     let second = with_versions pairs in
     let third = with_fields pairs in
     let copied_all = after copies third in
     let kinds = after kind_steps copied_all in
-    let texts = after text_steps kinds in
+    let cited = after citing_steps kinds in
+    let texts = after text_steps cited in
     let named = taken texts referrer_step in
     let issns = taken named issn_step in
     let eissns = taken issns eissn_step in
@@ -213,20 +188,27 @@ settled_stages texts_once laws numbers pages identified pairs =
     let placed = after volume_steps dates in
     let now = after led_steps texts in
     let last : after last_steps kinds ≡ now = last-is kinds in
+    let later : (key : Text) → list_all (λ step. not (bytes_eq step.key key)) led_steps ≡ true
+    → list_all (λ step. not (bytes_eq step.key key)) text_steps ≡ true → list_all (λ step. not (bytes_eq step.key key)) citing_steps ≡ true
+    → list_all (λ step. not (bytes_eq step.key key)) kind_steps ≡ true
+    → list_all (λ step. not (bytes_eq step.key key)) copies ≡ true → list_all (λ step. not (bytes_eq step.key key)) fields ≡ true
+    → all_of now key ≡ all_of second key =
+    λ key a b f c d e. same_after led_steps texts key a ∙ same_after text_steps cited key b ∙ same_after citing_steps kinds key f
+    ∙ same_after kind_steps copied_all key c
+    ∙ same_after copies third key d ∙ same_after fields second key e in
     record {
-      context = version_settles (codes "ctx_ver") pairs now
-          (same_after led_steps texts (codes "ctx_ver") refl ∙ same_after text_steps kinds (codes "ctx_ver") refl
-          ∙ same_after kind_steps copied_all (codes "ctx_ver") refl
-          ∙ same_after copies third (codes "ctx_ver") refl ∙ same_after fields second (codes "ctx_ver") refl
-          ∙ all_of-taken (correction (codes "url_ver")) first (codes "ctx_ver") refl);
-      transport = version_settles (codes "url_ver") first now
-          (same_after led_steps texts (codes "url_ver") refl ∙ same_after text_steps kinds (codes "url_ver") refl
-          ∙ same_after kind_steps copied_all (codes "url_ver") refl
-          ∙ same_after copies third (codes "url_ver") refl ∙ same_after fields second (codes "url_ver") refl);
+      context = correction_settles (codes "ctx_ver") version pairs now
+          (later (codes "ctx_ver") refl refl refl refl refl refl
+          ∙ same_after (correction (codes "url_ver") version ∷ correction (codes "ctx_enc") encoding ∷ []) first (codes "ctx_ver") refl);
+      transport = correction_settles (codes "url_ver") version first now
+          (later (codes "url_ver") refl refl refl refl refl refl
+          ∙ same_after (correction (codes "ctx_enc") encoding ∷ []) stated (codes "url_ver") refl);
+      encoding = correction_settles (codes "ctx_enc") encoding stated now (later (codes "ctx_enc") refl refl refl refl refl refl);
       fields = subst (λ p. All (λ step. step.change p ≡ unchanged) fields) last (fields_settle second);
       copies = subst (λ p. All (λ key. copied key p ≡ unchanged) old_keys) last (copies_settle third);
       kinds = subst (λ p. All (λ step. step.change p ≡ unchanged) kind_steps) last (kinds_settle copied_all);
-      texts = texts_settle texts_once kinds;
+      cited = citing_settles texts_once kinds;
+      texts = texts_settle texts_once cited;
       referrer = referrer_settles texts;
       issn = issn_settles laws named;
       eissn = eissn_settles laws issns;

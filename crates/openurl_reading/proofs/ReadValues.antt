@@ -6,22 +6,21 @@ use Rattle.std.specs.Str.{bytes_eq}
 use Rattle.std.proofs.lemmas.List.Elements.{All-take, All-map}
 use Rattle.text_model.specs.Texts.{Text}
 use Rattle.kev_read.specs.Pairs.{KeyValue, all_of, first_of}
-use Rattle.kev_read.specs.Refusal.{is_other_version}
 use Rattle.openurl_reading.specs.Steps.{Step, unchanged, replacing, taken, after}
 use Rattle.openurl_reading.specs.Values.{most_values}
-use Rattle.openurl_reading.specs.Versions.{version, correction}
+use Rattle.openurl_reading.specs.Versions.{version, encoding, is_other, correction, versions}
 use Rattle.openurl_reading.specs.Fields.{number_fields, identifier_fields, fields}
 use Rattle.openurl_reading.specs.OldKeys.{OldKey, copy, copying}
 use Rattle.openurl_reading.specs.Referrers.{referrer_of, referrer_step}
 use Rattle.openurl_reading.specs.Numbers.{first_issn, first_eissn, first_isbn, issn_step, eissn_step, isbn_step}
 use Rattle.openurl_reading.specs.Dates.{date_keys, first_date, led_or_none, date_step}
 use Rattle.openurl_reading.specs.Kinds.{kind_of}
-use Rattle.openurl_reading.specs.DublinCore.{is_core, creator, is_typed, core_type, core_titles, core_steps}
+use Rattle.openurl_reading.specs.DublinCore.{is_core, creator, is_typed, core_type, is_sourced, core_source, core_titles, core_steps}
 use Rattle.openurl_reading.specs.Titles.{title_key, of_title, titlings}
 use Rattle.openurl_reading.specs.Formats.{format_of, format_step}
-use Rattle.openurl_reading.specs.Origins.{HasOrigin, version_of_openurl, format_of_kind, source_in}
+use Rattle.openurl_reading.specs.Origins.{HasOrigin, version_of_openurl, encoding_of_readings, format_of_kind, source_in}
 use Rattle.openurl_reading.proofs.Copied.{IsCopyOf, no_copy, one_copy}
-use Rattle.openurl_reading.proofs.CoreCopied.{creator-is, type-is, titles-is}
+use Rattle.openurl_reading.proofs.CoreCopied.{creator-is, type-is, source-is, titles-is}
 use Rattle.openurl_reading.proofs.Each.{none_has, one_has, each_taken, each_of_key, each_filled, each_led}
 use Rattle.openurl_reading.proofs.FieldsCopied.{number-is, identifier-is}
 use Rattle.openurl_reading.proofs.FoundAgain.{AreFoundAgain, issn_among_again, eissn_among_again, isbn_among_again}
@@ -45,12 +44,20 @@ step_has sent step pairs values all = each_taken (λ pair. HasOrigin sent pair.v
 under_has : (sent : List Text) (pairs : List KeyValue) (key : Text) → HaveOrigin sent pairs → All (HasOrigin sent) (all_of pairs key)
 under_has sent pairs key all = each_of_key (λ pair. HasOrigin sent pair.value) (HasOrigin sent) key (λ pair h has. has) pairs all
 
-pub version_has : (sent : List Text) (key : Text) (pairs : List KeyValue) → HaveOrigin sent pairs → HaveOrigin sent (taken pairs (correction key))
-version_has sent key pairs all = step_has sent (correction key) pairs (by_test (is_other_version (first_of pairs key))) all
+correction_has : (sent : List Text) (key value : Text) (pairs : List KeyValue) → HasOrigin sent value → HaveOrigin sent pairs
+    → HaveOrigin sent (taken pairs (correction key value))
+correction_has sent key value pairs has all = step_has sent (correction key value) pairs (by_test (is_other value (first_of pairs key))) all
   where
-    by_test : (b : Bool) → All (HasOrigin sent) (cond b (replacing (version ∷ [])) unchanged).values
-    by_test true = one_has (HasOrigin sent) version version_of_openurl
+    by_test : (b : Bool) → All (HasOrigin sent) (cond b (replacing (value ∷ [])) unchanged).values
+    by_test true = one_has (HasOrigin sent) value has
     by_test false = none_has (HasOrigin sent)
+
+pub versions_have : (sent : List Text) (pairs : List KeyValue) → HaveOrigin sent pairs → HaveOrigin sent (after versions pairs)
+versions_have sent pairs all =
+    let first = taken pairs (correction (codes "ctx_ver") version) in
+    correction_has sent (codes "ctx_enc") encoding (taken first (correction (codes "url_ver") version)) encoding_of_readings
+    (correction_has sent (codes "url_ver") version first version_of_openurl
+    (correction_has sent (codes "ctx_ver") version pairs version_of_openurl all))
 
 pub copies_have : (sent : List Text) (keys : List OldKey) (pairs : List KeyValue) → HaveOrigin sent pairs → HaveOrigin sent (after (map copy keys) pairs)
 copies_have sent [] pairs all = all
@@ -76,8 +83,10 @@ pub core_has : (sent : List Text) (pairs : List KeyValue) → HaveOrigin sent pa
 core_has sent pairs all =
     let first = taken pairs (copying is_core creator) in
     let second = taken first (copying is_typed core_type) in
-    copy_of_has sent (codes "rft.title") second (after core_titles second) (titles-is second)
-    (copy_of_has sent (codes "rft.type") first second (type-is first) (copy_of_has sent (codes "rft.creator") pairs first (creator-is pairs) all))
+    let third = taken second (copying is_sourced core_source) in
+    copy_of_has sent (codes "rft.title") third (after core_titles third) (titles-is third)
+    (copy_of_has sent (codes "rft.source") second third (source-is second)
+    (copy_of_has sent (codes "rft.type") first second (type-is first) (copy_of_has sent (codes "rft.creator") pairs first (creator-is pairs) all)))
 
 pub titlings_have : (sent : List Text) (pairs : List KeyValue) → HaveOrigin sent pairs → HaveOrigin sent (after titlings pairs)
 titlings_have sent pairs all =
@@ -97,7 +106,7 @@ format_has sent (pair ∷ pairs) all =
 referrer_has : (sent : List Text) (pairs : List KeyValue) → AreKept sent pairs → HaveOrigin sent pairs → HaveOrigin sent (taken pairs referrer_step)
 referrer_has sent pairs is all =
     let sids = take 1 (all_of pairs (codes "sid")) in
-    let known = All-take (Contains sent) 1 (all_of pairs (codes "sid")) (is (codes "sid") (refl, refl, refl, refl)) in
+    let known = All-take (Contains sent) 1 (all_of pairs (codes "sid")) (is (codes "sid") (refl, refl)) in
     step_has sent referrer_step pairs
     (each_filled (HasOrigin sent) (map referrer_of sids) (all_of pairs (codes "rfr_id"))
     (All-map (HasOrigin sent) referrer_of sids (λ k d h. source_in (get_or sids k d) (known k d h)))) all
@@ -145,12 +154,12 @@ pub referrer_reads : (sent : List Text) (pairs : List KeyValue) → AreKept sent
 referrer_reads sent pairs is all =
     let under : (key : Text) → IsUnread key → All (Contains sent) (all_of pairs key) = λ key other. is key other in
     record {
-      issns = kept_under (GivesIssns sent) referrer_step pairs (codes "rft.issn") refl (give_issns sent _ (under (codes "rft.issn") (refl, refl, refl, refl)));
+      issns = kept_under (GivesIssns sent) referrer_step pairs (codes "rft.issn") refl (give_issns sent _ (under (codes "rft.issn") (refl, refl)));
       eissns = kept_under (GivesIssns sent) referrer_step pairs (codes "rft.eissn") refl
-          (give_issns sent _ (under (codes "rft.eissn") (refl, refl, refl, refl)));
-      isbns = kept_under (GivesIsbns sent) referrer_step pairs (codes "rft.isbn") refl (give_isbns sent _ (under (codes "rft.isbn") (refl, refl, refl, refl)));
+          (give_issns sent _ (under (codes "rft.eissn") (refl, refl)));
+      isbns = kept_under (GivesIsbns sent) referrer_step pairs (codes "rft.isbn") refl (give_isbns sent _ (under (codes "rft.isbn") (refl, refl)));
       eisbns = kept_under (GivesIsbns sent) referrer_step pairs (codes "rft.eisbn") refl
-          (give_isbns sent _ (under (codes "rft.eisbn") (refl, refl, refl, refl)));
+          (give_isbns sent _ (under (codes "rft.eisbn") (refl, refl)));
       all = referrer_has sent pairs is all;
     }
 
@@ -198,8 +207,8 @@ dates_under sent copied is =
     let under : (key : Text) → IsUnread key → list_all (λ step. not (bytes_eq step.key key)) steps ≡ true
     → All (Contains sent) (all_of (after steps copied) key) =
     λ key other h. subst (All (Contains sent)) (sym (same_after steps copied key h)) (is key other) in
-    dates_have sent _ _ _ _ (under (codes "rft.date") (refl, refl, refl, refl) refl) (under (codes "rft.year") (refl, refl, refl, refl) refl)
-    (under (codes "date") (refl, refl, refl, refl) refl) (under (codes "year") (refl, refl, refl, refl) refl)
+    dates_have sent _ _ _ _ (under (codes "rft.date") (refl, refl) refl) (under (codes "rft.year") (refl, refl) refl)
+    (under (codes "date") (refl, refl) refl) (under (codes "year") (refl, refl) refl)
 
 -- a step of another key
 pub other_reads : (sent : List Text) (step : Step) (pairs : List KeyValue) → All (λ key. bytes_eq step.key key ≡ false) number_keys

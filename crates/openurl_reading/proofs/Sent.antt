@@ -9,39 +9,41 @@ use Rattle.std.proofs.lemmas.List.{get_or-map, length-map}
 use Rattle.std.proofs.lemmas.List.Elements.{All-take, All-filter, All-head, All-tail, Contains-get_or}
 use Rattle.text_model.specs.Texts.{Text}
 use Rattle.kev_read.specs.Pairs.{KeyValue, all_of, first_of}
-use Rattle.kev_read.specs.Refusal.{is_other_version}
-use Rattle.openurl_reading.specs.Counting.{is_accepted, most_pairs, accepted, counting}
+use Rattle.openurl_reading.specs.Counting.{is_one_of, is_accepted, most_pairs, accepted, counting}
 use Rattle.openurl_reading.specs.Steps.{unchanged, replacing, taken, after}
 use Rattle.openurl_reading.specs.Values.{most_values}
-use Rattle.openurl_reading.specs.Versions.{version, correction}
+use Rattle.openurl_reading.specs.Versions.{version, encoding, is_other, correction}
 use Rattle.openurl_reading.specs.Fields.{number_fields, identifier_fields, fields}
 use Rattle.openurl_reading.specs.OldKeys.{OldKey, old_keys, copy, copying, copies}
 use Rattle.openurl_reading.specs.Kinds.{kind_of}
-use Rattle.openurl_reading.specs.DublinCore.{is_core, creator, is_typed, core_type, core_titles, core_steps}
+use Rattle.openurl_reading.specs.DublinCore.{is_core, creator, is_typed, core_type, is_sourced, core_source, core_titles, core_steps}
 use Rattle.openurl_reading.specs.Titles.{title_key, of_title, titlings}
 use Rattle.openurl_reading.specs.Formats.{format_of, format_step}
 use Rattle.openurl_reading.specs.Texts.{text_steps}
 use Rattle.openurl_reading.specs.Origins.{all_values}
 use Rattle.openurl_reading.proofs.Copied.{IsCopyOf, no_copy, one_copy}
-use Rattle.openurl_reading.proofs.CoreCopied.{creator-is, type-is, titles-is}
+use Rattle.openurl_reading.proofs.CoreCopied.{creator-is, type-is, source-is, titles-is}
 use Rattle.openurl_reading.proofs.Each.{none_has, one_has, each_taken, each_of_key, each_filled}
 use Rattle.openurl_reading.proofs.FieldsCopied.{number-is, identifier-is}
 use Rattle.openurl_reading.proofs.Stages.{kind_steps, with_versions, with_fields}
 use Rattle.openurl_reading.proofs.Titled.{titlings-are}
 use Rattle.openurl_reading.proofs.Values.{same_key}
 
-abbrev pub IsNoConstant : Text → Type 0
-IsNoConstant key = (bytes_eq key (codes "ctx_ver") ≡ false) × (bytes_eq key (codes "url_ver") ≡ false) × (bytes_eq key (codes "rft_val_fmt") ≡ false)
+-- the keys of versions, of the encoding and of the format
+abbrev pub constant_keys : List Text
+constant_keys = codes "ctx_ver" ∷ codes "url_ver" ∷ codes "ctx_enc" ∷ codes "rft_val_fmt" ∷ []
 
--- unless it is a version or a format, the value is one of these
+abbrev pub IsNoConstant : Text → Type 0
+IsNoConstant key = is_one_of constant_keys key ≡ false
+
+-- unless it is under one of these, the value is one of these
 abbrev pub IsSent : List Text → KeyValue → Type 0
 IsSent sent pair = IsNoConstant pair.key → Contains sent pair.value
 
 -- no constant, and no text
 abbrev pub IsUnread : Text → Type 0
 IsUnread key =
-    (bytes_eq key (codes "ctx_ver") ≡ false) × (bytes_eq key (codes "url_ver") ≡ false) × (bytes_eq key (codes "rft_val_fmt") ≡ false)
-    × (list_all (λ step. not (bytes_eq step.key key)) text_steps ≡ true)
+    IsNoConstant key × (list_all (λ step. not (bytes_eq step.key key)) text_steps ≡ true)
 
 -- the values of each such key are among these
 abbrev pub AreKept : List Text → List KeyValue → Type 0
@@ -63,18 +65,20 @@ counting_values request =
 
 -- ---- after versions, old keys, and what the kind gives
 
-version_sent : (sent : List Text) (key : Text) (pairs : List KeyValue) → (IsNoConstant key → Contains sent version)
-    → All (IsSent sent) pairs → All (IsSent sent) (taken pairs (correction key))
-version_sent sent key pairs none all = each_taken (IsSent sent) (correction key) pairs (by_test (is_other_version (first_of pairs key))) all
+correction_sent : (sent : List Text) (key value : Text) (pairs : List KeyValue) → (IsNoConstant key → Contains sent value)
+    → All (IsSent sent) pairs → All (IsSent sent) (taken pairs (correction key value))
+correction_sent sent key value pairs none all = each_taken (IsSent sent) (correction key value) pairs (by_test (is_other value (first_of pairs key))) all
   where
-    by_test : (b : Bool) → All (λ v. IsSent sent (record { key = key; value = v })) (cond b (replacing (version ∷ [])) unchanged).values
-    by_test true = one_has (λ v. IsSent sent (record { key = key; value = v })) version none
+    by_test : (b : Bool) → All (λ v. IsSent sent (record { key = key; value = v })) (cond b (replacing (value ∷ [])) unchanged).values
+    by_test true = one_has (λ v. IsSent sent (record { key = key; value = v })) value none
     by_test false = none_has (λ v. IsSent sent (record { key = key; value = v }))
 
 versions_sent : (sent : List Text) (pairs : List KeyValue) → All (IsSent sent) pairs → All (IsSent sent) (with_versions pairs)
 versions_sent sent pairs all =
-    version_sent sent (codes "url_ver") (taken pairs (correction (codes "ctx_ver"))) (λ other. cc)
-    (version_sent sent (codes "ctx_ver") pairs (λ other. cc) all)
+    let first = taken pairs (correction (codes "ctx_ver") version) in
+    correction_sent sent (codes "ctx_enc") encoding (taken first (correction (codes "url_ver") version)) (λ other. cc)
+    (correction_sent sent (codes "url_ver") version first (λ other. cc)
+    (correction_sent sent (codes "ctx_ver") version pairs (λ other. cc) all))
 
 -- the values of a key that is no constant are those of the request
 pub sent_under : (sent : List Text) (pairs : List KeyValue) (key : Text) → IsNoConstant key → All (IsSent sent) pairs → All (Contains sent) (all_of pairs key)
@@ -94,11 +98,7 @@ copies_sent sent (key ∷ keys) pairs others all =
     (each_filled Q (take most_values values) (all_of pairs key.new) (All-take Q most_values values (λ k d h any. known k d h))) all)
 
 no_constants : All (λ key. IsNoConstant key.old) old_keys
-no_constants k d h = (
-  not-true _ (AllPass-from_list_all (λ key. not (bytes_eq key.old (codes "ctx_ver"))) old_keys refl k d h),
-  not-true _ (AllPass-from_list_all (λ key. not (bytes_eq key.old (codes "url_ver"))) old_keys refl k d h),
-  not-true _ (AllPass-from_list_all (λ key. not (bytes_eq key.old (codes "rft_val_fmt"))) old_keys refl k d h),
-)
+no_constants k d h = not-true _ (AllPass-from_list_all (λ key. not (is_one_of constant_keys key.old)) old_keys refl k d h)
 
 titlings_sent : (sent : List Text) (pairs : List KeyValue) → All (IsSent sent) pairs → All (IsSent sent) (after titlings pairs)
 titlings_sent sent pairs all =
@@ -106,7 +106,7 @@ titlings_sent sent pairs all =
     elim (titlings-are pairs) [
       | inl same ↦ subst (All (IsSent sent)) (sym same) all
       | inr one ↦ subst (All (IsSent sent)) (sym one)
-          (copies_sent sent (key ∷ []) pairs (one_has (λ (key : OldKey). IsNoConstant key.old) key (refl, refl, refl)) all)
+          (copies_sent sent (key ∷ []) pairs (one_has (λ (key : OldKey). IsNoConstant key.old) key refl) all)
     ]
 
 format_sent : (sent : List Text) (pairs : List KeyValue) → All (IsSent sent) pairs → All (IsSent sent) (taken pairs format_step)
@@ -127,16 +127,18 @@ copy_of_sent sent old pairs next other (one_copy new may one) all =
 fields_sent : (sent : List Text) (pairs : List KeyValue) → All (IsSent sent) pairs → All (IsSent sent) (after fields pairs)
 fields_sent sent pairs all =
     let next = after number_fields pairs in
-    copy_of_sent sent (codes "identifier") next (after identifier_fields next) (refl, refl, refl) (identifier-is next)
-    (copy_of_sent sent (codes "number") pairs next (refl, refl, refl) (number-is pairs) all)
+    copy_of_sent sent (codes "identifier") next (after identifier_fields next) refl (identifier-is next)
+    (copy_of_sent sent (codes "number") pairs next refl (number-is pairs) all)
 
 core_sent : (sent : List Text) (pairs : List KeyValue) → All (IsSent sent) pairs → All (IsSent sent) (after core_steps pairs)
 core_sent sent pairs all =
     let first = taken pairs (copying is_core creator) in
     let second = taken first (copying is_typed core_type) in
-    copy_of_sent sent (codes "rft.title") second (after core_titles second) (refl, refl, refl) (titles-is second)
-    (copy_of_sent sent (codes "rft.type") first second (refl, refl, refl) (type-is first)
-    (copy_of_sent sent (codes "rft.creator") pairs first (refl, refl, refl) (creator-is pairs) all))
+    let third = taken second (copying is_sourced core_source) in
+    copy_of_sent sent (codes "rft.title") third (after core_titles third) refl (titles-is third)
+    (copy_of_sent sent (codes "rft.source") second third refl (source-is second)
+    (copy_of_sent sent (codes "rft.type") first second refl (type-is first)
+    (copy_of_sent sent (codes "rft.creator") pairs first refl (creator-is pairs) all)))
 
 pub kind_sent : (sent : List Text) (pairs : List KeyValue) → All (λ pair. Contains sent pair.value) pairs
     → All (IsSent sent) (after kind_steps (after copies (with_fields pairs)))

@@ -5,12 +5,12 @@ use Rattle.std.specs.List.{All}
 use Rattle.std.proofs.lemmas.List.Elements.{All-head, All-tail}
 use Rattle.text_model.specs.Texts.{Text}
 use Rattle.kev_read.specs.Pairs.{KeyValue, has_key, all_of, first_of}
-use Rattle.kev_read.specs.Refusal.{is_other_version}
 use Rattle.openurl_reading.specs.Steps.{Change, Step, unchanged, replacing, others, changed, taken, after}
 use Rattle.openurl_reading.specs.Values.{led}
-use Rattle.openurl_reading.specs.Versions.{correction}
+use Rattle.openurl_reading.specs.Versions.{version, encoding, is_other, correction}
 use Rattle.openurl_reading.specs.Fields.{fields}
 use Rattle.openurl_reading.specs.OldKeys.{OldKey, old_keys, filled, copied, copy, copies}
+use Rattle.openurl_reading.specs.Citations.{citing_steps}
 use Rattle.openurl_reading.specs.Texts.{text_steps}
 use Rattle.openurl_reading.specs.Referrers.{referred, referrer_step}
 use Rattle.openurl_reading.specs.Numbers.{first_issn, first_eissn, first_isbn, issn_step, eissn_step, isbn_step}
@@ -41,11 +41,13 @@ pub record AreVolumesSettled (issues volumes : List Text) : Type 0 where
   pub issue : led (of_first (issue_in (slice_get volumes 0)) issues) (slice_get issues 0) ≡ unchanged
 
 pub record IsSettled (pairs : List KeyValue) : Type 0 where
-  pub context : is_other_version (first_of pairs (codes "ctx_ver")) ≡ false
-  pub transport : is_other_version (first_of pairs (codes "url_ver")) ≡ false
+  pub context : is_other version (first_of pairs (codes "ctx_ver")) ≡ false
+  pub transport : is_other version (first_of pairs (codes "url_ver")) ≡ false
+  pub encoding : is_other encoding (first_of pairs (codes "ctx_enc")) ≡ false
   pub fields : All (λ step. step.change pairs ≡ unchanged) fields
   pub copies : All (λ key. copied key pairs ≡ unchanged) old_keys
   pub kinds : All (λ step. step.change pairs ≡ unchanged) kind_steps
+  pub cited : All (λ step. step.change pairs ≡ unchanged) citing_steps
   pub texts : All (λ step. step.change pairs ≡ unchanged) text_steps
   pub referrer : referred pairs ≡ unchanged
   pub issn : led (first_issn pairs) (first_of pairs (codes "rft.issn")) ≡ unchanged
@@ -85,8 +87,8 @@ others-none key (pair ∷ pairs) h =
 stays-replaced : (step : Step) (pairs : List KeyValue) → step.change pairs ≡ replacing [] → all_of pairs step.key ≡ [] → taken pairs step ≡ pairs
 stays-replaced step pairs h none = ap (λ change. changed step.key change pairs) h ∙ others-none step.key pairs none
 
-correction-stays : (key : Text) (pairs : List KeyValue) → is_other_version (first_of pairs key) ≡ false → taken pairs (correction key) ≡ pairs
-correction-stays key pairs h = stays-unchanged (correction key) pairs (rw h refl)
+correction-stays : (key value : Text) (pairs : List KeyValue) → is_other value (first_of pairs key) ≡ false → taken pairs (correction key value) ≡ pairs
+correction-stays key value pairs h = stays-unchanged (correction key value) pairs (rw h refl)
 
 copies-stay : (keys : List OldKey) (pairs : List KeyValue) → All (λ key. copied key pairs ≡ unchanged) keys → after (map copy keys) pairs ≡ pairs
 copies-stay [] pairs all = refl
@@ -132,10 +134,13 @@ led-stay pairs is =
 pub settled_stays : (pairs : List KeyValue) → IsSettled pairs → normal_form pairs ≡ pairs
 settled_stays pairs is =
     let first : with_versions pairs ≡ pairs =
-    ap (λ p. taken p (correction (codes "url_ver"))) (correction-stays (codes "ctx_ver") pairs is.context)
-    ∙ correction-stays (codes "url_ver") pairs is.transport in
-    normal_form-led pairs ∙ ap (λ p. after led_steps (after text_steps (after kind_steps (after copies (after fields p))))) first
-    ∙ ap (λ p. after led_steps (after text_steps (after kind_steps (after copies p)))) (steps-stay fields pairs is.fields)
-    ∙ ap (λ p. after led_steps (after text_steps (after kind_steps p))) (copies-stay old_keys pairs is.copies)
-    ∙ ap (λ p. after led_steps (after text_steps p)) (steps-stay kind_steps pairs is.kinds)
+    ap (after (correction (codes "url_ver") version ∷ correction (codes "ctx_enc") encoding ∷ []))
+    (correction-stays (codes "ctx_ver") version pairs is.context)
+    ∙ ap (after (correction (codes "ctx_enc") encoding ∷ [])) (correction-stays (codes "url_ver") version pairs is.transport)
+    ∙ correction-stays (codes "ctx_enc") encoding pairs is.encoding in
+    normal_form-led pairs ∙ ap (λ p. after led_steps (after text_steps (after citing_steps (after kind_steps (after copies (after fields p)))))) first
+    ∙ ap (λ p. after led_steps (after text_steps (after citing_steps (after kind_steps (after copies p))))) (steps-stay fields pairs is.fields)
+    ∙ ap (λ p. after led_steps (after text_steps (after citing_steps (after kind_steps p)))) (copies-stay old_keys pairs is.copies)
+    ∙ ap (λ p. after led_steps (after text_steps (after citing_steps p))) (steps-stay kind_steps pairs is.kinds)
+    ∙ ap (λ p. after led_steps (after text_steps p)) (steps-stay citing_steps pairs is.cited)
     ∙ ap (after led_steps) (steps-stay text_steps pairs is.texts) ∙ led-stay pairs is

@@ -3,29 +3,30 @@ use Rattle.std.proofs.Common.{◌≡◌, ℕ, ◌+◌, ◌≤◌, ◌*◌, List,
 use Rattle.std.proofs.Common.{Option, Some, None, refl, subst, sym, length, arith}
 use Rattle.std.specs.Prelude.{codes}
 use Rattle.std.specs.List.{sum_by}
-use Rattle.std.specs.Option.{option_map}
 use Rattle.std.proofs.lemmas.List.Sums.{sum_by-take-le, sum_by-cons, sum_by-append}
 use Rattle.text_model.specs.Texts.{Text}
 use Rattle.kev_read.specs.Pairs.{KeyValue, all_of, first_of}
 use Rattle.openurl_reading.specs.Counting.{is_accepted, most_pairs, accepted, counting}
 use Rattle.openurl_reading.specs.Steps.{taken, after}
-use Rattle.openurl_reading.specs.Versions.{correction}
+use Rattle.openurl_reading.specs.Versions.{version, encoding, correction}
 use Rattle.openurl_reading.specs.Fields.{fields}
 use Rattle.openurl_reading.specs.OldKeys.{copies}
+use Rattle.openurl_reading.specs.Citations.{citing_steps}
 use Rattle.openurl_reading.specs.Texts.{text_steps}
 use Rattle.openurl_reading.specs.Referrers.{namespace, referrer_step}
-use Rattle.openurl_reading.specs.Numbers.{first_number, first_issn, first_eissn, first_isbn, issn_step, eissn_step, isbn_step}
-use Rattle.openurl_reading.specs.Dates.{date_keys, first_date, date_under, led_or_none, date_step}
+use Rattle.openurl_reading.specs.Numbers.{first_issn, first_eissn, first_isbn, issn_step, eissn_step, isbn_step}
+use Rattle.openurl_reading.specs.Dates.{date_keys, first_date, led_or_none, date_step}
 use Rattle.work_identifiers.specs.declared.namespace.Namespace.{Namespace}
 use Rattle.work_identifiers.specs.declared.namespace.Namespace.TheVariants.{Doi, Pmid, Oclc, Pmc, Arxiv}
 use Rattle.work_identifiers.specs.Forms.{IsIdentifier}
-use Rattle.openurl_reading.specs.Identifiers.{first_under, nameable, naming, namings}
+use Rattle.openurl_reading.specs.Identifiers.{nameable, naming, namings}
 use Rattle.openurl_reading.specs.Pages.{first_page, last_page, first_page_step, last_page_step, page_steps}
 use Rattle.openurl_reading.specs.Volumes.{added_issue, volume, issue, added_issue_step, volume_step, issue_step, volume_steps}
-use Rattle.openurl_reading.specs.Reading.{normal_form, added, issns_of, second_issn, days_of, with_derived}
-use Rattle.openurl_reading.proofs.Additions.{day_is}
-use Rattle.openurl_reading.proofs.Identified.{IsPlain, under_is, first_is, nameable_is, of_is}
-use Rattle.openurl_reading.proofs.KeysWeigh.{AreLight, AreFormatsLight, all_three, both_others, version_weighs, keys_weigh}
+use Rattle.openurl_reading.specs.Reading.{normal_form, with_derived}
+use Rattle.openurl_reading.proofs.Cited.{AreCitedLight}
+use Rattle.openurl_reading.proofs.DerivedWeigh.{AreEncodedLight, derived_weigh}
+use Rattle.openurl_reading.proofs.Identified.{first_is, nameable_is, of_is}
+use Rattle.openurl_reading.proofs.KeysWeigh.{AreLight, AreFormatsLight, all_three, both_others, correction_weighs, keys_weigh}
 use Rattle.openurl_reading.proofs.VolumeLaws.{AreFoundNumbers, added_issue_is, found_volume_is, found_issue_is}
 use Rattle.openurl_reading.proofs.PagesFound.{ArePagesShort, first_page_is, last_page_is, article_short}
 use Rattle.openurl_reading.proofs.Stages.{after_dates, kind_steps, led_steps, with_versions, normal_form-led}
@@ -135,70 +136,30 @@ last_weigh g m r p q u light numbers pages pairs =
     date_weighs None first h = omega arith
     date_weighs (Some d) first h = led_weighs g m (Some d) first h
 
-added_weighs : (g : Text → ℕ) (m : ℕ) (key : Text) (value : Option Text) → ((n : Text) → value ≡ Some n → g n ≤ m) → total g (added key value) ≤ m
-added_weighs g m key None h = omega arith
-added_weighs g m key (Some v) h = omega (arith, sum_by-cons (λ (p : KeyValue). g p.value) (record { key = key; value = v }) [], h v refl)
-
-derived_weigh : (g : Text → ℕ) (m : ℕ) (u : Namespace → ℕ) → AreLight g m u → (pairs : List KeyValue)
-    → total g (with_derived pairs) ≤ 5 * m + all_three u + total g pairs
-derived_weigh g m u light pairs =
-    let w : KeyValue → ℕ = λ p. g p.value in
-    let doi = added (codes "x.doi") (first_under Doi pairs (codes "rft_id")) in
-    let pmid = added (codes "x.pmid") (first_under Pmid pairs (codes "rft_id")) in
-    let oclc = added (codes "x.oclc") (first_under Oclc pairs (codes "rft_id")) in
-    let issn = added (codes "x.issn") (first_number (issns_of pairs)) in
-    let eissn = added (codes "x.eissn") (second_issn pairs) in
-    let isbn = added (codes "x.isbn") (first_isbn pairs) in
-    let date = date_under pairs (codes "rft.date") in
-    let from = added (codes "x.from") (option_map (λ days. days.first) (days_of pairs)) in
-    let to = added (codes "x.to") (option_map (λ days. days.last) (days_of pairs)) in
-    omega (
-      arith,
-      sum_by-append w (doi ++ pmid ++ oclc ++ issn ++ eissn ++ isbn ++ from ++ to) pairs,
-      sum_by-append w (doi ++ pmid ++ oclc ++ issn ++ eissn ++ isbn ++ from) to,
-      sum_by-append w (doi ++ pmid ++ oclc ++ issn ++ eissn ++ isbn) from,
-      sum_by-append w (doi ++ pmid ++ oclc ++ issn ++ eissn) isbn,
-      sum_by-append w (doi ++ pmid ++ oclc ++ issn) eissn,
-      sum_by-append w (doi ++ pmid ++ oclc) issn,
-      sum_by-append w (doi ++ pmid) oclc,
-      sum_by-append w doi pmid,
-      identifier_weighs (codes "x.doi") Doi refl,
-      identifier_weighs (codes "x.pmid") Pmid refl,
-      identifier_weighs (codes "x.oclc") Oclc refl,
-      added_weighs g m (codes "x.issn") (first_number (issns_of pairs)) (light.found.one pairs),
-      added_weighs g m (codes "x.eissn") (second_issn pairs) (light.found.other pairs),
-      added_weighs g m (codes "x.isbn") (first_isbn pairs) (light.found.isbn pairs),
-      added_weighs g m (codes "x.from") (option_map (λ days. days.first) (days_of pairs))
-          (day_is (λ n. g n ≤ m) date (λ days. days.first) (λ d e. (light.days pairs d e).0)),
-      added_weighs g m (codes "x.to") (option_map (λ days. days.last) (days_of pairs))
-          (day_is (λ n. g n ≤ m) date (λ days. days.last) (λ d e. (light.days pairs d e).1)),
-    )
-  where
-    identifier_weighs : (key : Text) (namespace : Namespace) → IsPlain namespace
-        → total g (added key (first_under namespace pairs (codes "rft_id"))) ≤ u namespace
-    identifier_weighs key namespace plain =
-        added_weighs g (u namespace) key (first_under namespace pairs (codes "rft_id"))
-        (λ n e. light.identifier namespace n plain (under_is (IsIdentifier namespace) namespace (of_is light.identified namespace) pairs (codes "rft_id") n e))
-
 -- twice the request, and some numbers, dates and identifiers
-pub reading_weighs : (g : Text → ℕ) (m f r p q : ℕ) (u : Namespace → ℕ) → AreLight g m u → AreFormatsLight g f → AreFoundNumbers (λ t. g t ≤ r)
-    → ArePagesLight g p q → (pairs : List KeyValue)
-    → total g (with_derived (normal_form pairs)) ≤ 2 * total g pairs + 14 * m + f + 3 * r + p + q + 2 * all_three u + both_others u
-reading_weighs g m f r p q u light formats numbers pages pairs =
-    let first = taken pairs (correction (codes "ctx_ver")) in
+pub reading_weighs : (g : Text → ℕ) (m x f w r p q : ℕ) (u : Namespace → ℕ) → AreLight g m u → AreEncodedLight g x → AreFormatsLight g f
+    → AreCitedLight g w → AreFoundNumbers (λ t. g t ≤ r) → ArePagesLight g p q → (pairs : List KeyValue)
+    → total g (with_derived (normal_form pairs))
+    ≤ 2 * total g pairs + 14 * m + x + 2 * g encoding + f + 5 * w + 3 * r + p + q + 2 * all_three u + both_others u
+reading_weighs g m x f w r p q u light small formats cited numbers pages pairs =
+    let first = taken pairs (correction (codes "ctx_ver") version) in
+    let stated = taken first (correction (codes "url_ver") version) in
     let second = with_versions pairs in
     let kinds = after kind_steps (after copies (after fields second)) in
-    let texts = after text_steps kinds in
+    let texts = after text_steps (after citing_steps kinds) in
     let named = taken texts referrer_step in
-    subst (λ normal. total g (with_derived normal) ≤ 2 * total g pairs + 14 * m + f + 3 * r + p + q + 2 * all_three u + both_others u)
+    subst (λ normal. total g (with_derived normal)
+    ≤ 2 * total g pairs + 14 * m + x + 2 * g encoding + f + 5 * w + 3 * r + p + q + 2 * all_three u + both_others u)
     (sym (normal_form-led pairs))
     (omega (
       arith,
-      derived_weigh g m u light (after led_steps texts),
+      derived_weigh g m x u light small (after led_steps texts),
       last_weigh g m r p q u light numbers pages named,
-      keys_weigh g m f u light formats second,
-      version_weighs g m u light (codes "url_ver") first,
-      version_weighs g m u light (codes "ctx_ver") pairs,
+      keys_weigh g m f w u light formats cited second,
+      correction_weighs g (codes "ctx_enc") encoding stated,
+      correction_weighs g (codes "url_ver") version first,
+      correction_weighs g (codes "ctx_ver") version pairs,
+      light.version,
     ))
 
 accepted_weigh : (g : Text → ℕ) (pairs : List KeyValue) → total g (accepted pairs) ≤ total g pairs

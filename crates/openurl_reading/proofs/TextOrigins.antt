@@ -11,6 +11,7 @@ use Rattle.kev_read.specs.Pairs.{KeyValue, all_of}
 use Rattle.written_texts.specs.declared.readings.Role.{Role}
 use Rattle.written_texts.specs.declared.readings.Role.TheVariants.{Title, Other}
 use Rattle.written_texts.specs.Readings.{written}
+use Rattle.openurl_reading.specs.Counting.{is_one_of}
 use Rattle.openurl_reading.specs.Steps.{Step, unchanged, replacing, taken, after}
 use Rattle.openurl_reading.specs.Values.{most_values, values_of}
 use Rattle.openurl_reading.specs.Origins.{HasOrigin, text_in, page_in, page_in_text}
@@ -19,14 +20,14 @@ use Rattle.openurl_reading.proofs.Each.{none_has, each_taken}
 use Rattle.openurl_reading.proofs.KeysSettle.{same_after}
 use Rattle.openurl_reading.proofs.Origins.{GivesPage}
 use Rattle.openurl_reading.proofs.ReadValues.{HaveOrigin}
-use Rattle.openurl_reading.proofs.Sent.{IsNoConstant, IsSent, AreKept, sent_under}
+use Rattle.openurl_reading.proofs.Sent.{constant_keys, IsNoConstant, IsSent, AreKept, sent_under}
 use Rattle.openurl_reading.proofs.TextsRead.{are_apart}
 use Rattle.openurl_reading.proofs.Values.{values_after, all_of-taken, all_of-taken-own}
 
 -- other keys have what they had
 pub texts_kept : (sent : List Text) (pairs : List KeyValue) → All (IsSent sent) pairs → AreKept sent (after text_steps pairs)
 texts_kept sent pairs is key other =
-    subst (All (Contains sent)) (sym (same_after text_steps pairs key other.3)) (sent_under sent pairs key (other.0, other.1, other.2) is)
+    subst (All (Contains sent)) (sym (same_after text_steps pairs key other.1)) (sent_under sent pairs key other.0 is)
 
 -- ---- the values of the steps have an origin
 
@@ -57,14 +58,8 @@ keys_have sent role (key ∷ keys) pairs h known all =
     (not-true _ (AllPass-from_list_all (λ other. not (bytes_eq key other)) keys apart.1 k d g)))) (rest k d g))
     (texting_has sent role key pairs (All-head P key keys known) all)
 
-no_constants : (keys : List Text) → list_all (λ key. not (bytes_eq key (codes "ctx_ver"))) keys ≡ true
-    → list_all (λ key. not (bytes_eq key (codes "url_ver"))) keys ≡ true → list_all (λ key. not (bytes_eq key (codes "rft_val_fmt"))) keys ≡ true
-    → All IsNoConstant keys
-no_constants keys a b c k d h = (
-  not-true _ (AllPass-from_list_all (λ key. not (bytes_eq key (codes "ctx_ver"))) keys a k d h),
-  not-true _ (AllPass-from_list_all (λ key. not (bytes_eq key (codes "url_ver"))) keys b k d h),
-  not-true _ (AllPass-from_list_all (λ key. not (bytes_eq key (codes "rft_val_fmt"))) keys c k d h),
-)
+no_constants : (keys : List Text) → list_all (λ key. not (is_one_of constant_keys key)) keys ≡ true → All IsNoConstant keys
+no_constants keys a k d h = not-true _ (AllPass-from_list_all (λ key. not (is_one_of constant_keys key)) keys a k d h)
 
 pub texts_have : (sent : List Text) (pairs : List KeyValue) → All (IsSent sent) pairs → HaveOrigin sent pairs → HaveOrigin sent (after text_steps pairs)
 texts_have sent pairs is all =
@@ -74,9 +69,9 @@ texts_have sent pairs is all =
     (λ k d h. let key = get_or other_texts k d in
     subst (All (Contains sent)) (sym (same_after (map (texting Title) title_texts) pairs key
     (AllPass-from_list_all (λ key. list_all (λ step. not (bytes_eq step.key key)) (map (texting Title) title_texts)) other_texts refl k d h)))
-    (sent_under sent pairs key (no_constants other_texts refl refl refl k d h) is))
+    (sent_under sent pairs key (no_constants other_texts refl k d h) is))
     (keys_have sent Title title_texts pairs refl
-    (λ k d h. sent_under sent pairs (get_or title_texts k d) (no_constants title_texts refl refl refl k d h) is) all))
+    (λ k d h. sent_under sent pairs (get_or title_texts k d) (no_constants title_texts refl k d h) is) all))
 
 -- ---- pages
 
@@ -110,7 +105,7 @@ pages_give sent pairs is =
     let key = codes "rft.pages" in
     let before = after before_pages pairs in
     let known : All (Contains sent) (all_of before key) =
-    subst (All (Contains sent)) (sym (same_after before_pages pairs key refl)) (sent_under sent pairs key (refl, refl, refl) is) in
+    subst (All (Contains sent)) (sym (same_after before_pages pairs key refl)) (sent_under sent pairs key refl is) in
     let order : after text_steps pairs ≡ taken before (texting Other key) = fold-append taken pairs before_pages (texting Other key ∷ []) in
     subst (All (GivesPage sent)) (sym (ap (λ p. all_of p key) order ∙ all_of-taken-own (texting Other key) before))
     (values_give sent (all_of before key) known)

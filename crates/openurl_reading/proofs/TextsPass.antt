@@ -1,10 +1,10 @@
 -- What is read as text counts under its key.
-use Rattle.std.proofs.Common.{◌≡◌, List, [], ◌∷◌, map, Bool, true, false, cond, not, ◌&&◌, refl, sym, subst, get_or}
+use Rattle.std.proofs.Common.{◌≡◌, List, [], ◌∷◌, map, Bool, true, false, cond, not, ◌&&◌, ◌||◌, refl, sym, subst, get_or}
 use Rattle.std.specs.Prelude.{codes}
 use Rattle.std.specs.List.{All, list_all}
 use Rattle.std.specs.Str.{bytes_eq}
 use Rattle.std.proofs.lemmas.Bool.{and_parts, and_from, not-true}
-use Rattle.std.proofs.lemmas.List.Elements.{All-map, All-take}
+use Rattle.std.proofs.lemmas.List.Elements.{All-head, All-map, All-tail, All-take}
 use Rattle.std.proofs.lemmas.List.Sums.{fold-append}
 use Rattle.text_model.specs.Texts.{Text}
 use Rattle.kev_read.specs.Pairs.{KeyValue, all_of}
@@ -16,6 +16,7 @@ use Rattle.openurl_reading.specs.Steps.{unchanged, replacing, taken, after}
 use Rattle.openurl_reading.specs.Values.{most_values, values_of}
 use Rattle.openurl_reading.specs.Texts.{are_read, texting, title_texts, other_texts, text_steps}
 use Rattle.openurl_reading.proofs.Each.{none_has}
+use Rattle.openurl_reading.proofs.Values.{same_key}
 use Rattle.openurl_reading.proofs.Passing.{AreAccepted, Passes, not_blank, step_passes, under_pass}
 
 -- what the law says
@@ -23,10 +24,19 @@ abbrev pub AreFilled : Type 0
 AreFilled = (role : Role) (text : Text) → is_blank text ≡ false → is_blank (written role text) ≡ false
 
 -- under the key each value counts that is not blank
-abbrev is_open : Text → Bool
+abbrev pub is_open : Text → Bool
 is_open key = is_free key && (not (is_one_of row_keys key) && not (bytes_eq key (codes "rft_id")))
 
-filled_passes : (key v : Text) → is_open key ≡ true → is_blank v ≡ false → Passes key v
+-- what holds of each of these keys
+pub one_of_has : (P : Text → Type 0) (keys : List Text) (key : Text) → is_one_of keys key ≡ true → All P keys → P key
+one_of_has P [] key h all = cc
+one_of_has P (k ∷ keys) key h all = by_test (bytes_eq k key) refl h (λ g. one_of_has P keys key g (All-tail P k keys all))
+  where
+    by_test : (b : Bool) → bytes_eq k key ≡ b → b || is_one_of keys key ≡ true → (is_one_of keys key ≡ true → P key) → P key
+    by_test true e g rest = subst P (same_key k key e) (All-head P k keys all)
+    by_test false e g rest = rest g
+
+pub filled_passes : (key v : Text) → is_open key ≡ true → is_blank v ≡ false → Passes key v
 filled_passes key v h blank =
     let parts = and_parts (is_free key) (not (is_one_of row_keys key) && not (bytes_eq key (codes "rft_id"))) h in
     let others = and_parts (not (is_one_of row_keys key)) (not (bytes_eq key (codes "rft_id"))) parts.1 in

@@ -12,7 +12,9 @@ use Rattle.written_texts.specs.declared.readings.Role.TheVariants.{Title, Other}
 use Rattle.written_texts.specs.Readings.{written}
 use Rattle.openurl_reading.specs.Steps.{unchanged, replacing, taken, after}
 use Rattle.openurl_reading.specs.Values.{most_values}
+use Rattle.openurl_reading.specs.Citations.{citing_steps}
 use Rattle.openurl_reading.specs.Texts.{are_read, as_texts, texting, title_texts, other_texts, text_steps}
+use Rattle.openurl_reading.proofs.CitingSteps.{before_name, citing_some}
 use Rattle.openurl_reading.proofs.KeysSettle.{same_after}
 use Rattle.openurl_reading.proofs.Stages.{led_steps, last_steps, last-is}
 use Rattle.openurl_reading.proofs.Values.{same_key, values_after, all_of-taken, all_of-taken-own}
@@ -52,16 +54,17 @@ texts_some key pairs =
 -- ---- all steps after the format
 
 pub last_some : (key : Text) (pairs : List KeyValue) → list_all (λ step. not (bytes_eq step.key key)) led_steps ≡ true
-    → has_some (after last_steps pairs) key ≡ has_some pairs key
-last_some key pairs h =
-    ap (λ p. has_some p key) (last-is pairs) ∙ ap (λ values. is_some (slice_get values 0)) (same_after led_steps (after text_steps pairs) key h)
-    ∙ texts_some key pairs
+    → list_all (λ step. not (bytes_eq step.key key)) before_name ≡ true → has_some (after last_steps pairs) key ≡ has_some pairs key
+last_some key pairs h g =
+    let cited = after citing_steps pairs in
+    ap (λ p. has_some p key) (last-is pairs) ∙ ap (λ values. is_some (slice_get values 0)) (same_after led_steps (after text_steps cited) key h)
+    ∙ texts_some key cited ∙ citing_some key pairs g
 
 no_value : (values : List Text) → is_some (slice_get values 0) ≡ false → values ≡ []
 no_value [] h = refl
 no_value (v ∷ vs) h = cc
 
-pub last_none : (key : Text) (pairs : List KeyValue) → list_all (λ step. not (bytes_eq step.key key)) led_steps ≡ true → all_of pairs key ≡ []
-    → all_of (after last_steps pairs) key ≡ []
-last_none key pairs h none =
-    no_value (all_of (after last_steps pairs) key) (last_some key pairs h ∙ ap (λ values. is_some (slice_get values 0)) none)
+pub last_none : (key : Text) (pairs : List KeyValue) → list_all (λ step. not (bytes_eq step.key key)) led_steps ≡ true
+    → list_all (λ step. not (bytes_eq step.key key)) before_name ≡ true → all_of pairs key ≡ [] → all_of (after last_steps pairs) key ≡ []
+last_none key pairs h g none =
+    no_value (all_of (after last_steps pairs) key) (last_some key pairs h g ∙ ap (λ values. is_some (slice_get values 0)) none)

@@ -11,6 +11,7 @@ use Rattle.work_identifiers.specs.Places.{identifier_in}
 use Rattle.work_identifiers.specs.Uris.{uri_of}
 use Rattle.article_places.specs.Enumerations.{alone, short_supplement}
 use Rattle.article_places.specs.Pages.{only}
+use Rattle.journal_references.specs.References.{reference_in}
 use Rattle.written_texts.specs.declared.readings.Role.{Role}
 use Rattle.written_texts.specs.declared.readings.Role.TheVariants.{Title, Other}
 use Rattle.written_texts.specs.Readings.{written}
@@ -34,9 +35,16 @@ Under pairs key P = All P (all_of pairs key)
 abbrev pub IsVersion : Text → Type 0
 IsVersion value = value ≡ codes "Z39.88-2004"
 
+abbrev pub IsEncoding : Text → Type 0
+IsEncoding value = value ≡ codes "info:ofi/enc:UTF-8"
+
 -- a text that is read as it is
 abbrev pub IsText : Role → Text → Type 0
 IsText role value = written role value ≡ value
+
+-- no reference is after the name of a journal
+abbrev pub HasNoReference : Text → Type 0
+HasNoReference title = reference_in title ≡ None
 
 -- an ISSN, and neither zeros nor a span of years
 abbrev pub IsSureIssn : Text → Type 0
@@ -82,11 +90,13 @@ pub data ArePagesApart (pairs : List KeyValue) : Type 0 where
 pub record IsCanonical (pairs : List KeyValue) : Type 0 where
   pub context : Under pairs (codes "ctx_ver") IsVersion
   pub transport : Under pairs (codes "url_ver") IsVersion
+  pub encoding : Under pairs (codes "ctx_enc") IsEncoding
   pub format : has pairs (codes "rft_val_fmt") ≡ true
   pub no_core : is_core pairs ≡ false
   pub no_old_keys : All (λ key. Lacks pairs key.old) old_keys
   pub no_other_keys : All (Lacks pairs) other_keys
   pub titles : All (λ key. Under pairs key (IsText Title)) title_texts
+  pub journals : Under pairs (codes "rft.jtitle") HasNoReference
   pub other_texts : All (λ key. Under pairs key (IsText Other)) other_texts
   pub issns : Under pairs (codes "rft.issn") IsSureIssn
   pub eissns : Under pairs (codes "rft.eissn") IsSureIssn

@@ -1,9 +1,12 @@
 -- Simple Dublin Core (the format of it in the registry of OpenURL 1.0): some elements give their values to keys of other formats.
-use Rattle.std.specs.Prelude.{Bool, true, false, not, ◌&&◌, ◌||◌, ◌-◌, List, [], ◌∷◌, codes, drop, length}
+use Rattle.std.specs.Prelude.{Bool, true, false, not, ◌&&◌, ◌||◌, ◌-◌, List, [], ◌∷◌, codes, drop, length, nat_le, count_by}
+use Rattle.std.specs.List.{list_any}
 use Rattle.std.specs.Option.{is_some, option_map_or}
 use Rattle.std.specs.Str.{str_eq_ignore_ascii_case}
 use Rattle.text_model.specs.Texts.{Text}
 use Rattle.kev_read.specs.Pairs.{KeyValue, first_of}
+use Rattle.uri_text.specs.AnyCase.{begins_in_any_case}
+use Rattle.openurl_reading.specs.Citations.{is_letter}
 use Rattle.openurl_reading.specs.Kinds.{has, kind_named, kind_of}
 use Rattle.openurl_reading.specs.OldKeys.{OldKey, copying}
 use Rattle.openurl_reading.specs.Steps.{Step}
@@ -40,6 +43,24 @@ is_genre type = is_some (kind_named type)
 abbrev pub is_typed : List KeyValue → Bool
 is_typed pairs = is_core pairs && option_map_or is_genre (first_of pairs (codes "rft.type")) false
 
+-- ---- source
+
+-- the journal of an article, often with volume, issue and pages after its name, which are read later
+abbrev pub core_source : OldKey
+core_source = record { old = codes "rft.source"; new = codes "rft.jtitle" }
+
+-- what texts begin with that are no names
+abbrev pub no_names : List Text
+no_names = codes "http:" ∷ codes "https:" ∷ codes "issn" ∷ []
+
+-- a text with two letters, and none of these
+abbrev pub is_journal : Text → Bool
+is_journal source = nat_le 2 (count_by is_letter source) && not (list_any (begins_in_any_case source) no_names)
+
+-- the first source is one
+abbrev pub is_sourced : List KeyValue → Bool
+is_sourced pairs = is_core pairs && option_map_or is_journal (first_of pairs (codes "rft.source")) false
+
 -- ---- title
 
 -- `rft.title`, and a key in its place
@@ -65,4 +86,4 @@ core_titles = copying is_in_journal (of_core_title (codes "rft.atitle")) ∷ cop
 -- ---- all
 
 abbrev pub core_steps : List Step
-core_steps = copying is_core creator ∷ copying is_typed core_type ∷ core_titles
+core_steps = copying is_core creator ∷ copying is_typed core_type ∷ copying is_sourced core_source ∷ core_titles

@@ -50,11 +50,15 @@ identifier_of namespace key value = option_or (identifier_in namespace value) (u
 
 -- ---- the first identifier of a request
 
--- the keys under which sources send identifiers; that of OpenURL 1.0 comes first, and the address of a page last
+-- the keys of titles in OpenURL 0.1, under which a reader of a form may paste an identifier
+abbrev pub pasted_keys : List Text
+pasted_keys = codes "title" ∷ codes "jtitle" ∷ codes "btitle" ∷ codes "atitle" ∷ []
+
+-- the keys under which sources send identifiers; that of OpenURL 1.0 comes first, then the address of a page, and titles last
 abbrev pub source_keys : List Text
 source_keys =
     codes "id" ∷ codes "rft.doi" ∷ codes "doi" ∷ codes "pmid" ∷ codes "rft.pmid" ∷ codes "pmcid" ∷ codes "rft.pmcid" ∷ codes "rft.identifier" ∷
-    codes "url" ∷ []
+    codes "url" ∷ pasted_keys
 
 abbrev pub identifier_keys : List Text
 identifier_keys = codes "rft_id" ∷ source_keys

@@ -13,9 +13,12 @@ pub mod Numbers
 pub mod Fields
 pub mod Dates
 pub mod Volumes
+pub mod Citations
 pub mod ArticleNumbers
 pub mod Pages
 pub mod Identifiers
+pub mod EncodedDois
+pub mod Retractions
 pub mod Reading
 pub mod Canonical
 pub mod Origins

@@ -1,11 +1,13 @@
 -- Where the values of a reading come from.
-use Rattle.std.specs.Prelude.{◌≡◌, ◌⊎◌, List, ◌∷◌, ◌++◌, Some, map, Contains}
+use Rattle.std.specs.Prelude.{◌≡◌, ◌⊎◌, List, [], ◌∷◌, ◌++◌, Option, Some, None, map, Contains}
+use Rattle.std.specs.List.{flat_map}
 use Rattle.text_model.specs.Texts.{Text}
 use Rattle.kev_read.specs.Pairs.{KeyValue}
 use Rattle.standard_numbers.specs.Issn.{issns_in}
 use Rattle.standard_numbers.specs.Isbn.{isbns_in}
 use Rattle.publication_dates.specs.Dates.{date_in}
 use Rattle.publication_dates.specs.Days.{first_day, last_day}
+use Rattle.journal_references.specs.References.{Reference}
 use Rattle.article_places.specs.Enumerations.{Numbers, numbers_in, short_supplement}
 use Rattle.work_identifiers.specs.declared.namespace.Namespace.{Namespace}
 use Rattle.work_identifiers.specs.declared.namespace.Namespace.TheVariants.{Arxiv}
@@ -14,10 +16,12 @@ use Rattle.written_texts.specs.declared.readings.Role.{Role}
 use Rattle.written_texts.specs.declared.readings.Role.TheVariants.{Other}
 use Rattle.written_texts.specs.Readings.{written}
 use Rattle.openurl_reading.specs.ArticleNumbers.{article_in}
+use Rattle.openurl_reading.specs.Citations.{cited_in}
+use Rattle.openurl_reading.specs.EncodedDois.{encoded_doi}
 use Rattle.openurl_reading.specs.Identifiers.{identifier_of}
 use Rattle.openurl_reading.specs.Pages.{first_in, last_in}
 use Rattle.openurl_reading.specs.Values.{searched}
-use Rattle.openurl_reading.specs.Versions.{version}
+use Rattle.openurl_reading.specs.Versions.{version, encoding}
 use Rattle.openurl_reading.specs.declared.kinds.Kind.{Kind}
 use Rattle.openurl_reading.specs.Formats.{format_of}
 use Rattle.openurl_reading.specs.Referrers.{referrer_of}
@@ -25,14 +29,28 @@ use Rattle.openurl_reading.specs.Referrers.{referrer_of}
 abbrev pub all_values : List KeyValue → List Text
 all_values pairs = map (λ pair. pair.value) pairs
 
+abbrev pub listed : Option Text → List Text
+listed None = []
+listed (Some text) = text ∷ []
+
+-- the name of a journal, and what is after it
+abbrev pub parts_of : Option Reference → List Text
+parts_of None = []
+parts_of (Some found) = found.name ∷ listed found.volume ++ listed found.issue ++ listed found.pages ++ listed found.year
+
+-- the values of a request, and the parts of the references in them
+abbrev pub read_values : List KeyValue → List Text
+read_values pairs = all_values pairs ++ flat_map (λ value. parts_of (cited_in value)) (all_values pairs)
+
 -- the first number, or that of the issue
 abbrev pub IsNumberOf : Numbers → Text → Type 0
 IsNumberOf n number = (n.first ≡ Some number) ⊎ (n.issue ≡ Some number)
 
--- a value of the request, the version, one of the three formats, or what is read in one value of the request
+-- a value of the request, the version, the encoding, one of the three formats, or what is read in one value of the request
 pub data HasOrigin (sent : List Text) : Text → Type 0 where
   from_request : (value : Text) → Contains sent value → HasOrigin sent value
   version_of_openurl : HasOrigin sent version
+  encoding_of_readings : HasOrigin sent encoding
   format_of_kind : (kind : Kind) → HasOrigin sent (format_of kind)
   text_in : (role : Role) (value : Text) → Contains sent value → HasOrigin sent (written role value)
   source_in : (value : Text) → Contains sent value → HasOrigin sent (referrer_of value)
@@ -56,3 +74,4 @@ pub data HasOrigin (sent : List Text) : Text → Type 0 where
       → identifier_of namespace key value ≡ Some identifier → HasOrigin sent (uri_of namespace identifier)
   doi_of_preprint : (key value identifier : Text) → Contains sent value → identifier_of Arxiv key value ≡ Some identifier
       → HasOrigin sent (arxiv_doi identifier)
+  encoding_of_doi : (doi encoded : Text) → HasOrigin sent doi → encoded_doi doi ≡ Some encoded → HasOrigin sent encoded

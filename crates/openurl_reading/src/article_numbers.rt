@@ -32,7 +32,12 @@ fn is_article_number(text: &[u8]) -> bool
 fn are_number_bytes(text: &[u8]) -> bool
     ensures { result ≡ list_all spec.is_number_byte text.now }
 {
-    text.iter().all(|byte| is_number_byte(*byte))
+    for byte in text {
+        if !is_number_byte(*byte) {
+            return false;
+        }
+    }
+    true
 }
 
 fn has_digit(text: &[u8]) -> bool

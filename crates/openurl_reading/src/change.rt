@@ -1,11 +1,11 @@
 //! What a step does with the values of its key.
 
-ghost use Rattle.std.specs.Prelude.{◌≡◌, ◌++◌, IfOk, OnOk};
-ghost use Rattle.std.specs.Option.{option_copied};
+ghost use Rattle.std.specs.Prelude.{◌≡◌, ◌++◌, ◌∷◌, [], Some, IfOk, if◌then◌else◌};
+ghost use Rattle.kev_read.specs.Pairs.{first_of};
 ghost use Rattle.openurl_reading.specs.Steps as spec;
 ghost use Rattle.openurl_reading.specs.Values.{led};
 
-use crate::pairs::{Pair, Pairs, copy};
+use crate::pairs::{Pair, Pairs, copy, push_pair};
 use std::alloc::{AllocError, Global};
 use std::marker::Model;
 use uri_text::Text;
@@ -50,27 +50,49 @@ impl Change {
             keeps: false,
         }
     }
+}
 
-    /// What was found leads, unless it is the first value already.
-    pub(crate) fn led(
-        alloc: Global,
-        found: Option<Text>,
-        first: Option<&str>,
-    ) -> Result<Change, AllocError>
-        ensures { IfOk result (λ change. change ≡ led found (option_copied first.entry)) }
-    {
-        let Some(found) = found else {
-            return Ok(Change::unchanged(alloc));
-        };
-        if let Some(value) = first {
-            if value == found.as_str() {
-                return Ok(Change::unchanged(alloc));
-            }
-        }
-        let mut values = Vec::new(alloc);
-        values.push(found)?;
-        Ok(Change::leading(values))
+/// What was found leads the values of the key, unless it does already.
+pub(crate) fn lead(
+    alloc: Global,
+    key: &str,
+    found: Option<Text>,
+    pairs: Pairs,
+) -> Result<Pairs, AllocError>
+    ensures { IfOk result (λ after. after ≡ spec.changed key.now (led found (first_of pairs key.now)) pairs) }
+{
+    let Some(value) = found else {
+        return Ok(pairs);
+    };
+    if is_first(&pairs, key, value.as_str()) {
+        return Ok(pairs);
     }
+    put_first(alloc, key, value, pairs)
+}
+
+/// Whether the value is the first one of the key.
+fn is_first(pairs: &Pairs, key: &str, value: &str) -> bool
+    ensures { led (Some value.now) (first_of pairs.now key.now)
+        ≡ (if result then spec.unchanged else spec.leading (value.now ∷ [])) }
+{
+    match pairs.first(key) {
+        Some(first) => first == value,
+        None => false,
+    }
+}
+
+/// The pairs after a pair of the key.
+pub(crate) fn put_first(
+    alloc: Global,
+    key: &str,
+    value: Text,
+    pairs: Pairs,
+) -> Result<Pairs, AllocError>
+    ensures { IfOk result (λ after. after ≡ record { key = key.now; value = value } ∷ pairs) }
+{
+    let mut list = pairs.into_list();
+    list.insert(0, Pair::new(copy(alloc, key)?, value))?;
+    Ok(Pairs::new(list))
 }
 
 /// The pairs after the change of the values of a key.
@@ -83,38 +105,50 @@ pub(crate) fn changed(
     ensures { IfOk result (λ after. after ≡ spec.changed key.now change pairs) }
 {
     let Change { values, keeps } = change;
-    if values.is_empty() && keeps {
+    put_before(alloc, key, values, kept(keeps, key, pairs))
+}
+
+/// The pairs that stay.
+fn kept(keeps: bool, key: &str, pairs: Pairs) -> Pairs
+    ensures { result ≡ spec.kept keeps key.now pairs }
+{
+    if keeps { pairs } else { without(key, pairs) }
+}
+
+/// The pairs of other keys.
+pub(crate) fn without(key: &str, pairs: Pairs) -> Pairs
+    ensures { result ≡ spec.others key.now pairs }
+{
+    let mut list = pairs.into_list();
+    list.retain(|pair| pair.key() != key);
+    Pairs::new(list)
+}
+
+/// The pairs after a pair of the key for each value.
+fn put_before(
+    alloc: Global,
+    key: &str,
+    values: Vec<Text>,
+    pairs: Pairs,
+) -> Result<Pairs, AllocError>
+    ensures { IfOk result (λ all. all ≡ spec.pairs_with key.now values.items ++ pairs) }
+{
+    if values.is_empty() {
         return Ok(pairs);
     }
-    let mut list = Vec::new(alloc);
-    push_values(alloc, &mut list, key, values)?;
-    push_kept(&mut list, key, keeps, pairs)?;
+    let mut list = pairs_with(alloc, key, values)?;
+    let mut rest = pairs.into_list();
+    list.append(&mut rest)?;
     Ok(Pairs::new(list))
 }
 
-/// Appends a pair of the key for each value.
-fn push_values(
-    alloc: Global,
-    list: &mut Vec<Pair>,
-    key: &str,
-    values: Vec<Text>,
-) -> Result<(), AllocError>
-    ensures { OnOk result (list.new.items ≡ list.old.items ++ spec.pairs_with key.now values.items) }
+/// A pair of the key for each value.
+fn pairs_with(alloc: Global, key: &str, values: Vec<Text>) -> Result<Vec<Pair>, AllocError>
+    ensures { IfOk result (λ list. list.items ≡ spec.pairs_with key.now values.items) }
 {
+    let mut list = Vec::new(alloc);
     for value in values {
-        list.push(Pair::new(copy(alloc, key)?, value))?;
+        push_pair(alloc, &mut list, key, value)?;
     }
-    Ok(())
-}
-
-/// Appends the pairs that stay.
-fn push_kept(list: &mut Vec<Pair>, key: &str, keeps: bool, pairs: Pairs) -> Result<(), AllocError>
-    ensures { OnOk result (list.new.items ≡ list.old.items ++ spec.kept keeps key.now pairs) }
-{
-    for pair in pairs.into_list() {
-        if keeps || pair.key() != key {
-            list.push(pair)?;
-        }
-    }
-    Ok(())
+    Ok(list)
 }

@@ -1,11 +1,11 @@
 //! Which pairs of a source count.
 
-ghost use Rattle.std.specs.Prelude.{◌≡◌, ◌-◌, IfOk, length};
+ghost use Rattle.std.specs.Prelude.{◌≡◌, ◌-◌, ◌==◌, ◌&&◌, ◌||◌, IfOk, length, not};
 ghost use Rattle.std.specs.Str.{str_eq_ignore_ascii_case};
 ghost use Rattle.text_model.specs.Texts.{texts_of};
 ghost use Rattle.openurl_reading.specs.Counting as spec;
 
-use crate::pairs::{Pair, Pairs, copy};
+use crate::pairs::{Pairs, push_text};
 use kev_read::QueryPairs;
 use standard_names::known_columns;
 use std::alloc::{AllocError, Global};
@@ -24,7 +24,7 @@ pub(crate) fn counting(alloc: Global, query: &QueryPairs) -> Result<(Pairs, usiz
         let (key, value) = query.pair(index);
         if is_accepted(alloc, key, value)? {
             if list.len() < MOST_PAIRS {
-                list.push(Pair::new(copy(alloc, key)?, copy(alloc, value)?))?;
+                push_text(alloc, &mut list, key, value)?;
             } else {
                 left_out += 1;
             }
@@ -59,14 +59,24 @@ fn is_column(key: &str) -> bool
 pub(crate) fn is_one_of(texts: &[&str], text: &str) -> bool
     ensures { result ≡ spec.is_one_of (texts_of texts.now) text.now }
 {
-    texts.iter().any(|one| *one == text)
+    for one in texts {
+        if *one == text {
+            return true;
+        }
+    }
+    false
 }
 
 /// Whether a text is one of these, in small or capital letters.
 pub(crate) fn is_one_in_any_case(texts: &[&str], text: &str) -> bool
     ensures { result ≡ spec.is_one_in_any_case (texts_of texts.now) text.now }
 {
-    texts.iter().any(|one| is_same(one, text))
+    for one in texts {
+        if is_same(one, text) {
+            return true;
+        }
+    }
+    false
 }
 
 /// Whether the value says nothing under the key.
@@ -76,14 +86,24 @@ fn is_void(alloc: Global, key: &str, value: &str) -> Result<bool, AllocError>
     if is_blank(value.as_bytes()) {
         return Ok(true);
     }
-    if is_one_of(row_keys(), key) {
-        let is_any = is_any(alloc, value.as_bytes())?;
-        return Ok(is_any);
+    if is_any_row(alloc, key, value.as_bytes())? {
+        return Ok(true);
     }
     Ok(key == "rft_id" && is_prefix(value))
 }
 
-fn is_blank(value: &[u8]) -> bool
+/// Whether the value finds the rows of targets that answer every request.
+fn is_any_row(alloc: Global, key: &str, value: &[u8]) -> Result<bool, AllocError>
+    ensures { IfOk result (λ is. is ≡ (spec.is_one_of spec.row_keys key.now && spec.is_any value.now)) }
+{
+    if is_one_of(row_keys(), key) {
+        is_any(alloc, value)
+    } else {
+        Ok(false)
+    }
+}
+
+pub(crate) fn is_blank(value: &[u8]) -> bool
     ensures { result ≡ spec.is_blank value.now }
 {
     value.iter().all(|byte| *byte <= b' ')
@@ -116,11 +136,20 @@ fn is_any(alloc: Global, value: &[u8]) -> Result<bool, AllocError>
 fn plain(alloc: Global, value: &[u8]) -> Result<Vec<u8>, AllocError>
     ensures { IfOk result (λ bytes. bytes.items ≡ spec.plain value.now) }
 {
-    value
-        .iter()
-        .filter(|byte| !(**byte == b'-' || **byte == b' '))
-        .map(|byte| byte.to_ascii_uppercase())
-        .collect(alloc)
+    let mut bytes = Vec::new(alloc);
+    for byte in value {
+        if is_plain(*byte) {
+            bytes.push(byte.to_ascii_uppercase())?;
+        }
+    }
+    Ok(bytes)
+}
+
+/// Neither a hyphen nor a space.
+fn is_plain(byte: u8) -> bool
+    ensures { result ≡ not (byte == 0x2d || byte == 0x20) }
+{
+    byte != b'-' && byte != b' '
 }
 
 /// Whether the value is what identifiers begin with, and no more.

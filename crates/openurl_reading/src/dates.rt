@@ -4,7 +4,7 @@ ghost use Rattle.std.specs.Prelude.{◌≡◌, IfOk, min, take};
 ghost use Rattle.openurl_reading.specs.Steps.{taken};
 ghost use Rattle.openurl_reading.specs.Dates as spec;
 
-use crate::change::{Change, changed};
+use crate::change::{lead, without};
 use crate::pairs::Pairs;
 use crate::searched::searched;
 use publication_dates::date_in;
@@ -16,16 +16,14 @@ pub(crate) fn lead_date(alloc: Global, pairs: Pairs) -> Result<Pairs, AllocError
     ensures { IfOk result (λ after. after ≡ taken pairs spec.date_step) }
 {
     let date = first_date(alloc, &pairs)?;
-    let change = if date.is_none() {
-        Change::replacing(Vec::new(alloc))
-    } else {
-        Change::led(alloc, date, pairs.first("rft.date"))?
-    };
-    changed(alloc, "rft.date", change, pairs)
+    if date.is_none() {
+        return Ok(without("rft.date", pairs));
+    }
+    lead(alloc, "rft.date", date, pairs)
 }
 
 /// The first date that can be read.
-fn first_date(alloc: Global, pairs: &Pairs) -> Result<Option<Text>, AllocError>
+pub(crate) fn first_date(alloc: Global, pairs: &Pairs) -> Result<Option<Text>, AllocError>
     ensures { IfOk result (λ date. date ≡ spec.first_date spec.date_keys pairs.now) }
 {
     if let Some(date) = date_under(alloc, pairs, "rft.date")? {

@@ -1,13 +1,14 @@
 //! Keys that the resolver adds for the rules of targets.
 
-ghost use Rattle.std.specs.Prelude.{◌≡◌, ◌++◌, ◌∷◌, [], IfOk, OnOk, codes};
+ghost use Rattle.std.specs.Prelude.{◌≡◌, ◌++◌, IfOk, OnOk, Some, codes};
 ghost use Rattle.std.specs.Option.{option_map};
 ghost use Rattle.openurl_reading.specs.Identifiers.{first_under};
 ghost use Rattle.openurl_reading.specs.Reading as spec;
 
+use crate::encoded_dois::encoded_doi;
 use crate::identifiers::first_under;
 use crate::numbers::{first, first_isbn, issns_under, other_than, push_all};
-use crate::pairs::{Pair, Pairs, copy};
+use crate::pairs::{Pair, Pairs, push_pair, push_text};
 use crate::searched::searched;
 use publication_dates::{Days, days_in};
 use std::alloc::{AllocError, Global};
@@ -19,9 +20,8 @@ pub(crate) fn with_derived(alloc: Global, pairs: Pairs) -> Result<Pairs, AllocEr
     ensures { IfOk result (λ all. all ≡ spec.with_derived pairs) }
 {
     let mut list = derived(alloc, &pairs)?;
-    for pair in pairs.into_list() {
-        list.push(pair)?;
-    }
+    let mut rest = pairs.into_list();
+    list.append(&mut rest)?;
     Ok(Pairs::new(list))
 }
 
@@ -37,6 +37,12 @@ fn derived(alloc: Global, pairs: &Pairs) -> Result<Vec<Pair>, AllocError>
     push_added(alloc, &mut list, "x.eissn", second_issn(alloc, pairs)?)?;
     push_added(alloc, &mut list, "x.isbn", first_isbn(alloc, pairs)?)?;
     push_days(alloc, &mut list, pairs)?;
+    push_added(
+        alloc,
+        &mut list,
+        "x.doi_encoded",
+        doi_encoded(alloc, pairs)?,
+    )?;
     Ok(list)
 }
 
@@ -53,6 +59,16 @@ fn push_identifier(
 {
     let identifier = first_under(alloc, namespace, pairs, "rft_id")?;
     push_added(alloc, list, key, identifier)
+}
+
+/// The DOI of a request, if it has to be encoded for a proxy.
+fn doi_encoded(alloc: Global, pairs: &Pairs) -> Result<Option<Text>, AllocError>
+    ensures { IfOk result (λ doi. doi ≡ spec.doi_encoded pairs.now) }
+{
+    match first_under(alloc, Namespace::Doi, pairs, "rft_id")? {
+        Some(doi) => encoded_doi(alloc, doi.as_str()),
+        None => Ok(None),
+    }
 }
 
 /// The second ISSN of a request.
@@ -89,21 +105,19 @@ fn push_days(alloc: Global, list: &mut Vec<Pair>, pairs: &Pairs) -> Result<(), A
         ≡ list.old.items ++ spec.added (codes "x.from") (option_map (λ days. days.first) (spec.days_of pairs.now))
         ++ spec.added (codes "x.to") (option_map (λ days. days.last) (spec.days_of pairs.now))) }
 {
-    if let Some(days) = days_of(alloc, pairs)? {
-        push_text(alloc, list, "x.from", days.first())?;
-        push_text(alloc, list, "x.to", days.last())?;
+    match days_of(alloc, pairs)? {
+        Some(days) => push_first_and_last(alloc, list, &days),
+        None => Ok(()),
     }
-    Ok(())
 }
 
-/// Appends a pair.
-fn push_text(alloc: Global, list: &mut Vec<Pair>, key: &str, value: &str) -> Result<(), AllocError>
-    ensures { OnOk result (list.new.items ≡ list.old.items ++ record { key = key.now; value = value.now } ∷ []) }
+fn push_first_and_last(alloc: Global, list: &mut Vec<Pair>, days: &Days) -> Result<(), AllocError>
+    ensures { OnOk result (list.new.items
+        ≡ list.old.items ++ spec.added (codes "x.from") (Some days.now.first)
+        ++ spec.added (codes "x.to") (Some days.now.last)) }
 {
-    let key = copy(alloc, key)?;
-    let value = copy(alloc, value)?;
-    list.push(Pair::new(key, value))?;
-    Ok(())
+    push_text(alloc, list, "x.from", days.first())?;
+    push_text(alloc, list, "x.to", days.last())
 }
 
 /// Appends a pair of the key if there is a value.
@@ -115,8 +129,8 @@ fn push_added(
 ) -> Result<(), AllocError>
     ensures { OnOk result (list.new.items ≡ list.old.items ++ spec.added key.now value) }
 {
-    if let Some(value) = value {
-        list.push(Pair::new(copy(alloc, key)?, value))?;
+    match value {
+        Some(value) => push_pair(alloc, list, key, value),
+        None => Ok(()),
     }
-    Ok(())
 }

@@ -1,26 +1,33 @@
 //! Requests in simple Dublin Core.
 
-ghost use Rattle.std.specs.Prelude.{◌≡◌, IfOk, codes, false};
+ghost use Rattle.std.specs.Prelude.{◌≡◌, IfOk, codes, count_by, false};
+ghost use Rattle.std.specs.List.{list_any};
 ghost use Rattle.std.specs.Option.{option_map_or};
+ghost use Rattle.uri_text.specs.AnyCase.{begins_in_any_case};
 ghost use Rattle.kev_read.specs.Pairs.{first_of};
+ghost use Rattle.openurl_reading.specs.Citations.{is_letter};
 ghost use Rattle.openurl_reading.specs.Steps.{after, taken};
 ghost use Rattle.openurl_reading.specs.OldKeys.{copying};
 ghost use Rattle.openurl_reading.specs.DublinCore as spec;
 
+use crate::citations::is_letter;
 use crate::kinds::{Kind, kind_named, kind_of};
 use crate::old_keys::copy_key_if;
 use crate::pairs::Pairs;
 use std::alloc::{AllocError, Global};
+use uri_text::begins_in_any_case;
 
 /// The end of the name of its format.
 const FORMAT_END: &[u8] = b":dc";
 
-/// Creator, type and title give their values to keys of the formats for articles and books, unless these have some.
+/// Creator, type, source and title give their values to keys of the formats for articles and books, unless these have
+/// some.
 pub(crate) fn copy_elements(alloc: Global, pairs: Pairs) -> Result<Pairs, AllocError>
     ensures { IfOk result (λ copied. copied ≡ after spec.core_steps pairs) }
 {
     let pairs = copy_creator(alloc, pairs)?;
     let pairs = copy_type(alloc, pairs)?;
+    let pairs = copy_source(alloc, pairs)?;
     let pairs = copy_titles(alloc, pairs)?;
     Ok(pairs)
 }
@@ -37,6 +44,13 @@ fn copy_type(alloc: Global, pairs: Pairs) -> Result<Pairs, AllocError>
 {
     let is_typed = is_typed(&pairs);
     copy_key_if(alloc, is_typed, "rft.type", "rft.genre", pairs)
+}
+
+fn copy_source(alloc: Global, pairs: Pairs) -> Result<Pairs, AllocError>
+    ensures { IfOk result (λ copied. copied ≡ taken pairs (copying spec.is_sourced spec.core_source)) }
+{
+    let is_sourced = is_sourced(&pairs);
+    copy_key_if(alloc, is_sourced, "rft.source", "rft.jtitle", pairs)
 }
 
 fn copy_titles(alloc: Global, pairs: Pairs) -> Result<Pairs, AllocError>
@@ -96,6 +110,44 @@ fn has_element(pairs: &Pairs) -> bool
     ensures { result ≡ spec.has_element pairs.now }
 {
     pairs.has("rft.creator") || pairs.has("rft.source") || pairs.has("rft.identifier")
+}
+
+/// Whether the first source is the name of a journal.
+fn is_sourced(pairs: &Pairs) -> bool
+    ensures { result ≡ spec.is_sourced pairs.now }
+{
+    is_core(pairs) && has_journal_as_source(pairs)
+}
+
+fn has_journal_as_source(pairs: &Pairs) -> bool
+    ensures { result ≡ option_map_or spec.is_journal (first_of pairs.now (codes "rft.source")) false }
+{
+    match pairs.first("rft.source") {
+        Some(source) => is_journal(source.as_bytes()),
+        None => false,
+    }
+}
+
+/// Whether a text has two letters, and is neither an address nor an ISSN.
+fn is_journal(source: &[u8]) -> bool
+    ensures { result ≡ spec.is_journal source.now }
+{
+    count_of_letters(source) >= 2 && !begins_otherwise(source)
+}
+
+fn count_of_letters(source: &[u8]) -> usize
+    ensures { result ≡ count_by is_letter source.now }
+{
+    source.iter().filter(|byte| is_letter(**byte)).count()
+}
+
+/// Whether a text begins as no name does.
+fn begins_otherwise(source: &[u8]) -> bool
+    ensures { result ≡ list_any (begins_in_any_case source.now) spec.no_names }
+{
+    begins_in_any_case(source, b"http:")
+        || begins_in_any_case(source, b"https:")
+        || begins_in_any_case(source, b"issn")
 }
 
 /// Whether the type is a genre of one kind.

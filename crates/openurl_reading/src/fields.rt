@@ -27,7 +27,6 @@ pub(crate) fn copy_fields(alloc: Global, pairs: Pairs) -> Result<Pairs, AllocErr
 }
 
 /// A number is that of a book if it has an ISBN, or else that of a journal.
-#[tactic(auto, using(crate::proofs::FieldsCopied::number_of_book, crate::proofs::FieldsCopied::number_of_journal))]
 fn copy_number(alloc: Global, pairs: Pairs) -> Result<Pairs, AllocError>
     ensures { IfOk result (λ copied. copied ≡ after spec.number_fields pairs) }
 {
@@ -41,7 +40,6 @@ fn copy_number(alloc: Global, pairs: Pairs) -> Result<Pairs, AllocError>
 }
 
 /// An identifier of a few digits is a number of PubMed.
-#[tactic(auto, using(crate::proofs::FieldsCopied::number_of_pubmed, crate::proofs::FieldsCopied::other_identifier))]
 fn copy_identifier(alloc: Global, pairs: Pairs) -> Result<Pairs, AllocError>
     ensures { IfOk result (λ copied. copied ≡ after spec.identifier_fields pairs) }
 {

@@ -1,15 +1,17 @@
 //! The identifiers of a request: DOIs, the numbers of PubMed, PubMed Central and OCLC, and those of arXiv.
 
 ghost use Rattle.std.specs.Prelude.{◌≡◌, IfOk, IfSome, codes};
-ghost use Rattle.std.specs.Option.{option_copied};
+ghost use Rattle.std.specs.Option.{option_copied, option_map};
 ghost use Rattle.std.specs.Str.{IsAscii};
 ghost use Rattle.text_model.specs.Texts.{texts_of};
 ghost use Rattle.kev_read.specs.Pairs.{all_of};
+ghost use Rattle.openurl_reading.specs.Counting as counted;
 ghost use Rattle.openurl_reading.specs.Steps.{after, taken};
 ghost use Rattle.work_identifiers.specs.declared.namespace.Namespace.TheVariants.{Arxiv};
+ghost use Rattle.work_identifiers.specs.Uris.{uri_of};
 ghost use Rattle.openurl_reading.specs.Identifiers as spec;
 
-use crate::change::{Change, changed};
+use crate::change::put_first;
 use crate::counting::is_one_of;
 use crate::pairs::{Pairs, ascii_text};
 use std::alloc::{AllocError, Global};
@@ -32,25 +34,39 @@ pub(crate) fn name_works(alloc: Global, pairs: Pairs) -> Result<Pairs, AllocErro
 fn name_work(alloc: Global, namespace: Namespace, pairs: Pairs) -> Result<Pairs, AllocError>
     ensures { IfOk result (λ after. after ≡ taken pairs (spec.naming namespace)) }
 {
-    let change = named(alloc, namespace, &pairs)?;
-    changed(alloc, "rft_id", change, pairs)
+    let Some(uri) = nameable_uri(alloc, namespace, &pairs)? else {
+        return Ok(pairs);
+    };
+    let is_known = is_known(alloc, uri.as_str(), &pairs)?;
+    if is_known {
+        return Ok(pairs);
+    }
+    put_first(alloc, "rft_id", uri, pairs)
 }
 
-fn named(alloc: Global, namespace: Namespace, pairs: &Pairs) -> Result<Change, AllocError>
-    ensures { IfOk result (λ change. change
-        ≡ spec.named namespace (spec.nameable namespace pairs.now) (all_of pairs.now (codes "rft_id"))) }
+/// Whether the URI is in `rft_id`.
+fn is_known(alloc: Global, uri: &str, pairs: &Pairs) -> Result<bool, AllocError>
+    ensures { IfOk result (λ is. is ≡ counted.is_one_of (all_of pairs.now (codes "rft_id")) uri.now) }
 {
-    let Some(identifier) = nameable(alloc, namespace, pairs)? else {
-        return Ok(Change::unchanged(alloc));
-    };
-    let uri = uri_of(alloc, namespace, identifier.as_str().as_bytes())?;
     let known = pairs.all(alloc, "rft_id")?;
-    if is_one_of(&known, uri.as_str()) {
-        return Ok(Change::unchanged(alloc));
+    Ok(is_one_of(&known, uri))
+}
+
+/// The URI of the identifier that a step names.
+fn nameable_uri(
+    alloc: Global,
+    namespace: Namespace,
+    pairs: &Pairs,
+) -> Result<Option<Text>, AllocError>
+    ensures { IfOk result (λ uri. uri ≡ option_map (uri_of namespace) (spec.nameable namespace pairs.now)) }
+{
+    match nameable(alloc, namespace, pairs)? {
+        Some(identifier) => {
+            let uri = uri_of(alloc, namespace, identifier.as_str().as_bytes())?;
+            Ok(Some(uri))
+        }
+        None => Ok(None),
     }
-    let mut values = Vec::new(alloc);
-    values.push(uri)?;
-    Ok(Change::leading(values))
 }
 
 /// The identifier that a step names: one of arXiv only if the request has no DOI.
@@ -194,7 +210,7 @@ fn central_keys() -> &'static [&'static str]
     &["pmcid", "rft.pmcid"]
 }
 
-/// The keys of identifiers, that of OpenURL 1.0 first, and that of a page last.
+/// The keys of identifiers, that of OpenURL 1.0 first, then that of a page, and those of titles last.
 fn identifier_keys() -> &'static [&'static str]
     ensures { texts_of result.now ≡ spec.identifier_keys }
 {
@@ -209,5 +225,9 @@ fn identifier_keys() -> &'static [&'static str]
         "rft.pmcid",
         "rft.identifier",
         "url",
+        "title",
+        "jtitle",
+        "btitle",
+        "atitle",
     ]
 }

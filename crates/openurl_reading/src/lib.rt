@@ -1,12 +1,13 @@
 //! Requests of any source, read as OpenURL 1.0 (ANSI/NISO Z39.88-2004).
 //!
 //! Sources send OpenURL 0.1, other versions, Dublin Core, the fields of forms, identifiers, numbers and dates in free
-//! forms, and titles and names in HTML, in LaTeX or encoded twice. Of Dublin Core, `rft.source` is not read yet. A
-//! reading has
+//! forms, and titles and names in HTML, in LaTeX or encoded twice. A reading has
 //!
 //! 1. the pairs that count: not those without a value, and none that names a column of holdings tables;
 //! 2. after steps, each of which changes the values of one key;
 //! 3. and before them keys that begin with `x.`, for the rules of targets.
+//!
+//! It also says whether a title of the request has the remark that its work was retracted, which the steps take away.
 //!
 //! ```rust
 //! let reading = read_openurl(rt.alloc(), b"issn=29010012&volume=12&date=20030501&id=doi:10.1000/182")?;
@@ -18,10 +19,12 @@
 
 mod article_numbers;
 mod change;
+mod citations;
 mod counting;
 mod dates;
 mod derived;
 mod dublin_core;
+mod encoded_dois;
 mod fields;
 mod formats;
 mod identifiers;
@@ -34,6 +37,7 @@ mod pages;
 mod pairs;
 mod reading;
 mod referrer;
+mod retractions;
 mod searched;
 mod texts;
 mod titles;

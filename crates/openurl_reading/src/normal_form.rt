@@ -3,6 +3,7 @@
 ghost use Rattle.std.specs.Prelude.{◌≡◌, IfOk};
 ghost use Rattle.openurl_reading.specs.Reading as spec;
 
+use crate::citations::read_citation;
 use crate::dates::lead_date;
 use crate::dublin_core::copy_elements;
 use crate::fields::copy_fields;
@@ -15,7 +16,7 @@ use crate::pairs::Pairs;
 use crate::referrer::name_referrer;
 use crate::texts::read_texts;
 use crate::titles::copy_title;
-use crate::versions::correct;
+use crate::versions::correct_versions;
 use crate::volumes::lead_volumes;
 use std::alloc::{AllocError, Global};
 
@@ -23,13 +24,13 @@ use std::alloc::{AllocError, Global};
 pub(crate) fn normal_form(alloc: Global, pairs: Pairs) -> Result<Pairs, AllocError>
     ensures { IfOk result (λ after. after ≡ spec.normal_form pairs) }
 {
-    let pairs = correct(alloc, "ctx_ver", pairs)?;
-    let pairs = correct(alloc, "url_ver", pairs)?;
+    let pairs = correct_versions(alloc, pairs)?;
     let pairs = copy_fields(alloc, pairs)?;
     let pairs = copy_old_keys(alloc, pairs)?;
     let pairs = copy_elements(alloc, pairs)?;
     let pairs = copy_title(alloc, pairs)?;
     let pairs = name_format(alloc, pairs)?;
+    let pairs = read_citation(alloc, pairs)?;
     let pairs = read_texts(alloc, pairs)?;
     let pairs = name_referrer(alloc, pairs)?;
     let pairs = lead_issn(alloc, pairs)?;

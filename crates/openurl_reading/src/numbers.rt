@@ -6,7 +6,7 @@ ghost use Rattle.text_model.specs.Texts.{texts_of};
 ghost use Rattle.openurl_reading.specs.Steps.{taken};
 ghost use Rattle.openurl_reading.specs.Numbers as spec;
 
-use crate::change::{Change, changed};
+use crate::change::lead;
 use crate::pairs::Pairs;
 use crate::searched::searched;
 use standard_numbers::{isbns_in, issns_in};
@@ -18,8 +18,7 @@ pub(crate) fn lead_issn(alloc: Global, pairs: Pairs) -> Result<Pairs, AllocError
     ensures { IfOk result (λ after. after ≡ taken pairs spec.issn_step) }
 {
     let issn = first(issns_under(alloc, &pairs, "rft.issn")?);
-    let change = Change::led(alloc, issn, pairs.first("rft.issn"))?;
-    changed(alloc, "rft.issn", change, pairs)
+    lead(alloc, "rft.issn", issn, pairs)
 }
 
 /// The first ISSN of the online edition leads.
@@ -27,8 +26,7 @@ pub(crate) fn lead_eissn(alloc: Global, pairs: Pairs) -> Result<Pairs, AllocErro
     ensures { IfOk result (λ after. after ≡ taken pairs spec.eissn_step) }
 {
     let issn = first_eissn(alloc, &pairs)?;
-    let change = Change::led(alloc, issn, pairs.first("rft.eissn"))?;
-    changed(alloc, "rft.eissn", change, pairs)
+    lead(alloc, "rft.eissn", issn, pairs)
 }
 
 /// The first ISBN leads, with thirteen digits.
@@ -36,8 +34,7 @@ pub(crate) fn lead_isbn(alloc: Global, pairs: Pairs) -> Result<Pairs, AllocError
     ensures { IfOk result (λ after. after ≡ taken pairs spec.isbn_step) }
 {
     let isbn = first_isbn(alloc, &pairs)?;
-    let change = Change::led(alloc, isbn, pairs.first("rft.isbn"))?;
-    changed(alloc, "rft.isbn", change, pairs)
+    lead(alloc, "rft.isbn", isbn, pairs)
 }
 
 /// The ISSN of the online edition, which may be the second one of a value.
@@ -101,9 +98,8 @@ fn isbns_under(alloc: Global, pairs: &Pairs, key: &str) -> Result<Vec<Text>, All
 pub(crate) fn push_all(list: &mut Vec<Text>, more: Vec<Text>) -> Result<(), AllocError>
     ensures { OnOk result (list.new.items ≡ list.old.items ++ more.items) }
 {
-    for text in more {
-        list.push(text)?;
-    }
+    let mut more = more;
+    list.append(&mut more)?;
     Ok(())
 }
 
@@ -111,11 +107,12 @@ pub(crate) fn push_all(list: &mut Vec<Text>, more: Vec<Text>) -> Result<(), Allo
 fn push_rest(list: &mut Vec<Text>, more: Vec<Text>) -> Result<(), AllocError>
     ensures { OnOk result (list.new.items ≡ list.old.items ++ drop 1 more.items) }
 {
-    let mut texts = more.into_iter();
-    let _first = texts.next();
-    for text in texts {
-        list.push(text)?;
+    let mut rest = more;
+    if rest.is_empty() {
+        return Ok(());
     }
+    let _first = rest.remove(0);
+    list.append(&mut rest)?;
     Ok(())
 }
 

@@ -10,7 +10,7 @@ ghost use Rattle.openurl_reading.specs.Steps.{after, taken};
 ghost use Rattle.openurl_reading.specs.Pages as spec;
 
 use crate::article_numbers::article_in;
-use crate::change::{Change, changed};
+use crate::change::lead;
 use crate::pairs::{Pairs, ascii_text};
 use crate::searched::is_short;
 use article_places::{LastPage, Pages, pages_in};
@@ -30,16 +30,14 @@ fn lead_last_page(alloc: Global, pairs: Pairs) -> Result<Pairs, AllocError>
     ensures { IfOk result (λ after. after ≡ taken pairs spec.last_page_step) }
 {
     let page = last_page(alloc, &pairs)?;
-    let change = Change::led(alloc, page, pairs.first("rft.epage"))?;
-    changed(alloc, "rft.epage", change, pairs)
+    lead(alloc, "rft.epage", page, pairs)
 }
 
 fn lead_first_page(alloc: Global, pairs: Pairs) -> Result<Pairs, AllocError>
     ensures { IfOk result (λ after. after ≡ taken pairs spec.first_page_step) }
 {
     let page = first_page(alloc, &pairs)?;
-    let change = Change::led(alloc, page, pairs.first("rft.spage"))?;
-    changed(alloc, "rft.spage", change, pairs)
+    lead(alloc, "rft.spage", page, pairs)
 }
 
 /// The first page of a request, which may be the number of the article.

@@ -1,6 +1,6 @@
 //! Pairs of a key and a value.
 
-ghost use Rattle.std.specs.Prelude.{◌≡◌, ◌<◌, IfOk, Some, length, slice_get};
+ghost use Rattle.std.specs.Prelude.{◌≡◌, ◌<◌, ◌++◌, ◌∷◌, [], IfOk, OnOk, Some, length, slice_get};
 ghost use Rattle.std.specs.Option.{option_copied};
 ghost use Rattle.std.specs.Str.{IsAscii};
 ghost use Rattle.text_model.specs.Texts.{texts_of};
@@ -79,6 +79,12 @@ impl Pairs {
         list
     }
 
+    pub(crate) fn as_slice(&self) -> &[Pair]
+        ensures { result.now ≡ self.now }
+    {
+        self.list.as_slice()
+    }
+
     /// How many pairs there are.
     pub fn len(&self) -> usize
         ensures { result ≡ length self.now }
@@ -151,4 +157,30 @@ pub(crate) fn ascii_text(alloc: Global, bytes: &[u8]) -> Result<Text, AllocError
 {
     let text = String::from_utf8_lossy(alloc, bytes)?;
     Ok(Text::new(text))
+}
+
+/// Appends a pair.
+pub(crate) fn push_pair(
+    alloc: Global,
+    list: &mut Vec<Pair>,
+    key: &str,
+    value: Text,
+) -> Result<(), AllocError>
+    ensures { OnOk result (list.new.items ≡ list.old.items ++ record { key = key.now; value = value } ∷ []) }
+{
+    list.push(Pair::new(copy(alloc, key)?, value))?;
+    Ok(())
+}
+
+/// Appends a pair of copies.
+pub(crate) fn push_text(
+    alloc: Global,
+    list: &mut Vec<Pair>,
+    key: &str,
+    value: &str,
+) -> Result<(), AllocError>
+    ensures { OnOk result (list.new.items ≡ list.old.items ++ record { key = key.now; value = value.now } ∷ []) }
+{
+    let value = copy(alloc, value)?;
+    push_pair(alloc, list, key, value)
 }

@@ -9,6 +9,7 @@ use crate::counting::counting;
 use crate::derived::with_derived;
 use crate::normal_form::normal_form;
 use crate::pairs::Pairs;
+use crate::retractions::is_retracted;
 use kev_read::{KevError, MAX_QUERY_BYTES, QueryPairs};
 use std::alloc::Global;
 use std::marker::Model;
@@ -18,6 +19,7 @@ use std::marker::Model;
 pub struct Reading {
     pairs: Pairs,
     left_out: usize,
+    is_retracted: bool,
 }
 
 impl Model for Reading {
@@ -25,7 +27,11 @@ impl Model for Reading {
 
     ghost Value = { ReadRequest };
 
-    ghost view = { λ reading. record { pairs = reading.pairs; left_out = reading.left_out } };
+    ghost view = { λ reading. record {
+      pairs = reading.pairs;
+      left_out = reading.left_out;
+      is_retracted = reading.is_retracted;
+    } };
 }
 
 impl Reading {
@@ -41,6 +47,13 @@ impl Reading {
         ensures { result ≡ self.now.left_out }
     {
         self.left_out
+    }
+
+    /// Whether a title of the request has the remark that its work was retracted, as `RETRACTED: Silt`.
+    pub fn is_retracted(&self) -> bool
+        ensures { result ≡ self.now.is_retracted }
+    {
+        self.is_retracted
     }
 }
 
@@ -59,7 +72,12 @@ pub fn read_openurl(alloc: Global, query: &[u8]) -> Result<Reading, KevError>
     }
     let query = QueryPairs::read(alloc, query)?;
     let (sent, left_out) = counting(alloc, &query)?;
+    let is_retracted = is_retracted(alloc, &sent)?;
     let normal = normal_form(alloc, sent)?;
     let pairs = with_derived(alloc, normal)?;
-    Ok(Reading { pairs, left_out })
+    Ok(Reading {
+        pairs,
+        left_out,
+        is_retracted,
+    })
 }

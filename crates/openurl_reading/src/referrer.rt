@@ -31,7 +31,6 @@ fn referred(alloc: Global, pairs: &Pairs) -> Result<Change, AllocError>
 }
 
 /// The identifier of the referrer that the first source is, if there is one.
-#[tactic(auto, using(crate::proofs::Firsts::first_alone, crate::proofs::Firsts::none_first))]
 fn referrers(alloc: Global, pairs: &Pairs) -> Result<Vec<Text>, AllocError>
     ensures { IfOk result (λ ids. ids.items ≡ map spec.referrer_of (take 1 (all_of pairs.now (codes "sid")))) }
 {

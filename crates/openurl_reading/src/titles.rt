@@ -10,7 +10,6 @@ use crate::pairs::Pairs;
 use std::alloc::{AllocError, Global};
 
 /// The title is that of a book, a dissertation or a journal, unless the request has one of these.
-#[tactic(auto, using(crate::proofs::Titled::titlings_copy, crate::proofs::Titled::titlings_stay))]
 pub(crate) fn copy_title(alloc: Global, pairs: Pairs) -> Result<Pairs, AllocError>
     ensures { IfOk result (λ titled. titled ≡ after spec.titlings pairs) }
 {

@@ -8,7 +8,7 @@ ghost use Rattle.kev_read.specs.Pairs.{first_of};
 ghost use Rattle.openurl_reading.specs.Steps.{after, taken};
 ghost use Rattle.openurl_reading.specs.Volumes as spec;
 
-use crate::change::{Change, changed};
+use crate::change::lead;
 use crate::pairs::{Pairs, ascii_text};
 use crate::searched::is_short;
 use article_places::{Enumeration, enumeration_in};
@@ -30,24 +30,21 @@ fn add_issue(alloc: Global, pairs: Pairs) -> Result<Pairs, AllocError>
     ensures { IfOk result (λ after. after ≡ taken pairs spec.added_issue_step) }
 {
     let issue = added_issue(alloc, &pairs)?;
-    let change = Change::led(alloc, issue, pairs.first("rft.issue"))?;
-    changed(alloc, "rft.issue", change, pairs)
+    lead(alloc, "rft.issue", issue, pairs)
 }
 
 fn lead_volume(alloc: Global, pairs: Pairs) -> Result<Pairs, AllocError>
     ensures { IfOk result (λ after. after ≡ taken pairs spec.volume_step) }
 {
     let volume = volume(alloc, &pairs)?;
-    let change = Change::led(alloc, volume, pairs.first("rft.volume"))?;
-    changed(alloc, "rft.volume", change, pairs)
+    lead(alloc, "rft.volume", volume, pairs)
 }
 
 fn lead_issue(alloc: Global, pairs: Pairs) -> Result<Pairs, AllocError>
     ensures { IfOk result (λ after. after ≡ taken pairs spec.issue_step) }
 {
     let issue = issue(alloc, &pairs)?;
-    let change = Change::led(alloc, issue, pairs.first("rft.issue"))?;
-    changed(alloc, "rft.issue", change, pairs)
+    lead(alloc, "rft.issue", issue, pairs)
 }
 
 fn added_issue(alloc: Global, pairs: &Pairs) -> Result<Option<Text>, AllocError>

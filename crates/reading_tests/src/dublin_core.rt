@@ -49,7 +49,44 @@ const FORMATS: [Case; 9] = [
     ),
 ];
 
-const ELEMENTS: [Case; 9] = [
+const ELEMENTS: [Case; 17] = [
+    (
+        "rft.source=Tides+2012;12(3):45-67&rft.title=Silt",
+        &[
+            ("rft.jtitle", "Tides"),
+            ("rft.volume", "12"),
+            ("rft.issue", "3"),
+            ("rft.pages", "45-67"),
+            ("rft.date", "2012"),
+            ("rft.atitle", "Silt"),
+        ],
+    ),
+    (
+        "rft.source=Tides+12(3):45-67&rft.volume=13",
+        &[
+            ("rft.jtitle", "Tides"),
+            ("rft.volume", "13"),
+            ("rft.issue", "3"),
+        ],
+    ),
+    (
+        "rft.source=Tides&rft.jtitle=Coasts",
+        &[("rft.jtitle", "Coasts")],
+    ),
+    (
+        "rft.source=%E6%BD%AE%E6%B1%90",
+        &[("rft.jtitle", "\u{6f6e}\u{6c50}")],
+    ),
+    ("rft.source=Q", &[("rft.jtitle", "")]),
+    (
+        "rft.source=https://example.org/tides",
+        &[("rft.jtitle", "")],
+    ),
+    ("rft.source=ISSN+2901-0012", &[("rft.jtitle", "")]),
+    (
+        "rft_val_fmt=info:ofi/fmt:kev:mtx:dcx&rft.source=Tides",
+        &[("rft.jtitle", "")],
+    ),
     (
         "rft.creator=Smith,+J.&rft.creator=Jones,+A.",
         &[("rft.au", "Smith, J.")],

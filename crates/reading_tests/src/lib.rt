@@ -31,6 +31,8 @@ mod queries;
 #[cfg(test)]
 mod references;
 #[cfg(test)]
+mod request_citations;
+#[cfg(test)]
 mod request_pages;
 #[cfg(test)]
 mod request_texts;

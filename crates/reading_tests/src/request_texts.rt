@@ -101,3 +101,23 @@ fn all_names_are_read(rt: HostRuntime) -> Result<(), Fail> {
     assert!(rt; names.as_str() == "Smith M\u{fc}ller Li ");
     Ok(())
 }
+
+/// A query, and whether a title of it has a remark of a retraction.
+const RETRACTIONS: [(&str, bool); 7] = [
+    ("rft.atitle=RETRACTED:+Silt", true),
+    ("atitle=Silt+(Retracted+in+2015)", true),
+    ("title=%26%2391;Retracted%26%2393;+Silt", true),
+    ("rft.atitle=Retraction+of:+Silt", false),
+    ("rft.atitle=%5BRetracted%5D", false),
+    ("rft.stitle=RETRACTED:+Silt", false),
+    ("issn=29010012", false),
+];
+
+#[test]
+fn remarks_of_retractions_are_told(rt: HostRuntime) -> Result<(), Fail> {
+    for (query, is_retracted) in &RETRACTIONS {
+        let reading = read_openurl(rt.alloc(), query.as_bytes())?;
+        assert!(rt; reading.is_retracted() == *is_retracted);
+    }
+    Ok(())
+}

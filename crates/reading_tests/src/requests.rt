@@ -88,8 +88,12 @@ fn sources_send_openurl_1_0(rt: HostRuntime) -> Result<(), Fail> {
 
 const FORMS: [Case; 21] = [
     (
-        "ctx_ver=Z39.88-2003&url_ver=1",
-        &[("ctx_ver", "Z39.88-2004"), ("url_ver", "Z39.88-2004")],
+        "ctx_ver=Z39.88-2003&url_ver=1&ctx_enc=utf8",
+        &[
+            ("ctx_ver", "Z39.88-2004"),
+            ("url_ver", "Z39.88-2004"),
+            ("ctx_enc", "info:ofi/enc:UTF-8"),
+        ],
     ),
     (
         "rft.issn=2943081x",

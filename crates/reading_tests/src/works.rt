@@ -209,7 +209,7 @@ fn preprints_have_the_doi_of_arxiv(rt: HostRuntime) -> Result<(), Fail> {
     Ok(())
 }
 
-const PAGES: [Case; 7] = [
+const LAST_SOURCES: [Case; 11] = [
     (
         "url=https://e.org/doi/full/10.1000/182?x=y",
         "info:doi/10.1000/182 ",
@@ -237,11 +237,31 @@ const PAGES: [Case; 7] = [
     ),
     ("url=https://e.org/a/123", "", ["", "", ""]),
     ("id=https://e.org/doi/10.1000/182", "", ["", "", ""]),
+    (
+        "title=10.1000/182",
+        "info:doi/10.1000/182 ",
+        ["10.1000/182", "", ""],
+    ),
+    (
+        "jtitle=PMID:+99990001",
+        "info:pmid/99990001 ",
+        ["", "99990001", ""],
+    ),
+    (
+        "atitle=arXiv:2101.00001v2",
+        "info:doi/10.48550/arXiv.2101.00001 ",
+        ["10.48550/arXiv.2101.00001", "", ""],
+    ),
+    (
+        "title=10.1000/182&url=https://e.org/doi/10.1000/123456",
+        "info:doi/10.1000/123456 ",
+        ["10.1000/123456", "", ""],
+    ),
 ];
 
 #[test]
-fn the_address_of_a_page_is_the_last_source(rt: HostRuntime) -> Result<(), Fail> {
-    assert_eq!(rt; first_other(rt.alloc(), &PAGES)?, None);
+fn pages_and_titles_are_the_last_sources(rt: HostRuntime) -> Result<(), Fail> {
+    assert_eq!(rt; first_other(rt.alloc(), &LAST_SOURCES)?, None);
     Ok(())
 }
 
@@ -350,6 +370,29 @@ fn all_values_of_a_key_are_read(rt: HostRuntime) -> Result<(), Fail> {
         let query = many_values(rt.alloc(), count)?;
         let reading = read_openurl(rt.alloc(), query.as_str().as_bytes())?;
         assert_eq!(rt; reading.pairs().first("x.doi").is_some(), wanted);
+    }
+    Ok(())
+}
+
+/// A query, and the DOI of its reading as a proxy has to get it, which is empty if that is the DOI itself.
+const ENCODED: [(&str, &str); 3] = [
+    (
+        "rft_id=info:doi/10.1000/a%23b%3C1%3E.2",
+        "10.1000%2Fa%23b%3C1%3E.2",
+    ),
+    ("doi=10.1000/(SICI)12:3;4", ""),
+    ("pmid=7&x.doi_encoded=a%23b", ""),
+];
+
+#[test]
+fn a_doi_is_encoded_for_a_proxy(rt: HostRuntime) -> Result<(), Fail> {
+    for (query, doi) in ENCODED {
+        let reading = read_openurl(rt.alloc(), query.as_bytes())?;
+        assert_eq!(rt;
+            reading.pairs().first("x.doi_encoded").unwrap_or(""),
+            doi,
+            "{query}"
+        );
     }
     Ok(())
 }

@@ -1,11 +1,11 @@
 use Rattle.std.proofs.Common.{◌≡◌, ◌+◌, ◌-◌, ◌<◌, ◌≤◌, ◌++◌, ◌∷◌, [], true, false, length, take, get_or, sym, ap, subst, ◌∙◌, arith}
-use Rattle.std.proofs.lemmas.List.{length-append}
+use Rattle.std.proofs.lemmas.List.{length-append, take_all}
 use Rattle.std.proofs.lemmas.Option.{get_or_from_slice_get}
 use Rattle.kev_read.specs.Pairs.{KeyValue}
 use Rattle.openurl_reading.specs.Counting.{accepted, is_accepted, most_pairs}
 use Rattle.openurl_reading.proofs.CountedPairs.{accepted_same, accepted_one, counting_one, none_left_out, counting_full, one_left_out}
 use Rattle.openurl_reading.proofs.counting.counting.Goals as goal
-use Rattle.openurl_reading.proofs.counting.counting.Goals.{then-branch+then-len-lt-MOST_PAIRS+in_ok-copy+in_ok-copy-2+in_ok-push}
+use Rattle.openurl_reading.proofs.counting.counting.Goals.{then-branch+then-len-lt-MOST_PAIRS+in_ok-push_text}
 use Rattle.openurl_reading.proofs.counting.counting.Goals.{then-branch+else-len-lt-MOST_PAIRS, else-branch}
 
 pub loop-index-preserved : goal.loop-index-preserved
@@ -19,15 +19,13 @@ loop-index-preserved c =
     let list = accepted (take index pairs) in
     let test = c.in_ok-is_accepted.ensures in
     elim c.if-branch.branch [
-      | then-branch+then-len-lt-MOST_PAIRS+in_ok-copy+in_ok-copy-2+in_ok-push w ↦
+      | then-branch+then-len-lt-MOST_PAIRS+in_ok-push_text w ↦
           let few : length (take most_pairs list) < most_pairs = subst (λ l. length l < most_pairs) so_far.list (omega (arith, w.len.ensures)) in
           let is_one : is_accepted (get_or pairs index item) ≡ true = subst (λ p. is_accepted p ≡ true) (sym is) (sym test ∙ w.if-branch.true) in
           let more = accepted_one pairs index item within is_one ∙ ap (λ p. list ++ p ∷ []) is in
-          let copy : w.new.result ≡ item = w.new.ensures ∙ (λ i. record { key = w.in_ok-copy.ensures i; value = w.in_ok-copy-2.ensures i }) in
-          let pushed : c.if-branch.list.items ≡ c.loop-index.list.items ++ w.new.result ∷ [] = rw w.list-is w.in_ok-push.ensures.items in
+          let pushed : c.if-branch.list.items ≡ c.loop-index.list.items ++ item ∷ [] = rw w.list-is w.in_ok-push_text.ensures in
           record {
-            list = pushed ∙ ap (λ l. l ++ w.new.result ∷ []) so_far.list ∙ ap (λ x. take most_pairs list ++ x ∷ []) copy
-                ∙ sym (counting_one list item few) ∙ ap (take most_pairs) (sym more);
+            list = pushed ∙ ap (λ l. l ++ item ∷ []) so_far.list ∙ sym (counting_one list item few) ∙ ap (take most_pairs) (sym more);
             left_out = w.left_out-is ∙ so_far.left_out ∙ sym (none_left_out list item few) ∙ ap (λ l. length l - most_pairs) (sym more);
             few = subst (λ l. length l ≤ index + 1) (sym more) (simp length-append (omega (arith, so_far.few)));
           }
@@ -49,3 +47,17 @@ loop-index-preserved c =
             few = subst (λ l. length l ≤ index + 1) (sym same) (omega (arith, so_far.few));
           }
     ]
+
+pub returns-clause-counting : goal.returns-clause-counting
+returns-clause-counting c =
+    let query = c.args.query.now in
+    let index = c.loop-index.index in
+    let past : length query ≤ index = omega (arith, c.len-index-end.ensures, c.loop-index-test.false) in
+    c.new.ensures ∙ c.loop-index.invariant.list ∙ ap (λ l. take most_pairs (accepted l)) (take_all index query past)
+
+pub returns-clause-left_out : goal.returns-clause-left_out
+returns-clause-left_out c =
+    let query = c.args.query.now in
+    let index = c.loop-index.index in
+    let past : length query ≤ index = omega (arith, c.len-index-end.ensures, c.loop-index-test.false) in
+    c.loop-index.invariant.left_out ∙ ap (λ l. length (accepted l) - most_pairs) (take_all index query past)

@@ -1,15 +1,15 @@
-use Rattle.std.proofs.Common.{◌∙◌, rules, tests}
-use Rattle.std.specs.Borrow.{Bor}
+use Rattle.std.proofs.Common.{sym}
 use Rattle.std.specs.Str.{bytes_eq}
-use Rattle.std.proofs.lemmas.Iterator.{YieldsList-from_slice}
-use Rattle.std.proofs.lemmas.Iterator.Search.{any_from_yields_List}
-use Rattle.text_model.specs.Texts.{Text}
-use Rattle.openurl_reading.proofs.AnyTexts.{any-texts_of}
+use Rattle.openurl_reading.proofs.Walks.{any_later, any_here, any_none}
 use Rattle.openurl_reading.proofs.counting.is_one_of.Goals as goal
 
+pub returns-then-eq : goal.returns-then-eq
+returns-then-eq c =
+    any_here (λ one. bytes_eq one c.args.text.now) _ _ _ _ c.loop-one-test.true (sym c.if-eq.ensures) c.loop-one.invariant
+
+pub loop-one-preserved : goal.loop-one-preserved
+loop-one-preserved c =
+    any_later (λ one. bytes_eq one c.args.text.now) _ _ _ _ c.loop-one-test.true (sym c.if-eq.ensures) c.loop-one.invariant
+
 pub returns : goal.returns
-returns c =
-    let text = c.args.text.now in
-    let texts = c.args.texts.now in
-    any_from_yields_List (λ (one : Bor Text). bytes_eq one.now text) _ _ _ c.any.ensures.ran (YieldsList-from_slice texts cc) (λ x b q k. search (rules, tests))
-    ∙ any-texts_of bytes_eq text texts
+returns c = any_none (λ one. bytes_eq one c.args.text.now) _ _ _ c.loop-one-test.false c.loop-one.invariant

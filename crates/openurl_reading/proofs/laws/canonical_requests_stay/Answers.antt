@@ -13,6 +13,7 @@ returns-clause-steps c pairs is =
     settled_stays pairs (kept_settled pairs record {
       context = is.context;
       transport = is.transport;
+      encoding = is.encoding;
       no_old_keys = is.no_old_keys;
       no_number = missing 6 [] (lit< tt);
       no_identifier = missing 7 [] (lit< tt);
@@ -25,6 +26,7 @@ returns-clause-steps c pairs is =
       no_year = missing 3 [] (lit< tt);
       no_eisbn = missing 4 [] (lit< tt);
       titles = is.titles;
+      journals = is.journals;
       other_texts = is.other_texts;
       issns = λ k d h. let one = is.issns k d h in issn_kept c.issns_stay.ensures _ one.0 one.1;
       eissns = λ k d h. let one = is.eissns k d h in issn_kept c.issns_stay.ensures _ one.0 one.1;

@@ -2,6 +2,8 @@ use Rattle.std.proofs.Common.{◌≤◌, length, arith}
 use Rattle.std.proofs.lemmas.List.{length-take}
 use Rattle.openurl_reading.specs.Counting.{accepted, counting, most_pairs}
 use Rattle.openurl_reading.specs.Reading.{normal_form, with_derived}
+use Rattle.openurl_reading.proofs.Cited.{AreCitedLight}
+use Rattle.openurl_reading.proofs.CitedParts.{cited_short}
 use Rattle.openurl_reading.proofs.FoundAre.{AreFoundIn, found_are}
 use Rattle.openurl_reading.proofs.Identified.{identified}
 use Rattle.openurl_reading.proofs.IdentifierForms.{identifier_short}
@@ -11,6 +13,7 @@ use Rattle.openurl_reading.proofs.PagesFound.{pages_short}
 use Rattle.openurl_reading.proofs.VolumeForms.{numbers_short}
 use Rattle.openurl_reading.proofs.VolumeLaws.{AreFoundNumbers}
 use Rattle.openurl_reading.proofs.KeysWeigh.{AreLight, formats_short, source_short}
+use Rattle.openurl_reading.proofs.DerivedWeigh.{encoded_short}
 use Rattle.openurl_reading.proofs.Sizes.{ArePagesLight, pages_light, reading_weighs, counting_weighs, total-one}
 use Rattle.openurl_reading.proofs.laws.readings_are_bounded.Goals as goal
 
@@ -34,6 +37,13 @@ returns-clause-few c pairs =
       identifier = λ namespace n plain is. omega arith;
       uri = λ namespace n is. omega arith;
     } in
+    let cited : AreCitedLight (λ n. 1) 1 = λ pairs found e. record {
+      name = omega arith;
+      volume = λ n g b. omega arith;
+      issue = λ n g b. omega arith;
+      pages = λ n g b. omega arith;
+      year = λ n g b. omega arith;
+    } in
     let pages : ArePagesLight (λ n. 1) 1 1 = record { first = λ pairs n e. omega arith; last = λ pairs n e. omega arith } in
     let numbers : AreFoundNumbers (λ n. 1 ≤ 1) = λ value. record {
       number = λ number n e is. omega arith;
@@ -42,7 +52,7 @@ returns-clause-few c pairs =
     } in
     omega (
       arith,
-      reading_weighs (λ n. 1) 1 1 1 1 1 (λ namespace. 1) light (λ kind. omega arith) numbers pages counted,
+      reading_weighs (λ n. 1) 1 1 1 1 1 1 1 (λ namespace. 1) light (λ doi encoded is e. omega arith) (λ kind. omega arith) cited numbers pages counted,
       total-one counted,
       total-one (with_derived (normal_form counted)),
     )
@@ -65,6 +75,7 @@ returns-clause-bytes c pairs =
       identifier = identifier_short c.uris_are_short.ensures;
       uri = c.uris_are_short.ensures;
     } in
+    let cited = cited_short c.references_are_parts.ensures.name c.references_are_parts.ensures.pieces in
     let short = pages_short c.pages_are_parts.ensures.first c.pages_are_parts.ensures.last c.parts_are_short.ensures.part
     c.parts_are_short.ensures.last in
     let pages : ArePagesLight (λ n. length n) 200 400 = pages_light short in
@@ -80,6 +91,7 @@ returns-clause-bytes c pairs =
     }) in
     omega (
       arith,
-      reading_weighs (λ n. length n) 13 33 407 200 400 longest_uri light formats_short numbers pages counted,
+      reading_weighs (λ n. length n) 13 1527 33 500 407 200 400 longest_uri light
+          (encoded_short c.uris_are_short.ensures c.writing_at_most_triples.ensures) formats_short cited numbers pages counted,
       counting_weighs (λ n. length n) pairs,
     )

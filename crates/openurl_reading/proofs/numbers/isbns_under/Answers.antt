@@ -1,0 +1,17 @@
+use Rattle.std.proofs.Common.{ap, ◌∙◌}
+use Rattle.standard_numbers.specs.Isbn.{isbns_in}
+use Rattle.openurl_reading.proofs.Walks.{flat_pushed, flat_all}
+use Rattle.std.specs.List.{flat_map}
+use Rattle.text_model.specs.Texts.{texts_of}
+use Rattle.openurl_reading.specs.Values.{searched}
+use Rattle.openurl_reading.proofs.numbers.isbns_under.Goals as goal
+
+pub loop-value-preserved : goal.loop-value-preserved
+loop-value-preserved c =
+    flat_pushed (λ value. isbns_in (searched value)) _ _ _ _ _ _ c.loop-value-test.true c.in_ok-push_all.ensures
+    (c.in_ok-isbns_in.ensures ∙ ap isbns_in c.searched.ensures) c.loop-value.invariant
+
+pub returns : goal.returns
+returns c =
+    flat_all (λ value. isbns_in (searched value)) _ _ _ c.loop-value-test.false c.loop-value.invariant
+    ∙ ap (flat_map (λ value. isbns_in (searched value))) (ap texts_of c.deref-value-items.ensures.value ∙ c.in_ok-values.ensures)
