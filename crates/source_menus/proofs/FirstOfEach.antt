@@ -10,7 +10,7 @@ use Rattle.text_model.proofs.Lists.{filter_all, filter_none}
 use Rattle.menu.specs.declared.entry.Resolution.{Resolution}
 use Rattle.menu.specs.declared.entry.Resolution.TheVariants as resolution
 use Rattle.source_menus.specs.Parts.{target_of}
-use Rattle.source_menus.specs.Found.{FoundLink, target, is_of, first_of_each, links_in}
+use Rattle.source_menus.specs.Found.{FoundLink, RequestValue, target, is_of, first_of_each, links_in}
 use Rattle.source_menus.proofs.Filtered.{filter_within, filter_swaps, any_within, filter_same, filter_both}
 
 -- a link is of another target than this one
@@ -145,10 +145,10 @@ one_more links link b once h =
     by_test false g = rw g refl
 
 -- the link of an entry, if its target has none yet
-pub link_added : (is_own : Bool) (name : Text) (found : Resolution) (row : ℕ) (link : Text) (links : List FoundLink) (b : Bool)
+pub link_added : (request : RequestValue) (name : Text) (found : Resolution) (row : ℕ) (link : Text) (links : List FoundLink) (b : Bool)
     → found ≡ resolution.Link row link → first_of_each links ≡ links → list_any (is_of (target_of name)) links ≡ b
-    → first_of_each (links ++ links_in is_own (record { name = name; resolution = found } ∷ []))
-    ≡ links ++ cond b [] (record { name = name; row = row; link = link; is_own = is_own } ∷ [])
-link_added is_own name found row link links b is once h =
-    ap (λ it. first_of_each (links ++ links_in is_own (record { name = name; resolution = it } ∷ []))) is
-    ∙ one_more links (record { name = name; row = row; link = link; is_own = is_own }) b once h
+    → first_of_each (links ++ links_in request (record { name = name; resolution = found } ∷ []))
+    ≡ links ++ cond b [] (record { name = name; row = row; link = link; request = request } ∷ [])
+link_added request name found row link links b is once h =
+    ap (λ it. first_of_each (links ++ links_in request (record { name = name; resolution = it } ∷ []))) is
+    ∙ one_more links (record { name = name; row = row; link = link; request = request }) b once h

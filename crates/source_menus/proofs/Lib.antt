@@ -1,3 +1,4 @@
 pub mod Filtered
 pub mod FirstOfEach
 pub mod OfMenus
+pub mod Requests

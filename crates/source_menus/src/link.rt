@@ -7,6 +7,17 @@ use crate::parts::target_of;
 pub use menu::Text;
 use std::marker::Model;
 
+/// The request of a query that gave a link.
+#[derive(Clone, Copy, Debug, PartialEq, Eq)]
+pub enum LinkRequest<'a> {
+    /// The query's own, for targets that have the cited title.
+    Own,
+    /// The one with a further number of the title.
+    Further(&'a str),
+    /// The one for targets that answer every request.
+    Any,
+}
+
 /// A link of a target.
 #[derive(Drop)]
 pub struct FoundLink<'a> {
@@ -16,12 +27,12 @@ pub struct FoundLink<'a> {
     pub row: usize,
     /// The link, an address of the web.
     pub link: Text,
-    /// Whether the query's own request gave it; else the request for targets that answer every request did.
-    pub is_own: bool,
+    /// The request that gave it.
+    pub request: LinkRequest<'a>,
 }
 
 impl<'a> Model for FoundLink<'a> {
-    ghost use Rattle.source_menus.specs.Found.{FoundLink};
+    ghost use Rattle.source_menus.specs.Found.{FoundLink, request_value};
 
     ghost Value = { FoundLink };
 
@@ -29,7 +40,7 @@ impl<'a> Model for FoundLink<'a> {
       name = found.name.now;
       row = found.row;
       link = found.link;
-      is_own = found.is_own;
+      request = request_value found.request;
     } };
 }
 

@@ -1,40 +1,26 @@
 //! The links of menus, each target once.
 
-ghost use Rattle.std.specs.Prelude.{◌≡◌, ◌++◌, ◌∷◌, [], IfOk, OnOk, false, not, true, if◌then◌else◌};
+ghost use Rattle.std.specs.Prelude.{◌≡◌, ◌++◌, ◌∷◌, [], IfOk, OnOk};
 ghost use Rattle.std.specs.List.{list_any};
 ghost use Rattle.source_menus.specs.Found as spec;
 
-use crate::link::FoundLink;
-use menu::{Menu, MenuEntry, Resolution, Text};
+use crate::link::{FoundLink, LinkRequest};
+use menu::{MenuEntry, Resolution, Text};
 use std::alloc::{AllocError, Global};
 
-/// The links of both menus, each target once.
-pub(crate) fn joined<'a>(
-    alloc: Global,
-    own: &Menu<'a>,
-    any: &Menu<'a>,
-) -> Result<Vec<FoundLink<'a>>, AllocError>
-    ensures { IfOk result (λ links. links.items ≡ spec.joined own.now any.now) }
-{
-    let mut links = Vec::new(alloc);
-    push_links(alloc, &mut links, own.entries(), true)?;
-    push_links(alloc, &mut links, any.entries(), false)?;
-    Ok(links)
-}
-
-/// Appends the links of the targets that have none yet.
-fn push_links<'a>(
+/// Appends the links of a menu for a request, of the targets that have none yet.
+pub(crate) fn push_links<'a>(
     alloc: Global,
     links: &mut Vec<FoundLink<'a>>,
     entries: &[MenuEntry<'a>],
-    is_own: bool,
+    request: LinkRequest<'a>,
 ) -> Result<(), AllocError>
     requires once { spec.first_of_each links.old.items ≡ links.old.items }
     ensures { OnOk result (links.new.items
-        ≡ spec.first_of_each (links.old.items ++ spec.links_in is_own entries.now)) }
+        ≡ spec.first_of_each (links.old.items ++ spec.links_in (spec.request_value request.entry) entries.now)) }
 {
     for entry in entries {
-        push_link(alloc, links, entry, is_own)?;
+        push_link(alloc, links, entry, request)?;
     }
     Ok(())
 }
@@ -44,11 +30,11 @@ fn push_link<'a>(
     alloc: Global,
     links: &mut Vec<FoundLink<'a>>,
     entry: &MenuEntry<'a>,
-    is_own: bool,
+    request: LinkRequest<'a>,
 ) -> Result<(), AllocError>
     requires once { spec.first_of_each links.old.items ≡ links.old.items }
     ensures { OnOk result (links.new.items
-        ≡ spec.first_of_each (links.old.items ++ spec.links_in is_own (entry.now ∷ []))) }
+        ≡ spec.first_of_each (links.old.items ++ spec.links_in (spec.request_value request.entry) (entry.now ∷ []))) }
 {
     let Resolution::Link { row, link } = &entry.resolution else {
         return Ok(());
@@ -58,7 +44,7 @@ fn push_link<'a>(
         name: entry.name,
         row: *row,
         link,
-        is_own,
+        request,
     };
     if has_target(links, found.target()) {
         return Ok(());

@@ -2,13 +2,14 @@
 use Rattle.std.proofs.Common.{◌≡◌, ◌≤◌, ◌+◌, ℕ, zero, suc, Bool, true, false, cond, not, ◌||◌, List, [], ◌∷◌, filter, map, take, length, refl}
 use Rattle.std.proofs.Common.{sym, ap, subst, ◌∙◌, arith}
 use Rattle.std.specs.Prelude.{codes, None, nat_lt, slice_get}
+use Rattle.std.proofs.lemmas.Bool.{cond_both}
 use Rattle.std.proofs.lemmas.Bool.Decides.{nat_tests}
 use Rattle.std.proofs.lemmas.Slice.Eq.{bytes_eq-Decides}
 use Rattle.text_model.specs.Texts.{Text}
 use Rattle.kev_read.specs.Pairs.{KeyValue, all_of, first_of, has_key, pairs_of}
 use Rattle.kev_read.specs.Refusal.{is_other_version, refusal, states_other_version}
 use Rattle.kev_read.specs.declared.read.TheConstants.{MAX_PAIRS, MAX_QUERY_BYTES}
-use Rattle.source_requests.specs.Requests.{any_pairs, is_row_key}
+use Rattle.source_requests.specs.Requests.{any_issn, any_pairs, further_pairs, has_issn_length, is_row_key, led_by, number_pair}
 
 -- ---- versions
 
@@ -57,11 +58,33 @@ other_values key (pair ∷ pairs) h = by_test (is_row_key pair.key) refl (has_ke
     by_test false e true g s = rw g (ap (λ vs. pair.value ∷ vs) s)
     by_test false e false g s = rw g s
 
-pub any_accepted : (pairs : List KeyValue) → states_other_version pairs ≡ false → states_other_version (any_pairs pairs) ≡ false
-any_accepted pairs h =
-    ap (λ vs. is_other_version (slice_get vs 0) || is_other_version (first_of (any_pairs pairs) (codes "url_ver"))) (other_values (codes "ctx_ver") pairs refl)
-    ∙ ap (λ vs. is_other_version (first_of pairs (codes "ctx_ver")) || is_other_version (slice_get vs 0)) (other_values (codes "url_ver") pairs refl)
+-- behind a pair with another key, the values are those of the others
+led_values : (key : Text) (first : KeyValue) (pairs : List KeyValue) → has_key key first ≡ false → is_row_key key ≡ false
+    → all_of (led_by first pairs) key ≡ all_of pairs key
+led_values key first pairs other h =
+    let stay : List KeyValue = filter (λ pair. not (is_row_key pair.key)) pairs in
+    ap (λ b. map (λ (p : KeyValue). p.value) (cond b (first ∷ filter (has_key key) stay) (filter (has_key key) stay))) other ∙ other_values key pairs h
+
+led_accepted : (first : KeyValue) (pairs : List KeyValue) → has_key (codes "ctx_ver") first ≡ false → has_key (codes "url_ver") first ≡ false
+    → states_other_version pairs ≡ false → states_other_version (led_by first pairs) ≡ false
+led_accepted first pairs x y h =
+    ap (λ vs. is_other_version (slice_get vs 0) || is_other_version (first_of (led_by first pairs) (codes "url_ver")))
+    (led_values (codes "ctx_ver") first pairs x refl)
+    ∙ ap (λ vs. is_other_version (first_of pairs (codes "ctx_ver")) || is_other_version (slice_get vs 0)) (led_values (codes "url_ver") first pairs y refl)
     ∙ h
+
+pub any_accepted : (pairs : List KeyValue) → states_other_version pairs ≡ false → states_other_version (any_pairs pairs) ≡ false
+any_accepted pairs h = led_accepted any_issn pairs refl refl h
+
+pub further_accepted : (number : Text) (pairs : List KeyValue) → states_other_version pairs ≡ false
+    → states_other_version (further_pairs number pairs) ≡ false
+further_accepted number pairs h = led_accepted (number_pair number) pairs (other (codes "ctx_ver") refl refl) (other (codes "url_ver") refl refl) h
+  where
+    other : (key : Text) → has_key key (record { key = codes "rft.issn"; value = number }) ≡ false
+        → has_key key (record { key = codes "rft.isbn"; value = number }) ≡ false → has_key key (number_pair number) ≡ false
+    other key x y =
+        cond_both (has_issn_length number) (codes "rft.issn") (codes "rft.isbn") (λ name. has_key key (record { key = name; value = number }) ≡ false)
+        (λ e. x) (λ e. y)
 
 filter_short : (test : KeyValue → Bool) (pairs : List KeyValue) → length (filter test pairs) ≤ length pairs
 filter_short test [] = omega arith
@@ -72,8 +95,8 @@ filter_short test (pair ∷ pairs) = by_test (test pair) (filter_short test pair
     by_test true h = omega (arith, h)
     by_test false h = omega (arith, h)
 
-pub any_few : (pairs : List KeyValue) → length (any_pairs pairs) ≤ length pairs + 1
-any_few pairs = let short = filter_short (λ pair. not (is_row_key pair.key)) pairs in omega (arith, short)
+pub led_few : (first : KeyValue) (pairs : List KeyValue) → length (led_by first pairs) ≤ length pairs + 1
+led_few first pairs = let short = filter_short (λ pair. not (is_row_key pair.key)) pairs in omega (arith, short)
 
 -- ---- no reason to refuse a query
 

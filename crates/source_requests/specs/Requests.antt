@@ -1,5 +1,5 @@
 -- The requests for a query of any source.
-use Rattle.std.specs.Prelude.{◌<◌, ◌≤◌, ◌⊎◌, Bool, ◌||◌, not, nat_le, List, [], ◌∷◌, map, filter, length, codes, if◌then◌else◌}
+use Rattle.std.specs.Prelude.{◌<◌, ◌≤◌, ◌⊎◌, Bool, ◌||◌, ◌==◌, not, nat_le, List, [], ◌∷◌, count_by, map, filter, length, codes, if◌then◌else◌}
 use Rattle.std.specs.Str.{IsUtf8, bytes_eq}
 use Rattle.form_urlencoded.specs.Form as form
 use Rattle.text_model.specs.Texts.{Text}
@@ -50,11 +50,15 @@ fitting_after text (pair ∷ pairs) =
 abbrev pub fitting : List KeyValue → List KeyValue
 fitting pairs = fitting_after [] pairs
 
--- ---- the two requests
+-- ---- the requests
 
 -- the keys by which the rows of a title are found
 abbrev pub is_row_key : Text → Bool
 is_row_key key = bytes_eq key (codes "rft.issn") || bytes_eq key (codes "rft.eissn") || bytes_eq key (codes "rft.isbn")
+
+-- with a pair that finds rows in the place of those that do
+abbrev pub led_by : KeyValue → List KeyValue → List KeyValue
+led_by first pairs = first ∷ filter (λ pair. not (is_row_key pair.key)) pairs
 
 -- tables of targets that answer every request have `ANY` in the place of an ISSN
 abbrev pub any_issn : KeyValue
@@ -62,4 +66,15 @@ any_issn = record { key = codes "rft.issn"; value = codes "ANY" }
 
 -- for these targets
 abbrev pub any_pairs : List KeyValue → List KeyValue
-any_pairs pairs = any_issn ∷ filter (λ pair. not (is_row_key pair.key)) pairs
+any_pairs pairs = led_by any_issn pairs
+
+-- without its hyphens an ISSN has eight characters (ISO 3297), and an ISBN ten or thirteen (ISO 2108)
+abbrev pub has_issn_length : Text → Bool
+has_issn_length number = count_by (λ b. not (b == 0x2d)) number == 8
+
+abbrev pub number_pair : Text → KeyValue
+number_pair number = record { key = if has_issn_length number then codes "rft.issn" else codes "rft.isbn"; value = number }
+
+-- for targets that have the cited title under another number
+abbrev pub further_pairs : Text → List KeyValue → List KeyValue
+further_pairs number pairs = led_by (number_pair number) pairs

@@ -11,8 +11,9 @@
 //! ```
 //!
 //! - The query is repaired and made UTF-8 (`source_queries`), and read as OpenURL 1.0 (`openurl_reading`).
-//! - Its own request is for targets that have the cited title; another one is for those that answer every request.
-//! - Both have the pairs of the reading that fit into a query.
+//! - Its own request is for targets that have the cited title, and one is for those that answer every request; one with
+//!   a further number is for targets that have the title under this number, as another edition.
+//! - All have the pairs of the reading that fit into a query.
 #![tactic(auto)]
 
 mod forms;
@@ -24,4 +25,4 @@ mod sent_pair;
 pub use kev_read::{KevError, Request};
 pub use openurl_reading::{Pairs, Reading};
 pub use reading::read_source;
-pub use requests::{any_request, own_request};
+pub use requests::{any_request, further_request, own_request};

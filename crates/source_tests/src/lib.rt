@@ -3,6 +3,8 @@
 #![tactic(auto)]
 
 #[cfg(test)]
+mod json;
+#[cfg(test)]
 mod lines;
 #[cfg(test)]
 mod links;

@@ -6,7 +6,7 @@ use link_menu::RegistryMenus;
 use registry::Registry;
 use rule_parser::Rules;
 use source_answers::links_text;
-use source_menus::{FoundLink, found_links};
+use source_menus::{FoundLink, LinkRequest, found_links};
 use std::alloc::Global;
 use std::test::Fail;
 use verifier::load;
@@ -28,7 +28,7 @@ const TARGETS: [(&str, &[u8]); 4] = [
     ("shop", SECOND),
 ];
 
-fn registry(alloc: Global) -> Result<Registry, Fail> {
+pub(crate) fn registry(alloc: Global) -> Result<Registry, Fail> {
     let mut registry = Registry::new(alloc);
     for (name, table) in TARGETS {
         let rules = Rules::parse(alloc, RULES)?;
@@ -67,27 +67,42 @@ fn each_target_once(rt: HostRuntime) -> Result<(), Fail> {
     let registry = registry(rt.alloc())?;
     let menus = RegistryMenus::new(&registry);
     for (query, expected) in LINKS {
-        let found = found_links(rt.alloc(), &menus, query.as_bytes())?;
+        let found = found_links(rt.alloc(), &menus, &[], query.as_bytes())?;
         let text = links_text(rt.alloc(), found.links())?;
         assert_eq!(rt; text.as_str(), expected, "{query}");
     }
     Ok(())
 }
 
-/// The name of a link's part, its row, and whether it is of the query's own request.
-fn is_from(link: &FoundLink<'_>, name: &str, row: usize, is_own: bool) -> bool {
-    link.name == name && link.row == row && link.is_own == is_own
+/// The name of a link's part, its row, and the request that gave it.
+fn is_from(link: &FoundLink<'_>, name: &str, row: usize, request: LinkRequest<'_>) -> bool {
+    link.name == name && link.row == row && link.request == request
 }
 
 #[test]
 fn parts_and_rows(rt: HostRuntime) -> Result<(), Fail> {
     let registry = registry(rt.alloc())?;
     let menus = RegistryMenus::new(&registry);
-    let found = found_links(rt.alloc(), &menus, b"issn=20493630")?;
+    let found = found_links(rt.alloc(), &menus, &[], b"issn=20493630")?;
     let links = found.links();
     assert_eq!(rt; links.len(), 3);
-    assert!(rt; is_from(&links[0], "press.2", 0, true));
-    assert!(rt; is_from(&links[1], "shop", 0, true));
-    assert!(rt; is_from(&links[2], "search", 0, false));
+    assert!(rt; is_from(&links[0], "press.2", 0, LinkRequest::Own));
+    assert!(rt; is_from(&links[1], "shop", 0, LinkRequest::Own));
+    assert!(rt; is_from(&links[2], "search", 0, LinkRequest::Any));
+    Ok(())
+}
+
+/// A query with another number of its title: the first part of the target has that, and no other link changes.
+#[test]
+fn further_numbers(rt: HostRuntime) -> Result<(), Fail> {
+    let registry = registry(rt.alloc())?;
+    let menus = RegistryMenus::new(&registry);
+    let numbers = ["9999-9994", "1234-567X"];
+    let found = found_links(rt.alloc(), &menus, &numbers, b"issn=8888-8888")?;
+    let links = found.links();
+    assert_eq!(rt; links.len(), 3);
+    assert!(rt; is_from(&links[0], "press", 0, LinkRequest::Further("1234-567X")));
+    assert!(rt; is_from(&links[1], "shop", 1, LinkRequest::Further("1234-567X")));
+    assert!(rt; is_from(&links[2], "search", 0, LinkRequest::Any));
     Ok(())
 }

@@ -2,7 +2,7 @@
 
 use kev_read::KevError;
 use openurl_reading::laws::{readings_are_bounded, readings_state_the_version};
-use source_requests::{any_request, own_request, read_source};
+use source_requests::{any_request, further_request, own_request, read_source};
 use std::alloc::{AllocError, Global};
 use std::test::Fail;
 
@@ -64,5 +64,26 @@ fn rows_of_every_request(rt: HostRuntime) -> Result<(), Fail> {
     assert_eq!(rt; any.first("rft.issn"), Some("ANY"));
     assert_eq!(rt; any.first("rft.isbn"), None);
     assert_eq!(rt; any.first("rft.volume"), Some("12"));
+    Ok(())
+}
+
+/// Further numbers, and the keys that they get.
+const NUMBERS: [(&str, &str, &str); 3] = [
+    ("2049-363X", "rft.issn", "rft.isbn"),
+    ("978-3-16-148410-0", "rft.isbn", "rft.issn"),
+    ("316148410X", "rft.isbn", "rft.issn"),
+];
+
+#[test]
+fn rows_of_further_numbers(rt: HostRuntime) -> Result<(), Fail> {
+    let reading = read_source(rt.alloc(), b"issn=29010012&isbn=9780306406157&volume=12")?;
+    readings_are_bounded();
+    readings_state_the_version();
+    for (number, key, other) in NUMBERS {
+        let request = further_request(rt.alloc(), number, reading.pairs())?;
+        assert_eq!(rt; request.first(key), Some(number), "{number}");
+        assert_eq!(rt; request.first(other), None, "{number}");
+        assert_eq!(rt; request.first("rft.volume"), Some("12"), "{number}");
+    }
     Ok(())
 }
