@@ -94,6 +94,8 @@ OTHERS = [
     (["show", "none.olk"], 4, "device: none.olk"),
     (["compile", "good.rules", "none/code"], 4, "device: none/code"),
     (["resolve", "none.txt", ""], 4, "device: none.txt"),
+    (["find", "none.txt", ""], 4, "device: none.txt"),
+    (["read", "a" * 65_537], 3, "query: TooLong"),
 ]
 
 

@@ -24,6 +24,7 @@ COMMANDS = [
     ("compile", ["new.olk"], "rules: line 0: TooLong"),
     ("upgrade", ["new.olk"], "code: TooLong at 65536"),
     ("resolve", ["x=1"], "registry: line 0"),
+    ("find", ["x=1"], "registry: line 0"),
 ]
 
 

@@ -13,6 +13,8 @@ COMMANDS = [
     "lint",
     "explain",
     "resolve",
+    "read",
+    "find",
     "serve",
 ]
 

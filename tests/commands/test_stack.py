@@ -40,12 +40,14 @@ class SmallStack(ProgramCase):
         expected = {
             ("link", "RULES", query): (0, link.encode(), b""),
             ("resolve", "REGISTRY", query): (0, menu.encode(), b""),
+            ("find", "REGISTRY", query): (0, menu.encode(), b""),
         }
         for arguments, end in expected.items():
             self.program.expect(f"{arguments[0]} with a small stack", self.program.run([*arguments], **with_small), end)
         reviews = ["inspect", "TABLE"], ["lint", "RULES", "TABLE"], ["explain", "RULES", "TABLE", query]
         on_code = ["verify", "CODE"], ["show", "CODE"], ["upgrade", "CODE", "NEW"], ["run", "CODE", query]
-        for arguments in *reviews, *on_code, ["compile", "RULES", "AGAIN"], ["expand", "{rft.au*}", query]:
+        others = ["compile", "RULES", "AGAIN"], ["read", query], ["expand", "{rft.au*}", query]
+        for arguments in *reviews, *on_code, *others:
             usual = self.program.run(arguments)
             self.program.expect(
                 f"{arguments[0]} as with a large stack", self.program.run(arguments, **with_small), usual

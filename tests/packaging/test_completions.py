@@ -28,6 +28,8 @@ COMMANDS = [
     "lint",
     "explain",
     "resolve",
+    "read",
+    "find",
     "serve",
     "help",
     "--help",
@@ -45,6 +47,8 @@ PATHS = {
     "lint": 2,
     "explain": 2,
     "resolve": 1,
+    "read": 0,
+    "find": 1,
     "serve": 1,
     "expand": 0,
     "help": 0,
@@ -94,7 +98,7 @@ class Completions(Case):
     def test_no_command_of_the_manual_is_left_out(self) -> None:
         with open(MANUAL, encoding="utf-8") as file:
             named = named_in_manual(file.read())
-        self.expect("commands of the manual", len(named) >= 12)
+        self.expect("commands of the manual", len(named) >= 14)
         self.expect("left out", named - {*COMMANDS}, set())
 
     def test_paths_are_offered_where_a_command_takes_them(self) -> None:

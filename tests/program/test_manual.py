@@ -17,7 +17,7 @@ PAGE = "docs/man/openlink.1"
 SCRIPTS = {"update": (8, ()), "desk": (8, ()), "fetch": (8, ()), "holdings": (1, ()),
            "library": (8, ("add", "remove", "list", "mail"))}
 # There are at least this many examples, commands, exit statuses and limits in the help.
-LEAST = {"examples": 3, "commands": 12, "exit statuses": 5, "limits": 5}
+LEAST = {"examples": 3, "commands": 14, "exit statuses": 5, "limits": 5}
 
 
 def read(path: str) -> str:

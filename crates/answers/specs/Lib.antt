@@ -10,3 +10,4 @@ pub mod Run
 pub mod Menu
 pub mod Findings
 pub mod Results
+pub mod Source

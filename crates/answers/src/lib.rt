@@ -22,6 +22,7 @@ mod reading;
 mod refusal;
 mod request;
 mod run;
+mod source;
 mod upgrade;
 mod verdict;
 
@@ -35,5 +36,6 @@ pub use reading::{rules_of, table_of};
 pub use refusal::{FAILED, NO_LINK, REFUSED, Refusal};
 pub use request::request_of;
 pub use run::run_link_of;
+pub use source::{links_text_of, reading_text_of};
 pub use upgrade::upgrade_of;
 pub use verdict::verdict_of;

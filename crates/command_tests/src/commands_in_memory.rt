@@ -179,6 +179,20 @@ fn resolves(rt: HostRuntime) -> Result<(), AllocError> {
     gives(&rt, &mut others, RESOLVE, 4, "", "device: registry")
 }
 
+/// `find` makes the calls of `resolve`, and takes a query of any source.
+#[test]
+fn finds_for_any_source(rt: HostRuntime) -> Result<(), AllocError> {
+    let find = ["find", "registry", "issn=1&url_ver=1"];
+    for (calls, status, printed, error) in RESOLVED {
+        let mut outside = outside_with(rt.alloc(), calls)?;
+        gives(&rt, &mut outside, &find, status, printed, error)?;
+    }
+    let mut others = outside(rt.alloc(), &FILES)?;
+    gives(&rt, &mut others, &["find", "empty", QUERY], 1, "", "")?;
+    others.keys.numbers = None;
+    gives(&rt, &mut others, &find, 4, "", "device: registry")
+}
+
 /// A query, and whether it finds the row of a print edition and that of an online edition.
 const IDENTIFIERS: [(&str, bool); 9] = [
     ("rft.issn=1", true),
@@ -224,7 +238,7 @@ fn three_keys_find_rows(rt: HostRuntime) -> Result<(), AllocError> {
 }
 
 /// Commands whose first error is that of a file, the status and the error.
-const FILES_FIRST: [(&[&str], u8, &str); 5] = [
+const FILES_FIRST: [(&[&str], u8, &str); 6] = [
     (
         &["link", "bad.rules", "url_ver=1"],
         3,
@@ -241,6 +255,7 @@ const FILES_FIRST: [(&[&str], u8, &str); 5] = [
         4,
         "device: no/such.tsv",
     ),
+    (&["find", "no/such.tsv", ""], 4, "device: no/such.tsv"),
     (&["serve", "none.txt", "65535", "1"], 4, "device: none.txt"),
 ];
 

@@ -38,7 +38,7 @@ const FILES: [(&str, &[u8]); 7] = [
 ];
 
 /// Commands, their status, what they print, and their error.
-const RESULTS: [(&[&str], u8, &str, &str); 17] = [
+const RESULTS: [(&[&str], u8, &str, &str); 18] = [
     (
         &[
             "expand",
@@ -111,6 +111,12 @@ const RESULTS: [(&[&str], u8, &str, &str); 17] = [
         "query: WrongVersion",
     ),
     (&["resolve", "line", "url_ver=1"], 3, "", "registry: line 1"),
+    (
+        &["read", "rft_val_fmt=x&volume=12"],
+        0,
+        "rft.volume\t12\nrft_val_fmt\tx\nvolume\t12\n",
+        "",
+    ),
     (&["serve", "none", "0", "1000000"], 4, "", "device: none"),
 ];
 

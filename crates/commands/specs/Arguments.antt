@@ -8,7 +8,7 @@ use Rattle.commands.specs.declared.list_options.ExpandArguments.{ExpandArguments
 use Rattle.commands.specs.declared.service.Service.{Service}
 use Rattle.commands.specs.declared.arguments.Command.{Command}
 use Rattle.commands.specs.declared.arguments.Command.TheVariants.{Expand, Link, Compile, Verify, Show, Upgrade, Run, Inspect, Lint, Explain, Resolve, Serve}
-use Rattle.commands.specs.declared.arguments.Command.TheVariants.{Help, Version}
+use Rattle.commands.specs.declared.arguments.Command.TheVariants.{Read, Find, Help, Version}
 
 -- the arguments are `expand`, and then those of an expansion
 pub record AreArgumentsOfExpand (arguments : List Text) (e : ExpandArguments) : Type 0 where
@@ -37,6 +37,8 @@ AreArgumentsOf arguments (Inspect table) = arguments ≡ codes "inspect" ∷ tab
 AreArgumentsOf arguments (Lint rules table) = arguments ≡ codes "lint" ∷ rules.now ∷ table.now ∷ []
 AreArgumentsOf arguments (Explain rules table query) = arguments ≡ codes "explain" ∷ rules.now ∷ table.now ∷ query.now ∷ []
 AreArgumentsOf arguments (Resolve registry query) = arguments ≡ codes "resolve" ∷ registry.now ∷ query.now ∷ []
+AreArgumentsOf arguments (Read query) = arguments ≡ codes "read" ∷ query.now ∷ []
+AreArgumentsOf arguments (Find registry query) = arguments ≡ codes "find" ∷ registry.now ∷ query.now ∷ []
 AreArgumentsOf arguments (Serve s) = AreArgumentsOfServe arguments s
 AreArgumentsOf arguments Help = (arguments ≡ codes "--help" ∷ []) ⊎ (arguments ≡ codes "-h" ∷ []) ⊎ (arguments ≡ codes "help" ∷ [])
 AreArgumentsOf arguments Version = arguments ≡ codes "--version" ∷ []

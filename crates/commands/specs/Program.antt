@@ -13,6 +13,7 @@ use Rattle.answers.specs.Link.{IsLinkOf}
 use Rattle.answers.specs.Listing.{IsListingOf}
 use Rattle.answers.specs.Menu.{IsMenuOf}
 use Rattle.answers.specs.Run.{IsRunLinkOf}
+use Rattle.answers.specs.Source.{AreLinksOf, IsReadingOf}
 use Rattle.answers.specs.Upgrade.{IsUpgradeOf}
 use Rattle.answers.specs.Verdict.{IsVerdictOf}
 use Rattle.answers.specs.declared.refusal.Refusal.{Refusal}
@@ -29,7 +30,7 @@ use Rattle.commands.specs.declared.fault.Fault.{Fault}
 use Rattle.commands.specs.declared.fault.Fault.TheVariants.{Usage}
 use Rattle.commands.specs.declared.arguments.Command.{Command}
 use Rattle.commands.specs.declared.arguments.Command.TheVariants.{Expand, Link, Compile, Verify, Show, Upgrade, Run, Inspect, Lint, Explain, Resolve, Serve}
-use Rattle.commands.specs.declared.arguments.Command.TheVariants.{Help, Version}
+use Rattle.commands.specs.declared.arguments.Command.TheVariants.{Read, Find, Help, Version}
 
 -- the exit status: 0 if there is no error
 abbrev pub status_of_end : Option Fault → ℕ
@@ -69,6 +70,8 @@ module _ {System : Type 0} (told : Told System) (old new : System) (output notes
   Ends (Lint rules table) = Reports (tells_of_target IsLintOf rules table) output
   Ends (Explain rules table query) = explains rules table query.now output
   Ends (Resolve registry query) = Prints (resolves (λ targets. IsMenuOf targets query.now) registry) output
+  Ends (Read query) = Prints (Answered (IsReadingOf query.now)) output
+  Ends (Find registry query) = Prints (resolves (λ targets. AreLinksOf targets query.now) registry) output
   Ends (Serve service) = Serves told old service new output notes
   Ends Help = Prints (λ answer. answer ≡ Ok HELP.now) output
   Ends Version = Prints (λ answer. answer ≡ Ok VERSION.now) output

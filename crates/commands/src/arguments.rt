@@ -32,6 +32,10 @@ pub enum Command<'a> {
     Explain(&'a str, &'a str, &'a str),
     /// `resolve REGISTRY QUERY`
     Resolve(&'a str, &'a str),
+    /// `read QUERY`
+    Read(&'a str),
+    /// `find REGISTRY QUERY`
+    Find(&'a str, &'a str),
     /// `serve REGISTRY PORT COUNT`
     Serve(Service<'a>),
     /// `--help`, `-h` or `help`
@@ -90,6 +94,7 @@ fn of_one_argument<'a>(name: &str, argument: &'a str) -> Option<Command<'a>>
         "verify" => Some(Command::Verify(argument)),
         "show" => Some(Command::Show(argument)),
         "inspect" => Some(Command::Inspect(argument)),
+        "read" => Some(Command::Read(argument)),
         _ => None,
     }
 }
@@ -106,6 +111,7 @@ fn of_two_arguments<'a>(name: &str, first: &'a str, second: &'a str) -> Option<C
         "upgrade" => Some(Command::Upgrade(first, second)),
         "run" => Some(Command::Run(first, second)),
         "resolve" => Some(Command::Resolve(first, second)),
+        "find" => Some(Command::Find(first, second)),
         "lint" => Some(Command::Lint(first, second)),
         _ => None,
     }

@@ -20,6 +20,8 @@ Commands, and what each prints:
   openlink lint RULES TABLE                        what is doubtful in the rules of a target
   openlink explain RULES TABLE QUERY               which rule gives a link on each row, or why none does
   openlink resolve REGISTRY QUERY                  the menu: a target's name, a tab, its link
+  openlink read QUERY                              the pairs of a query of any source, as they are read
+  openlink find REGISTRY QUERY                     the links for a query of any source, each target once
   openlink serve REGISTRY PORT COUNT               where it listens; serves menus over HTTP
   openlink --help, -h or help                      this text
   openlink --version                               `openlink` and the version

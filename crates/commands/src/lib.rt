@@ -18,6 +18,7 @@ mod reading;
 mod rules;
 mod service;
 mod serving;
+mod source;
 mod targets;
 mod world;
 

@@ -16,6 +16,7 @@ use crate::printing::{print, print_findings, print_text};
 use crate::process_arguments::argument_texts;
 use crate::rules::{compile, expand, link};
 use crate::serving::serve;
+use crate::source::{find, read};
 use crate::targets::{explain, inspect, lint};
 use crate::world::{System, World};
 use answers::{NO_LINK, Refusal};
@@ -119,6 +120,8 @@ fn run_command<'a, F: Files, K: KeySource, P: Ports, O: Write, E: Write>(
         Command::Upgrade(old, new) => print(output, upgrade(alloc, files, old, new)),
         Command::Run(code, query) => print(output, run(alloc, files, code, query)),
         Command::Resolve(path, query) => print(output, resolve(alloc, files, keys, path, query)),
+        Command::Read(query) => print(output, read(alloc, query)),
+        Command::Find(path, query) => print(output, find(alloc, files, keys, path, query)),
         Command::Inspect(table) => print_findings(output, inspect(alloc, files, keys, table)),
         Command::Lint(rules, table) => print_findings(
             output,

@@ -27,6 +27,12 @@ pub returns-in-Resolve : goal.returns-in-Resolve
 returns-in-Resolve g c =
     rw c.in-Resolve.is (prints_answer _ _ _ _ c.resolve.ensures.ends c.print-in-Resolve.ensures, c.resolve.ensures.same, refl, refl)
 
+pub returns-in-Read : goal.returns-in-Read
+returns-in-Read g c = rw c.in-Read.is (prints_answer _ _ _ _ c.read.ensures c.print-in-Read.ensures, λ path. refl, refl, refl)
+
+pub returns-in-Find : goal.returns-in-Find
+returns-in-Find g c = rw c.in-Find.is (prints_answer _ _ _ _ c.find.ensures.ends c.print-in-Find.ensures, c.find.ensures.same, refl, refl)
+
 pub returns-in-Inspect : goal.returns-in-Inspect
 returns-in-Inspect g c = rw c.in-Inspect.is (reports_answer _ _ _ _ c.inspect.ensures.ends c.print_findings.ensures, c.inspect.ensures.same, refl, refl)
 
