@@ -61,7 +61,7 @@ def write_long(program, count):
     names = [f"t{number}" for number in range(count)]
     write_registry(program, [(name, DATE_RULES, LONG_ROW) for name in names])
     links = "".join(LINK.format(name) for name in names)
-    return reply_of(200, f"<!DOCTYPE html>\n<title>Links</title>\n<ul>\n{links}</ul>\n", "html")
+    return reply_of(200, f"<!DOCTYPE html>\n<title>Links</title>\n<ul>\n{links}</ul>\n", "text/html")
 
 
 # A page of this number of links has six megabytes, more than the system keeps for a peer that does not read.

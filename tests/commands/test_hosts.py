@@ -4,7 +4,7 @@ from fixtures.service import NO_LINKS, expect_replies, reply_of, request_of
 from fixtures.targets import write_alpha
 
 BAD = reply_of(400, "bad request\n")
-PAGE = reply_of(200, NO_LINKS, "html")
+PAGE = reply_of(200, NO_LINKS, "text/html")
 REFUSED = reply_of(405, "method not allowed\n", allow="Allow: GET, HEAD\r\n")
 
 # Whether 0 to 3 Host fields are accepted, by the minor version.

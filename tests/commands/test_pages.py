@@ -12,7 +12,7 @@ NOT_FOUND = reply_of(404, "not found\n")
 
 # Each page, and its reply to a query without links and to one with a link.
 PAGES = {
-    "/openurl": (reply_of(200, NO_LINKS, "html"), reply_of(200, HTML, "html")),
+    "/openurl": (reply_of(200, NO_LINKS, "text/html"), reply_of(200, HTML, "text/html")),
     "/openurl.txt": (reply_of(200, ""), reply_of(200, LINK)),
     "/report": (reply_of(200, "alpha\tno row\n"), reply_of(200, "alpha\tlink 1\n")),
 }

@@ -3,7 +3,7 @@ from fixtures.program import ProgramCase
 from fixtures.service import NO_LINKS, expect_replies, reply_of, to_head
 from fixtures.targets import DATE_RULES, JOURNAL, write_registry
 
-HTML = reply_of(200, NO_LINKS, "html")
+HTML = reply_of(200, NO_LINKS, "text/html")
 TEXT = reply_of(200, "")
 REPORT = reply_of(200, "alpha\tno row\n")
 BAD = reply_of(400, "bad request\n")

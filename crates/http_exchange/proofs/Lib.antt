@@ -1,3 +1,4 @@
+pub mod SameMenus
 pub mod Unavailable
 pub mod Sent
 pub mod Pieces

@@ -1,10 +1,11 @@
 -- Replies computed: their bytes are written out here, and the checker compares.
 use Rattle.std.proofs.Common.{◌≡◌, ◌++◌, List, true, false, [], ◌∷◌, refl, codes, map}
 use Rattle.std.specs.Fmt.{digits}
+use Rattle.http_exchange.specs.declared.reply.BodyType.TheVariants as BodyType
 use Rattle.http_exchange.specs.Replies.{ReplyValue, plain, printed, unavailable}
 use Rattle.menu.specs.Entries.{MenuEntry}
 use Rattle.menu.specs.declared.entry.Resolution.TheVariants.{Link}
-use Rattle.http_exchange.specs.RouteReplies.{is_html, page_text}
+use Rattle.http_exchange.specs.RouteReplies.{further_numbers, page_text, page_type}
 use Rattle.http_request.specs.declared.route.Page.TheVariants.{Html, Text, Report}
 
 -- ---- an allocation failed
@@ -38,15 +39,26 @@ unfolding digits
 head_too_large = refl
 
 abbrev page : ReplyValue
-page = record { status = 200; html = true; body = codes "<p>No links</p>\n" }
+page = record { status = 200; body_type = BodyType.Html; body = codes "<p>No links</p>\n" }
 
 page_of_html : printed page false
     ≡ codes "HTTP/1.1 200 OK\r\nContent-Type: text/html; charset=utf-8\r\nContent-Length: 16\r\nConnection: close\r\n\r\n<p>No links</p>\n"
 unfolding digits
 page_of_html = refl
 
-one_page_is_html : map is_html (Html ∷ Text ∷ Report ∷ []) ≡ true ∷ false ∷ false ∷ []
+one_page_is_html : map page_type (Html ∷ Text ∷ Report ∷ []) ≡ BodyType.Html ∷ BodyType.Plain ∷ BodyType.Plain ∷ []
 one_page_is_html = refl
+
+json : printed (record { status = 200; body_type = BodyType.Json; body = codes "[]" }) false
+    ≡ codes "HTTP/1.1 200 OK\r\nContent-Type: application/json; charset=utf-8\r\nContent-Length: 2\r\nConnection: close\r\n\r\n[]"
+unfolding digits
+json = refl
+
+no_numbers : further_numbers [] ≡ []
+no_numbers = refl
+
+two_numbers : further_numbers (codes "2049-3630,9783161484100") ≡ codes "2049-3630" ∷ codes "9783161484100" ∷ []
+two_numbers = refl
 
 -- a target with a link
 abbrev entries : List MenuEntry

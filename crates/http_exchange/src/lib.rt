@@ -17,9 +17,11 @@
 
 mod counts;
 mod exchange;
+pub mod laws;
 mod menu_page;
 mod reply;
 mod service;
+mod source_page;
 
 pub use counts::Counts;
 pub use exchange::{ServeError, Served, serve_one};

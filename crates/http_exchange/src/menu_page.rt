@@ -7,7 +7,8 @@ ghost use Rattle.http_request.specs.Routes.{query_length, route_value};
 ghost use Rattle.http_exchange.specs.Replies.{head_of};
 ghost use Rattle.http_exchange.specs.RouteReplies as spec;
 
-use crate::reply::Reply;
+use crate::reply::{BodyType, Reply};
+use crate::source_page::{links_reply, reading_reply};
 use http::StatusCode;
 use http_request::{HttpRequest, Page, Route};
 use kev_read::{KevError, Request, read_kev};
@@ -37,7 +38,16 @@ fn menu_reply<S: MenuSource>(
 {
     let menu = source.menu_for(alloc, request)?;
     let text = page_text(alloc, page, &menu)?;
-    Ok(Reply::new(StatusCode::OK, page == Page::Html, text))
+    Ok(Reply::new(StatusCode::OK, type_of(page), text))
+}
+
+fn type_of(page: Page) -> BodyType
+    ensures { result ≡ spec.page_type page }
+{
+    match page {
+        Page::Html => BodyType::Html,
+        Page::Text | Page::Report => BodyType::Plain,
+    }
 }
 
 /// The page of the menu for a query, or the reply that says why the query is rejected.
@@ -74,6 +84,8 @@ pub(crate) fn reply_for<S: MenuSource>(
 {
     match route {
         Route::Menu { page, query } => query_reply(alloc, source, page, query),
+        Route::Reading { query } => reading_reply(alloc, query),
+        Route::Links { numbers, query } => links_reply(alloc, source, numbers, query),
         Route::NotFound => Reply::plain(alloc, StatusCode::NOT_FOUND, "not found\n"),
         Route::MethodNotAllowed => {
             Reply::plain(

@@ -7,11 +7,22 @@ use http::StatusCode;
 use std::alloc::{AllocError, Global};
 use std::marker::Model;
 
-/// A reply: its status, whether its body is HTML or plain text, and the body.
+/// The type of a body (RFC 9110, section 8.3).
+#[derive(Clone, Copy, Debug, PartialEq, Eq)]
+pub enum BodyType {
+    /// A page of HTML.
+    Html,
+    /// Plain text.
+    Plain,
+    /// JSON (RFC 8259).
+    Json,
+}
+
+/// A reply: its status, and its body with its type.
 #[derive(Drop)]
 pub(crate) struct Reply {
     status: StatusCode,
-    html: bool,
+    body_type: BodyType,
     body: String,
 }
 
@@ -21,21 +32,29 @@ impl Model for Reply {
 
     ghost Value = { ReplyValue };
 
-    ghost view = { λ reply. record { status = reply.status; html = reply.html; body = string_bytes reply.body } };
+    ghost view = { λ reply. record {
+      status = reply.status;
+      body_type = reply.body_type;
+      body = string_bytes reply.body;
+    } };
 }
 
 impl Reply {
-    pub(crate) fn new(status: StatusCode, html: bool, body: String) -> Reply
-        ensures { result ≡ record { status = status; html = html; body = string_bytes body } }
+    pub(crate) fn new(status: StatusCode, body_type: BodyType, body: String) -> Reply
+        ensures { result ≡ record { status = status; body_type = body_type; body = string_bytes body } }
     {
-        Reply { status, html, body }
+        Reply {
+            status,
+            body_type,
+            body,
+        }
     }
 
     /// A reply with a line of plain text.
     pub(crate) fn plain(alloc: Global, status: StatusCode, body: &str) -> Result<Reply, AllocError>
         ensures { IfOk result (λ reply. reply ≡ spec.plain status body.now) }
     {
-        Ok(Reply::new(status, false, String::from_str(alloc, body)?))
+        Ok(Reply::new(status, BodyType::Plain, String::from_str(alloc, body)?))
     }
 
     pub(crate) fn status(&self) -> u16
@@ -53,12 +72,12 @@ impl Reply {
     }
 
     fn type_line(&self) -> &'static str
-        ensures { result.now ≡ spec.type_line self.now.html }
+        ensures { result.now ≡ spec.type_line self.now.body_type }
     {
-        if self.html {
-            "Content-Type: text/html; charset=utf-8\r\n"
-        } else {
-            "Content-Type: text/plain; charset=utf-8\r\n"
+        match self.body_type {
+            BodyType::Html => "Content-Type: text/html; charset=utf-8\r\n",
+            BodyType::Plain => "Content-Type: text/plain; charset=utf-8\r\n",
+            BodyType::Json => "Content-Type: application/json; charset=utf-8\r\n",
         }
     }
 

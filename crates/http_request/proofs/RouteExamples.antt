@@ -3,8 +3,8 @@ use Rattle.std.proofs.Common.{◌≡◌, ℕ, true, false, List, [], ◌∷◌, 
 use Rattle.std.specs.List.{repeat}
 use Rattle.httparse.specs.Grammar.{Field, RequestHead, crlf}
 use Rattle.http_request.specs.Host.{is_host_name}
-use Rattle.http_request.specs.Routes.{BadRequest, HeadTooLarge, Menu, MethodNotAllowed, NotFound, RouteValue, head_route, is_answered, is_head_method}
-use Rattle.http_request.specs.Routes.{route_without_head}
+use Rattle.http_request.specs.Routes.{BadRequest, HeadTooLarge, Links, Menu, MethodNotAllowed, NotFound, Reading, RouteValue, head_route, is_answered}
+use Rattle.http_request.specs.Routes.{is_head_method, route_without_head, source_route}
 use Rattle.http_request.specs.declared.route.Page.TheVariants.{Html, Text, Report}
 
 -- ---- Host fields (RFC 9112, section 3.2)
@@ -69,12 +69,28 @@ hosts_come_before_the_method = refl
 form_comes_before_the_path : map (λ target. head_route (head (codes "HEAD") target 1 1))
     (codes "*" ∷ codes "/x" ∷ codes "http://a" ∷ codes "ftp://a/report" ∷ [])
     ≡ BadRequest ∷ NotFound ∷ NotFound ∷ BadRequest ∷ []
+unfolding source_route
 form_comes_before_the_path = refl
 
 page_and_query : map (λ target. head_route (head (codes "GET") target 1 1))
     (codes "/openurl.txt?a#b" ∷ codes "https://a/report?" ∷ codes "/openurl?url_ver=1" ∷ [])
     ≡ Menu Text (codes "a#b") ∷ Menu Report [] ∷ Menu Html (codes "url_ver=1") ∷ []
 page_and_query = refl
+
+-- the pages for a query of any source
+source_and_query : map (λ target. head_route (head (codes "HEAD") target 1 1))
+    (codes "/read?issn=1" ∷ codes "http://a/menu.json" ∷ codes "/menu.json?a?b" ∷ codes "/read/" ∷ codes "/READ" ∷ codes "/menu" ∷ codes "/menu.json/" ∷ [])
+    ≡ Reading (codes "issn=1") ∷ Links [] [] ∷ Links [] (codes "a?b") ∷ NotFound ∷ NotFound ∷ NotFound ∷ NotFound ∷ []
+unfolding source_route
+source_and_query = refl
+
+further_numbers : map (λ target. head_route (head (codes "GET") target 1 1))
+    (codes "/menu.json/2049-3630?a" ∷ codes "/menu.json/2049363X,978-3-16-148410-0,3161484100?a" ∷ codes "/menu.json/2049-3630,2049-3630,2049-3630,2049-3630"
+    ∷ codes "/menu.json/2049-363" ∷ codes "/menu.json/2049-3630," ∷ codes "/menu.json/,2049-3630" ∷ codes "/menu.json/2049-363x"
+    ∷ codes "/menu.json/2049%2D3630" ∷ codes "/menu.json/2049-3630/" ∷ codes "/read/2049-3630" ∷ [])
+    ≡ Links (codes "2049-3630") (codes "a") ∷ Links (codes "2049363X,978-3-16-148410-0,3161484100") (codes "a") ∷ repeat 8 (NotFound ∷ [])
+unfolding source_route
+further_numbers = refl
 
 -- ---- bytes that are not a head
 

@@ -1,4 +1,5 @@
 pub mod Host
+pub mod Numbers
 pub mod Target
 pub mod Routes
 pub mod HeadEnd

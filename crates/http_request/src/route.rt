@@ -3,6 +3,7 @@
 ghost use Rattle.std.specs.Prelude.{◌≡◌, ◌≤◌, length};
 ghost use Rattle.http_request.specs.Routes as spec;
 
+use crate::numbers::numbers_in;
 use crate::target::{page_of, resource_of, split_query};
 
 /// A page of the menu.
@@ -16,11 +17,16 @@ pub enum Page {
     Report,
 }
 
-/// The page of the menu that a request is for, or why there is none.
+/// The page that a request is for, or why there is none. The bytes of a query are as the peer sent them.
 #[derive(Clone, Copy, Debug, PartialEq, Eq)]
 pub enum Route<'a> {
-    /// A page of the menu for the query, whose bytes are as the peer sent them.
+    /// A page of the menu for the query.
     Menu { page: Page, query: &'a [u8] },
+    /// The reading of the query of any source, at `/read`.
+    Reading { query: &'a [u8] },
+    /// The reading and the links of the query of any source, at `/menu.json`, or at `/menu.json/` and further numbers
+    /// of its title, which have commas between them and are empty for none.
+    Links { numbers: &'a str, query: &'a [u8] },
     /// The path is none of the pages.
     NotFound,
     /// The method is neither GET nor HEAD.
@@ -52,6 +58,24 @@ fn route_at(target: &[u8]) -> Route<'_>
     let (path, query) = split_query(resource);
     match page_of(path) {
         Some(page) => Route::Menu { page, query },
+        None => source_route(path, query),
+    }
+}
+
+/// The route of a path that is no page of the menu.
+#[tactic(auto, unfolding(crate::specs::Routes::source_route))]
+fn source_route<'a>(path: &'a [u8], query: &'a [u8]) -> Route<'a>
+    ensures route { spec.route_value result ≡ spec.source_route path.now query.now }
+    ensures query { spec.query_length (spec.route_value result) ≤ length query.now }
+{
+    if path == b"/read".as_slice() {
+        return Route::Reading { query };
+    }
+    if path == b"/menu.json".as_slice() {
+        return Route::Links { numbers: "", query };
+    }
+    match numbers_in(path) {
+        Some(numbers) => Route::Links { numbers, query },
         None => Route::NotFound,
     }
 }

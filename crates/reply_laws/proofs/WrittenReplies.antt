@@ -5,11 +5,7 @@ use Rattle.std.proofs.lemmas.Bool.{cases_lt, false≢true}
 use Rattle.std.proofs.lemmas.List.Elements.{All-cons, All-nil}
 use Rattle.std.proofs.lemmas.List.{drop_all, length-append, length-take, take-append-drop}
 use Rattle.std.proofs.lemmas.Option.{same_Some}
-use Rattle.kev_read.specs.Pairs.{KeyValue, pairs_of}
-use Rattle.kev_read.specs.Refusal.{refusal}
-use Rattle.kev_read.specs.declared.error.KevError.{KevError}
-use Rattle.kev_read.specs.declared.error.KevError.TheVariants as kev
-use Rattle.menu.specs.Entries.{MenuEntry}
+use Rattle.kev_read.specs.Pairs.{KeyValue}
 use Rattle.menu_source.specs.Menus.{Menus}
 use Rattle.http_streams.specs.Closing.{is_closed}
 use Rattle.http_streams.specs.Streams.{AreFresh, InputState, IsBlank, OutputState}
@@ -19,7 +15,7 @@ use Rattle.http_request.specs.Routes as route
 use Rattle.http_exchange.specs.Connections.{AreServed, Connection, Exchanged, IsServed, Unread}
 use Rattle.http_exchange.specs.Exchange.{IsExchange, IsReply, IsReplyToInput, front, no_memory, no_room, request}
 use Rattle.http_exchange.specs.Replies.{ReplyValue, printed, unavailable}
-use Rattle.http_exchange.specs.RouteReplies.{IsQueryReply, IsReplyTo, is_html, page_text}
+use Rattle.http_exchange.specs.RouteReplies.{IsReplyTo}
 use Rattle.http_exchange.specs.declared.exchange.Served.{Served}
 use Rattle.http_exchange.specs.declared.exchange.Served.TheVariants.{Nothing, Replied}
 use Rattle.http_exchange.specs.declared.exchange.ServeError.{ServeError}
@@ -56,6 +52,11 @@ part_is_short sent bytes part = omega (arith, ap length part.whole ∙ length-ap
 
 -- ---- replies
 
+-- what the law of the lower crate says
+abbrev pub RepliesFollow : Type 0
+RepliesFollow = (menus others : Menus) (at : RouteValue) (reply : ReplyValue) → ((pairs : List KeyValue) → menus pairs ≡ others pairs)
+    → IsReplyTo menus at reply → IsReplyTo others at reply
+
 module _ (laws : LawsOfRoutes) where
   -- what was read has the route of these bytes
   routed_at_most : (sent bytes : List ℕ) (at : RouteValue) (without_body : Bool) → IsPart sent bytes → IsRouted bytes at without_body
@@ -69,27 +70,11 @@ module _ (laws : LawsOfRoutes) where
       by_more (further more is closed) =
           subst (λ (bytes : List ℕ). IsRouted bytes at without_body) (sym is) (routed_further laws bytes more at without_body closed routed)
 
-  module _ (menus others : Menus) (same : (pairs : List KeyValue) → menus pairs ≡ others pairs) where
-    -- the same menus give the same reply
-    replied : (at : RouteValue) (reply : ReplyValue) → IsReplyTo menus at reply → IsReplyTo others at reply
-    replied (route.Menu page query) reply h = by_refusal (refusal query) h
-      where
-        by_refusal : (f : Option KevError) → IsQueryReply menus page query f reply → IsQueryReply others page query f reply
-        by_refusal None h =
-            h ∙ ap (λ (entries : List MenuEntry). record { status = 200; html = is_html page; body = page_text page entries }) (same (pairs_of query))
-        by_refusal (Some kev.TooManyPairs) h = h
-        by_refusal (Some kev.WrongVersion) h = h
-        by_refusal (Some kev.TooLong) h = h
-        by_refusal (Some kev.NoMemory) h = h
-    replied route.NotFound reply h = h
-    replied route.MethodNotAllowed reply h = h
-    replied route.BadRequest reply h = h
-    replied route.HeadTooLarge reply h = h
-
+  module _ (follow : RepliesFollow) (menus others : Menus) (same : (pairs : List KeyValue) → menus pairs ≡ others pairs) where
     reply_at_most : (sent bytes : List ℕ) (status : ℕ) (reply : List ℕ) → IsPart sent bytes → IsReply menus bytes status reply
         → IsReply others (read_at_most sent) status reply
     reply_at_most sent bytes _ _ part (front at without_body value routed replies) =
-        front at without_body value (routed_at_most sent bytes at without_body part routed) (replied at value replies)
+        front at without_body value (routed_at_most sent bytes at without_body part routed) (follow menus others at value same replies)
     reply_at_most sent bytes _ _ part (no_memory at without_body routed) =
         no_memory at without_body (routed_at_most sent bytes at without_body part routed)
 
@@ -131,14 +116,15 @@ none_written old new written blank same is = of_option old.written blank (sym (a
     of_option None blank is = absurd (cc)
     of_option (Some bytes) blank is = sym (same_Some bytes written is) ∙ blank
 
-module _ (laws : LawsOfRoutes) (targets : List RuleTarget) (menus : Menus) (same : (pairs : List KeyValue) → menus pairs ≡ menu_by_rules targets pairs) where
+module _ (laws : LawsOfRoutes) (follow : RepliesFollow) (targets : List RuleTarget) (menus : Menus)
+    (same : (pairs : List KeyValue) → menus pairs ≡ menu_by_rules targets pairs) where
   reply_by_rules : (sent : List ℕ) (first last : InputState) (status : ℕ) (reply : List ℕ) → first.left ≡ Some sent
       → IsReplyToInput menus first last status reply
       → IsReplyByRules targets sent status reply
   reply_by_rules sent first last _ _ peer (request bytes status reply read some replies) =
       let part = part_of sent bytes (record { first = first; last = last; peer = peer; read = read }) in
       written.to_request status reply (omega (arith, some, part_is_short sent bytes part))
-      (reply_at_most laws menus (menu_by_rules targets) same sent bytes status reply part replies)
+      (reply_at_most laws follow menus (menu_by_rules targets) same sent bytes status reply part replies)
   reply_by_rules sent first last _ _ peer (no_room unread) = written.no_room
 
   pub all_by_rules : (wait : ℕ) (first last : InputState) (before after : OutputState) (end : Result Served ServeError) (sent bytes : List ℕ)

@@ -19,6 +19,7 @@ ghost use Rattle.rule_menus.specs.RuleMenus.{RuleTarget};
 ghost use Rattle.reply_laws.specs.Files.{IsRegistryOf};
 ghost use Rattle.reply_laws.specs.Written.{IsReplyByRules, IsWrittenByRules, IsWrittenOn};
 
+use http_exchange::laws::replies_follow_menus;
 use http_request::laws::{
     a_head_ends_where_it_is_closed, one_route, what_follows_a_head_is_ignored,
 };
@@ -56,6 +57,7 @@ pub fn files_decide_replies()
     one_route();
     what_follows_a_head_is_ignored();
     a_head_ends_where_it_is_closed();
+    replies_follow_menus();
     compiled_files_have_one_menu();
 }
 

@@ -4,6 +4,7 @@ use Rattle.std.proofs.lemmas.Grind.{common_steps}
 use Rattle.kev_read.specs.Pairs.{KeyValue, pairs_of}
 use Rattle.kev_read.specs.Refusal.{refusal}
 use Rattle.menu.specs.Entries.{MenuEntry}
+use Rattle.menu_source.specs.Menus.{Menus}
 use Rattle.registry.specs.Targets.{TargetValue}
 use Rattle.registry.specs.Entries.{menu_of}
 use Rattle.http_request.specs.declared.route.Page.{Page}
@@ -11,7 +12,7 @@ use Rattle.http_request.specs.Routes.{IsRouted, RouteValue}
 use Rattle.http_request.specs.Routes as route
 use Rattle.http_exchange.specs.Exchange.{IsReply, front, no_memory}
 use Rattle.http_exchange.specs.Replies.{ReplyValue, printed, unavailable}
-use Rattle.http_exchange.specs.RouteReplies.{IsQueryReply, IsReplyTo, is_html, page_text}
+use Rattle.http_exchange.specs.RouteReplies.{IsQueryReply, IsReplyTo, page_text, page_type}
 use Rattle.rule_menus.specs.Replies.{HasReply}
 
 -- a request has one route, and its reply has a body or none
@@ -30,7 +31,7 @@ pub record IsReplyOf (targets : List TargetValue) (bytes : List ℕ) (status : �
   pub reply_is : reply ≡ printed value without_body
 
 abbrev page_of : Page → List MenuEntry → ReplyValue
-page_of page entries = record { status = 200; html = is_html page; body = page_text page entries }
+page_of page entries = record { status = 200; body_type = page_type page; body = page_text page entries }
 
 reply_parts : (targets : List TargetValue) (bytes : List ℕ) (status : ℕ) (reply : List ℕ) → IsReply (menu_of targets) bytes status reply
     → (status ≡ unavailable.status → ⊥) → IsReplyOf targets bytes status reply
@@ -38,9 +39,18 @@ reply_parts targets bytes _ _ (front at without_body value routed replies) other
     record { at = at; without_body = without_body; value = value; routed = routed; replies = replies; status_is = refl; reply_is = refl }
 reply_parts targets bytes _ _ (no_memory at without_body routed) other = absurd (other refl)
 
-module _ (targets others : List TargetValue) (same : (pairs : List KeyValue) → menu_of targets pairs ≡ menu_of others pairs) where
+-- the same menus have the same replies
+abbrev pub RepliesFollow : Type 0
+RepliesFollow = (menus others : Menus) (at : RouteValue) (reply : ReplyValue) → ((pairs : List KeyValue) → menus pairs ≡ others pairs)
+    → IsReplyTo menus at reply → IsReplyTo others at reply
+
+-- a route has one reply
+one_value : (menus : Menus) (at : RouteValue) (a b : ReplyValue) → IsReplyTo menus at a → IsReplyTo menus at b → a ≡ b
+one_value menus at a b x y = grind (arith, common_steps)
+
+module _ (follow : RepliesFollow) (targets others : List TargetValue) (same : (pairs : List KeyValue) → menu_of targets pairs ≡ menu_of others pairs) where
   same_value : (at : RouteValue) (a b : ReplyValue) → IsReplyTo (menu_of targets) at a → IsReplyTo (menu_of others) at b → a ≡ b
-  same_value at a b x y = grind (arith, common_steps)
+  same_value at a b x y = one_value (menu_of others) at a b (follow (menu_of targets) (menu_of others) at a same x) y
 
   module _ (one_route : HasOneRoute) (bytes : List ℕ) where
     pub same_reply : (status other : ℕ) (reply another : List ℕ) → HasReply targets bytes status reply → HasReply others bytes other another

@@ -6,7 +6,7 @@ use Rattle.registry.specs.Entries.{menu_of}
 use Rattle.http_request.specs.declared.route.Page.{Page}
 use Rattle.http_exchange.specs.Exchange.{IsReply}
 use Rattle.http_exchange.specs.Replies.{ReplyValue, unavailable}
-use Rattle.http_exchange.specs.RouteReplies.{is_html, page_text}
+use Rattle.http_exchange.specs.RouteReplies.{page_text, page_type}
 use Rattle.rule_menus.specs.RuleMenus.{RuleTarget, menu_by_rules}
 
 -- a registry gives the reply to the bytes of a request, and it is not the reply for a failed allocation
@@ -17,4 +17,4 @@ pub record HasReply (targets : List TargetValue) (request : List ℕ) (status : 
 -- the page of the menu that the rules of targets give for a request
 abbrev pub page_by_rules : List RuleTarget → Page → List KeyValue → ReplyValue
 page_by_rules targets page pairs =
-    record { status = 200; html = is_html page; body = page_text page (menu_by_rules targets pairs) }
+    record { status = 200; body_type = page_type page; body = page_text page (menu_by_rules targets pairs) }

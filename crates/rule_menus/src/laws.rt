@@ -34,6 +34,7 @@ ghost use Rattle.rule_menus.specs.Replies.{HasReply, page_by_rules};
 
 use code_file::laws::{code_has_one_file, file_has_one_code};
 use compiler_model::laws::{code_gives_what_rules_mean, compiled_code_is_accepted};
+use http_exchange::laws::replies_follow_menus;
 use http_request::laws::one_route;
 use machine_laws::course_is_decided;
 use row_laws::{requests_by_keys, rows_shadow_requests};
@@ -174,4 +175,5 @@ pub fn compiled_files_have_one_reply()
 {
     compiled_files_have_one_menu();
     one_route();
+    replies_follow_menus();
 }

@@ -18,7 +18,8 @@ returns-clause-written c = λ disk keys path bytes targets files by_rules wait f
       ends = c.a_head_ends_where_it_is_closed.ensures;
     } in
     let read = loaded disk keys path bytes targets files is_registry gives held in
-    all_by_rules laws by_rules (menu_of targets) (λ pairs. c.compiled_files_have_one_menu.ensures.meant files targets by_rules pairs read of_files) wait first
+    all_by_rules laws c.replies_follow_menus.ensures by_rules (menu_of targets)
+    (λ pairs. c.compiled_files_have_one_menu.ensures.meant files targets by_rules pairs read of_files) wait first
     last before after end sent written
 
 pub returns-clause-one : goal.returns-clause-one
