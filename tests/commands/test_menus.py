@@ -15,7 +15,11 @@ def shows(program, query, text, report, page):
         program.gives(["resolve", "registry", query], 0, text, "")
     else:
         program.finds_no_link(["resolve", "registry", query])
-    pages = [("/openurl.txt", "plain", text), ("/report", "plain", report), ("/openurl", "html", page)]
+    pages = [
+        ("/openurl.txt", "text/plain", text),
+        ("/report", "text/plain", report),
+        ("/openurl", "text/html", page),
+    ]
     expect_replies(program, [(request_of(f"{path}?{query}"), reply_of(200, body, kind)) for path, kind, body in pages])
 
 
