@@ -1,0 +1,9 @@
+use Rattle.std.proofs.Common.{◌≡◌, [], string_bytes}
+use Rattle.std.specs.List.{fold}
+use Rattle.text_model.specs.Texts.{texts_of}
+use Rattle.written_numbers.specs.Numbers as spec
+use Rattle.written_numbers.proofs.numbers.words.Given as goal
+
+-- what has been written is that of the words so far
+abbrev pub invariant-loop-word : goal.invariant-loop-word
+invariant-loop-word l = string_bytes l.words ≡ fold spec.with_word [] (texts_of l.yielded)

@@ -1,0 +1,4 @@
+pub mod Characters
+pub mod Numbers
+pub mod Layout
+pub mod Identifiers
