@@ -58,7 +58,7 @@ other_values key (pair ∷ pairs) h = by_test (is_row_key pair.key) refl (has_ke
     by_test false e true g s = rw g (ap (λ vs. pair.value ∷ vs) s)
     by_test false e false g s = rw g s
 
--- behind a pair with another key, the values are those of the others
+-- after a pair with another key, the values are those of the pairs that follow
 led_values : (key : Text) (first : KeyValue) (pairs : List KeyValue) → has_key key first ≡ false → is_row_key key ≡ false
     → all_of (led_by first pairs) key ≡ all_of pairs key
 led_values key first pairs other h =

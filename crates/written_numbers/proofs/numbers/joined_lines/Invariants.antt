@@ -4,6 +4,6 @@ use Rattle.text_model.specs.Texts.{texts_of}
 use Rattle.written_numbers.specs.Numbers as spec
 use Rattle.written_numbers.proofs.numbers.joined_lines.Given as goal
 
--- what has been written is that of the lines so far
+-- the text has the lines that were yielded, joined
 abbrev pub invariant-loop-line : goal.invariant-loop-line
 invariant-loop-line l = string_bytes l.joined ≡ fold spec.with_line [] (map spec.words (texts_of l.yielded))
