@@ -1,5 +1,6 @@
 """Which statements of the crates below it a part of a crate depends on: those that it names, and those that these name,
-and so on. A statement is a definition of a file of `specs`, or what a file of `src` states."""
+and so on. A statement is a definition of a file of `specs`, or what a file of `src` states. Of an `unfoldable`
+definition it is the type alone, unless the part unfolds it: everywhere else the prover does not see its value."""
 import functools
 import glob
 import os
@@ -18,6 +19,8 @@ DEFINED = re.compile(r"^(?:(?:unfoldable|abbrev|pub|record|data|mutual) )*([^\s:
 FUNCTION = re.compile(r"^(?:pub(?:\(crate\))? )?(?:const |unsafe )*fn (\w+)", re.M)
 TRAIT = re.compile(r"^(?:pub(?:\(crate\))? )?trait (\w+)", re.M)
 TYPE = re.compile(r"^(?:pub(?:\(crate\))? )?(?:struct|enum|trait|const|type) (\w+)", re.M)
+# What a text unfolds, in a line of a proof or in an attribute.
+UNFOLDING = re.compile(r"\bunfolding\b *(\([^)]*\)|[^\n]*)")
 IMPLEMENTED = re.compile(r"^impl(?:<[^{]*?>)? (?:([\w:]+)[^{\n]*? for )?(\w+)", re.M)
 
 
@@ -25,6 +28,7 @@ def statements(crate, crates, texts, sources):
     """Returns the statements of lower crates that texts of a crate depend on: a dictionary from a path and a name to
     the text. `crates` are all crates of the repository, and the texts of `sources` call methods."""
     calls = {method or function for text in sources for method, function in CALL.findall(text)}
+    opened = {word for text in texts for it in UNFOLDING.findall(text) for word in WORD.findall(it)}
     found, left = {}, {it for text in texts for it in named_in(text, crate, crates, None)}
     named, waiting = {word for text in texts for word in WORD.findall(text)}, {}
     while left or waiting:
@@ -37,10 +41,11 @@ def statements(crate, crates, texts, sources):
         if (path, name) in found or path.split("/")[1] == crate or is_inner(path, name):
             continue
         is_source = path.endswith(".rt")
-        found[path, name] = stated_in(path, name, calls) if is_source else definitions(path).get(name, "")
+        is_sealed = not is_source and name not in opened
+        found[path, name] = stated_in(path, name, calls) if is_source else definition(path, name, is_sealed)
         named.update(WORD.findall(found[path, name]))
         for method in methods_of(path, name) & {"", *calls} if is_source else [""]:
-            left.update(named_by(path, name, method, crates))
+            left.update(named_by(path, name, method, crates, is_sealed))
         if is_source:
             for other in beside(path):
                 is_certain, traits = additions(other, name, calls, crates)
@@ -57,14 +62,14 @@ def methods_of(path, item):
 
 
 @functools.lru_cache(maxsize=None)
-def named_by(path, name, method, crates):
+def named_by(path, name, method, crates, is_sealed):
     """Returns what a definition names, or an item of a source by what it states of a method, or apart from methods."""
     crate, text = path.split("/")[1], text_of(path)
     if path.endswith(".rt"):
         lines = [line for of, it, line in lines_stated_in(path) if (of, it) == (name, method)]
         return {*named_in(text, crate, crates, frozenset(WORD.findall(" ".join(lines))))}
     here = definitions(path)
-    words = {*WORD.findall(here.get(name, name))}
+    words = {*WORD.findall(definition(path, name, is_sealed) or name)}
     return {*named_in(text, crate, crates, frozenset(words | {name}))} | {(path, it) for it in words & {*here} - {name}}
 
 
@@ -77,6 +82,16 @@ def definitions(path):
         for name in DEFINED.findall(block):
             found[name] = found.get(name, "") + block.strip() + "\n"
     return found
+
+
+def definition(path, name, is_sealed):
+    """Returns the text of a definition; where it is sealed, and `unfoldable` by itself, its type."""
+    text = definitions(path).get(name, "")
+    if not is_sealed or not text.startswith("unfoldable ") or {*DEFINED.findall(text)} != {name}:
+        return text
+    lines = text.split("\n")
+    end = next((at for at, line in enumerate(lines) if re.match(rf"{re.escape(name)}(?: |$)", line)), len(lines))
+    return "\n".join(lines[:end])
 
 
 def named_in(text, crate, crates, words):

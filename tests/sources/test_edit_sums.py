@@ -42,6 +42,18 @@ impl Display for Shape {
 """,
     "crates/low/src/count.rt": "pub fn count(n: usize) -> usize\n    ensures { result ≡ n }\n{\n    n\n}\n",
     "crates/low/specs/Big.antt": "-- big\npub is_big : ℕ → Bool\nis_big n = nat_lt 9 n\n\npub other : ℕ\nother = 1\n",
+    "crates/low/specs/Sealed.antt": """unfoldable pub sealed : ℕ → ℕ
+sealed n = inner n
+
+pub inner : ℕ → ℕ
+inner n = n
+
+unfoldable pub opened : ℕ → ℕ
+opened n = inside n
+
+pub inside : ℕ → ℕ
+inside n = n
+""",
     "crates/a/src/lib.rt": "#![tactic(auto)]\n\nmod kind;\nmod one;\nmod other;\nmod shown;\nmod two;\n",
     "crates/a/src/kind.rt": "pub(crate) struct Kind {\n    pub(crate) n: usize,\n}\n",
     "crates/a/src/shown.rt": "use crate::kind::Kind;\n\nimpl Model for Kind {\n    ghost view = { λ k. k.n };\n}\n",
@@ -49,6 +61,7 @@ impl Display for Shape {
 
 ghost use Rattle.a.specs.One.{is_one};
 ghost use Rattle.low.specs.Big.{is_big};
+ghost use Rattle.low.specs.Sealed.{sealed, opened};
 
 use crate::kind::Kind;
 use low::Shape;
@@ -83,6 +96,7 @@ pub fn two<A: Area>(n: usize, _area: A, _shape: Shape) -> bool
 use Rattle.a.proofs.one.one.Goals as goal
 
 pub returns : goal.returns
+unfolding opened
 returns c = same
 """,
     "crates/a/proofs/two/two/Answers.antt": """use Rattle.a.proofs.two.two.Goals as goal
@@ -122,6 +136,13 @@ CHANGES = [
     ("crates/low/src/display.rt", "λ s. s.n", "λ s. s.n + 0", "body contract definition"),
     ("crates/low/specs/Big.antt", "nat_lt 9 n", "nat_lt 8 n", "body contract"),
     ("crates/low/specs/Big.antt", "other = 1", "other = 2", ""),
+    # The value of an `unfoldable` definition, and what it names, count where it is unfolded, and its type counts.
+    ("crates/low/specs/Sealed.antt", "sealed n = inner n", "sealed n = inner 1", ""),
+    ("crates/low/specs/Sealed.antt", "inner n = n", "inner n = 1", ""),
+    ("crates/low/specs/Sealed.antt", "sealed : ℕ → ℕ", "sealed : ℕ → Bool", "body contract"),
+    ("crates/low/specs/Sealed.antt", "opened n = inside n", "opened n = inside 1", "body contract"),
+    ("crates/low/specs/Sealed.antt", "inside n = n", "inside n = 1", "body contract"),
+    ("crates/a/proofs/one/one/Answers.antt", "unfolding opened\n", "unfolding sealed\n", "body contract"),
     ("edits/a/body.edit", "new: == 2", "new: == 3", "body"),
 ]
 SUMS = """import json, sys
