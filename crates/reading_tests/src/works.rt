@@ -34,7 +34,7 @@ fn first_other(alloc: Global, cases: &[Case]) -> Result<Option<&'static str>, Fa
 }
 
 /// ISO 26324 has 10.1000/123456, and the handbook of DOIs 10.1000/182.
-const KEYS: [Case; 9] = [
+const KEYS: [Case; 10] = [
     (
         "rft_id=doi:10.1000/182",
         "info:doi/10.1000/182 doi:10.1000/182 ",
@@ -52,6 +52,11 @@ const KEYS: [Case; 9] = [
     ),
     (
         "doi=https://doi.org/10.1000/182",
+        "info:doi/10.1000/182 ",
+        ["10.1000/182", "", ""],
+    ),
+    (
+        "doi=https://doi-org.proxy.example.edu/10.1000/182",
         "info:doi/10.1000/182 ",
         ["10.1000/182", "", ""],
     ),
@@ -84,7 +89,7 @@ fn each_key_is_read(rt: HostRuntime) -> Result<(), Fail> {
     Ok(())
 }
 
-const NUMBERS: [Case; 9] = [
+const NUMBERS: [Case; 13] = [
     (
         "id=pmid:99990001",
         "info:pmid/99990001 ",
@@ -113,6 +118,14 @@ const NUMBERS: [Case; 9] = [
         ["", "", ""],
     ),
     ("rft_id=99990001", "99990001 ", ["", "", ""]),
+    ("pmid=123456+789", "", ["", "", ""]),
+    ("rft.pmid=123456%2F789", "", ["", "", ""]),
+    ("id=oclc:123456,+789", "", ["", "", ""]),
+    (
+        "id=oclc:on1234567890",
+        "info:oclcnum/1234567890 ",
+        ["", "", "1234567890"],
+    ),
     (
         "id=unknown&doi=n/a&pmid=7a&rft.doi=10.1000",
         "",

@@ -3,11 +3,11 @@ use Rattle.std.proofs.Common.{◌≡◌, ℕ, ◌+◌, ◌<◌, ◌≤◌, [], �
 use Rattle.std.proofs.Common.{refl, sym, ap, ◌∙◌, subst, arith, append-nil}
 use Rattle.std.specs.Prelude.{nat_le}
 use Rattle.std.specs.Char.{is_ascii_digit}
-use Rattle.std.specs.List.{list_all, prefix_len}
+use Rattle.std.specs.List.{list_all, prefix_len, take_while}
 use Rattle.std.specs.Str.{IsAscii}
 use Rattle.std.proofs.lemmas.Bool.{and_parts, and_from, not-true, eqb-true, leb-true, le-leb}
 use Rattle.std.proofs.lemmas.Bool.Decides.{nat_tests}
-use Rattle.std.proofs.lemmas.List.{take_all, drop_all}
+use Rattle.std.proofs.lemmas.List.{drop_all}
 use Rattle.std.proofs.lemmas.List.Elements.{All-weaker}
 use Rattle.std.proofs.lemmas.List.Sums.{AllPass-from_list_all, take_while-cons}
 use Rattle.std.proofs.lemmas.Str.Ascii.{IsAscii-from_all}
@@ -16,7 +16,7 @@ use Rattle.work_identifiers.specs.declared.namespace.Namespace.{Namespace}
 use Rattle.work_identifiers.specs.declared.namespace.Namespace.TheVariants.{Doi, Pmid, Oclc, Pmc, Arxiv}
 use Rattle.work_identifiers.specs.Ends.{is_before, from_start, ends_loosely, is_no_break, first_part, to_end}
 use Rattle.work_identifiers.specs.Forms.{most_bytes, is_visible, is_doi_prefix, is_doi, is_number, has_form, is_identifier}
-use Rattle.work_identifiers.specs.Places.{is_no_stop, is_version, unversioned, part, identifier_at}
+use Rattle.work_identifiers.specs.Places.{is_word_byte, is_no_stop, is_version, unversioned, part, identifier_at}
 use Rattle.work_identifiers.proofs.EndSteps.{to_end-same}
 use Rattle.work_identifiers.proofs.Preprints.{Pass, digits_pass, while_front, passes_whole, preprint_same, arxiv_ascii, arxiv_begins}
 
@@ -46,19 +46,13 @@ identifier_ascii namespace n h = form_ascii namespace n (and_parts _ _ h).1
 
 -- ---- the part of an identifier is itself
 
-digit_joins : (b : ℕ) → is_ascii_digit b ≡ true → is_no_break b ≡ true
-digit_joins b h = grind (arith, nat_tests)
+digit_in_word : (b : ℕ) → is_ascii_digit b ≡ true → is_word_byte b ≡ true
+digit_in_word b h = grind (arith, nat_tests)
 
-pub digits_joined : (t : Text) → list_all is_ascii_digit t ≡ true → first_part t ≡ t
-digits_joined t h =
-    let all : Pass is_no_break t = All-weaker (λ b. is_ascii_digit b ≡ true) (λ b. is_no_break b ≡ true) digit_joins t (digits_pass t h) in
-    let n : prefix_len is_no_break t ≡ length t = passes_whole is_no_break t all in
-    take_all (prefix_len is_no_break t) t (omega (arith, n))
-
-pub digits_before_slash : (t : Text) → list_all is_ascii_digit t ≡ true → first_part (t ++ 0x2f ∷ []) ≡ t
+pub digits_before_slash : (t : Text) → list_all is_ascii_digit t ≡ true → take_while is_word_byte (t ++ 0x2f ∷ []) ≡ t
 digits_before_slash t h =
-    let all : Pass is_no_break t = All-weaker (λ b. is_ascii_digit b ≡ true) (λ b. is_no_break b ≡ true) digit_joins t (digits_pass t h) in
-    while_front is_no_break t (0x2f ∷ []) all ∙ append-nil t
+    let all : Pass is_word_byte t = All-weaker (λ b. is_ascii_digit b ≡ true) (λ b. is_word_byte b ≡ true) digit_in_word t (digits_pass t h) in
+    while_front is_word_byte t (0x2f ∷ []) all ∙ append-nil t
 
 digit_is_no_stop : (b : ℕ) → is_ascii_digit b ≡ true → is_no_stop b ≡ true
 digit_is_no_stop b h = grind (arith, nat_tests)
@@ -75,11 +69,9 @@ firm namespace n h = to_end-same n (not-true (ends_loosely n) (and_parts _ _ (an
 
 pub part_same : (namespace : Namespace) (n : Text) → is_identifier namespace n ≡ true → part namespace n ≡ n
 part_same Doi n h = firm Doi n h
-part_same Pmid n h = ap to_end (digits_joined n (and_parts _ _ (and_parts _ _ h).1).1) ∙ firm Pmid n h
-part_same Oclc n h = ap to_end (digits_joined n (and_parts _ _ (and_parts _ _ h).1).1) ∙ firm Oclc n h
-part_same Pmc n h =
-    let digits = (and_parts _ _ (and_parts _ _ h).1).1 in
-    ap (λ t. unversioned (to_end t)) (digits_joined n digits) ∙ ap unversioned (firm Pmc n h) ∙ digits_unversioned n digits
+part_same Pmid n h = firm Pmid n h
+part_same Oclc n h = firm Oclc n h
+part_same Pmc n h = ap unversioned (firm Pmc n h) ∙ digits_unversioned n (and_parts _ _ (and_parts _ _ h).1).1
 part_same Arxiv n h = ap to_end (preprint_same n (and_parts _ _ h).1) ∙ firm Arxiv n h
 
 -- ---- where an identifier is

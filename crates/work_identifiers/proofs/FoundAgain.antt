@@ -7,12 +7,12 @@ use Rattle.text_model.specs.Texts.{Text}
 use Rattle.uri_text.specs.AnyCase.{begins_in_any_case}
 use Rattle.work_identifiers.specs.declared.namespace.Namespace.{Namespace}
 use Rattle.work_identifiers.specs.declared.namespace.Namespace.TheVariants.{Doi, Pmid, Oclc, Pmc, Arxiv}
-use Rattle.work_identifiers.specs.Ends.{is_no_break, from_start, ends_loosely, cut_at, to_end, first_part}
+use Rattle.work_identifiers.specs.Ends.{is_no_break, from_start, ends_loosely, cut_at, first_part}
 use Rattle.work_identifiers.specs.Forms.{most_bytes, is_doi_prefix, is_doi, is_number, is_identifier, IsIdentifier}
 use Rattle.work_identifiers.specs.Uris.{uri_start, uri_end, longest_uri, uri_of, canonical, canonical_arxiv, registered, arxiv_start, arxiv_doi}
-use Rattle.work_identifiers.specs.Places.{places, unversioned, part, identifier_at, identifier_in, identifier_alone}
+use Rattle.work_identifiers.specs.Places.{segment, places, identifier_at, identifier_in, identifier_alone}
 use Rattle.work_identifiers.proofs.Finding.{first_none, first_some, second_found}
-use Rattle.work_identifiers.proofs.FormLaws.{joined, at_none, at_some, at_identifier, identifier_starts, part_same, digits_joined}
+use Rattle.work_identifiers.proofs.FormLaws.{joined, at_none, at_identifier, identifier_starts}
 use Rattle.work_identifiers.proofs.FormLaws.{digits_before_slash, starts, digit_starts}
 use Rattle.work_identifiers.proofs.PreprintForms.{arxiv_short}
 use Rattle.work_identifiers.proofs.PreprintDois.{canonical_identifier}
@@ -65,16 +65,10 @@ slashed_starts : (n : Text) → IsIdentifier Pmc n → from_start (n ++ 0x2f ∷
 slashed_starts [] is = cc
 slashed_starts (b ∷ t) is = starts b (t ++ 0x2f ∷ []) (digit_starts b (and_parts _ _ (and_parts _ _ (and_parts _ _ is).1).1).0)
 
-slashed_part : (n : Text) → IsIdentifier Pmc n → part Pmc (n ++ 0x2f ∷ []) ≡ n
-slashed_part n is =
-    let digits = (and_parts _ _ (and_parts _ _ is).1).1 in
-    ap (λ t. unversioned (to_end t)) (digits_before_slash n digits ∙ sym (digits_joined n digits)) ∙ part_same Pmc n is
-
-slashed_at : (n : Text) → IsIdentifier Pmc n → identifier_at Pmc (from_start (n ++ 0x2f ∷ [])) ≡ Some n
+slashed_at : (n : Text) → IsIdentifier Pmc n → identifier_at Pmc (segment Pmc (from_start (n ++ 0x2f ∷ []))) ≡ Some n
 slashed_at n is =
-    let nine : length n ≤ 9 = leb-true _ _ (and_parts _ _ (and_parts _ _ (and_parts _ _ is).1).0).1 in
-    let short : length (n ++ 0x2f ∷ []) ≤ most_bytes = omega (arith, nine, length-append n (0x2f ∷ [])) in
-    ap (identifier_at Pmc) (slashed_starts n is) ∙ sym (at_some Pmc (n ++ 0x2f ∷ []) n short (sym (slashed_part n is)) is)
+    ap (λ t. identifier_at Pmc (segment Pmc t)) (slashed_starts n is)
+    ∙ ap (identifier_at Pmc) (digits_before_slash n (and_parts _ _ (and_parts _ _ is).1).1) ∙ at_identifier Pmc n is
 
 -- each URI without an end
 plain_has : (namespace : Namespace) (n : Text) → identifier_in namespace (uri_start namespace ++ n) ≡ Some n
@@ -90,7 +84,7 @@ uri_has Pmid n is =
     plain_has Pmid n (first_some (identifier_at Pmid) (from_start n) n (drop 1 (places Pmid (codes "info:pmid/" ++ n))) (found_at Pmid n is))
 uri_has Oclc n is =
     plain_has Oclc n (first_some (identifier_at Oclc) (from_start n) n (drop 1 (places Oclc (codes "info:oclcnum/" ++ n))) (found_at Oclc n is))
-uri_has Pmc n is = first_some (identifier_at Pmc) (from_start (n ++ 0x2f ∷ [])) n [] (slashed_at n is)
+uri_has Pmc n is = first_some (identifier_at Pmc) (segment Pmc (from_start (n ++ 0x2f ∷ []))) n [] (slashed_at n is)
 uri_has Arxiv n is =
     let form = canonical_arxiv n in
     plain_has Arxiv form

@@ -1,19 +1,20 @@
 -- What is found is a part of the text.
-use Rattle.std.proofs.Common.{◌≡◌, ℕ, zero, suc, ◌+◌, ◌≤◌, List, [], ◌∷◌, ◌++◌, Bool, true, false, cond, Option, Some}
+use Rattle.std.proofs.Common.{◌≡◌, ℕ, zero, suc, ◌+◌, ◌-◌, ◌≤◌, List, [], ◌∷◌, ◌++◌, Bool, true, false, cond, Option, Some}
 use Rattle.std.proofs.Common.{None, length, take, drop, refl, sym, ap, ◌∙◌, subst, arith}
 use Rattle.std.specs.List.{All, filter_map, prefix_len}
 use Rattle.std.proofs.lemmas.List.{drop-drop, take_all, take-take, length-take}
 use Rattle.std.proofs.lemmas.Bool.{leb-true, leb-false}
-use Rattle.std.specs.Prelude.{nat_le}
-use Rattle.std.proofs.lemmas.List.Elements.{All-append, All-cons, All-head, All-tail}
+use Rattle.std.specs.Prelude.{nat_le, slice_index, codes, ◌&&◌, ◌==◌}
+use Rattle.std.proofs.lemmas.List.Elements.{All-append, All-cons, All-head, All-map, All-tail, All-weaker}
 use Rattle.text_model.specs.Texts.{Text}
 use Rattle.uri_text.specs.AnyCase.{begins_in_any_case}
 use Rattle.work_identifiers.specs.declared.namespace.Namespace.{Namespace}
 use Rattle.work_identifiers.specs.declared.namespace.Namespace.TheVariants.{Doi, Pmid, Oclc, Pmc, Arxiv}
-use Rattle.work_identifiers.specs.Ends.{is_before, is_no_break, from_start, ends_loosely, cut_at, to_end, first_part}
-use Rattle.work_identifiers.specs.Forms.{is_digit_or_stop, lead_length, IsIdentifier}
+use Rattle.work_identifiers.specs.Ends.{is_before, from_start, ends_loosely, cut_at, to_end}
+use Rattle.work_identifiers.specs.Forms.{IsIdentifier}
 use Rattle.work_identifiers.specs.Places.{words, hosts, schemes, after, after_any, after_words, after_addresses, named_places, places, part, identifier_at}
-use Rattle.work_identifiers.specs.Places.{is_no_stop, is_version, unversioned, preprint}
+use Rattle.work_identifiers.specs.Places.{is_word_byte, is_host_byte, is_path_byte, longest_proxy, after_host, after_title, segment, from_site, from_sites}
+use Rattle.work_identifiers.specs.Places.{is_no_stop, is_version, unversioned, is_rest, preprint_length, preprint}
 use Rattle.work_identifiers.specs.Places.{identifier_in, identifier_alone, IsPartOf}
 use Rattle.work_identifiers.proofs.Finding.{first_found, first_none, first_some, first_has}
 use Rattle.work_identifiers.proofs.FormLaws.{at_is}
@@ -86,17 +87,69 @@ words_are namespace text t is =
     let rests = after_any (words namespace) (t ∷ []) in
     All-append (IsRest text) rests (after_any (words namespace) rests) once (after_any_are text (words namespace) rests once)
 
-named_are : (namespace : Namespace) (text t : Text) → IsRest text t → All (IsRest text) (named_places namespace t)
+rest_part : (text t : Text) → IsRest text t → IsPartOf text t
+unfolding IsRest
+rest_part text t is = (is.0, length t, sym (take_all (length t) t (omega arith)) ∙ ap (take (length t)) is.1)
+
+beginning_part : (text t : Text) (count : ℕ) → IsRest text t → IsPartOf text (take count t)
+unfolding IsRest
+beginning_part text t count is = (is.0, count, ap (take count) is.1)
+
+host_part : (text t : Text) → IsRest text t → IsPartOf text (after_host t)
+host_part text t is = by_test (nat_le n longest_proxy && (slice_index t n == 0x2f))
+  where
+    n : ℕ
+    n = prefix_len is_host_byte t
+
+    rest : Text
+    rest = drop (n + 1) t
+
+    by_test : (c : Bool) → IsPartOf text (cond c (from_start rest) [])
+    by_test true = rest_part text (from_start rest) (rest_of_rest text rest (prefix_len is_before rest) (rest_of_rest text t (n + 1) is))
+    by_test false = (0, 0, refl)
+
+title_rest : (text t : Text) → IsRest text t → IsRest text (after_title t)
+title_rest text t is = by_test (begins_in_any_case (drop n t) (codes "/oclc/"))
+  where
+    n : ℕ
+    n = prefix_len is_path_byte t
+
+    by_test : (c : Bool) → IsRest text (cond c (drop (n + 6) t) t)
+    by_test true = rest_of_rest text t (n + 6) is
+    by_test false = is
+
+segment_part : (namespace : Namespace) (text t : Text) → IsRest text t → IsPartOf text (segment namespace t)
+segment_part Doi text t is = host_part text t is
+segment_part Pmid text t is = beginning_part text t (prefix_len is_word_byte t) is
+segment_part Oclc text t is = beginning_part text (after_title t) (prefix_len is_path_byte (after_title t)) (title_rest text t is)
+segment_part Pmc text t is = beginning_part text t (prefix_len is_word_byte t) is
+segment_part Arxiv text t is = rest_part text t is
+
+sites_are : (namespace : Namespace) (text : Text) (ts : List Text) → All (IsRest text) ts → All (IsRest text) (from_sites namespace ts)
+sites_are Doi text ts all = all
+sites_are Pmid text ts all = all
+sites_are Oclc text ts all =
+    All-map (IsRest text) from_site ts
+    (All-weaker (IsRest text) (λ t. IsRest text (from_site t)) (λ t is. rest_of_rest text t (prefix_len is_host_byte t - 12) is) ts all)
+sites_are Pmc text ts all = all
+sites_are Arxiv text ts all = all
+
+named_are : (namespace : Namespace) (text t : Text) → IsRest text t → All (IsPartOf text) (named_places namespace t)
 named_are namespace text t is =
     let named = words_are namespace text t is in
     let starts = t ∷ after_words namespace t in
     let all : All (IsRest text) starts = All-cons (IsRest text) t (after_words namespace t) is named in
     let addresses = All-append (IsRest text) starts (after_any schemes starts) all (after_any_are text schemes starts all) in
-    All-append (IsRest text) (after_words namespace t) (after_addresses namespace starts) named
-    (after_any_are text (hosts namespace) (starts ++ after_any schemes starts) addresses)
+    let sites = from_sites namespace (starts ++ after_any schemes starts) in
+    let rests = after_any (hosts namespace) sites in
+    let hosted = after_any_are text (hosts namespace) sites (sites_are namespace text (starts ++ after_any schemes starts) addresses) in
+    All-append (IsPartOf text) (after_words namespace t) (after_addresses namespace starts)
+    (All-weaker (IsRest text) (IsPartOf text) (rest_part text) (after_words namespace t) named)
+    (All-map (IsPartOf text) (segment namespace) rests
+    (All-weaker (IsRest text) (λ r. IsPartOf text (segment namespace r)) (segment_part namespace text) rests hosted))
 
-places_are : (namespace : Namespace) (text t : Text) → IsRest text t → All (IsRest text) (places namespace t)
-places_are Doi text t is = All-cons (IsRest text) t (named_places Doi t) is (named_are Doi text t is)
+places_are : (namespace : Namespace) (text t : Text) → IsRest text t → All (IsPartOf text) (places namespace t)
+places_are Doi text t is = All-cons (IsPartOf text) t (named_places Doi t) (rest_part text t is) (named_are Doi text t is)
 places_are Pmid text t is = named_are Pmid text t is
 places_are Oclc text t is = named_are Oclc text t is
 places_are Pmc text t is = named_are Pmc text t is
@@ -117,14 +170,6 @@ cut_front (suc n) t = by_test (ends_loosely (take (suc n) t)) (cut_front n t)
     by_test true rest = (rest.0, omega (arith, rest.1), rest.2)
     by_test false rest = (suc n, omega arith, refl)
 
-number_front : (t : Text) → (count : ℕ) × (to_end (first_part t) ≡ take count t)
-unfolding IsFront
-number_front t =
-    let k = prefix_len is_no_break t in
-    let front = cut_front (length (first_part t)) (first_part t) in
-    let few : front.0 ≤ k = omega (arith, front.1, length-take k t) in
-    (front.0, front.2 ∙ take-take front.0 k t few)
-
 unversioned_front : (t front : Text) → (count : ℕ) × (front ≡ take count t) → (count : ℕ) × (unversioned front ≡ take count t)
 unversioned_front t front is = by_test (is_version (drop (prefix_len is_no_stop front) front))
   where
@@ -138,23 +183,30 @@ unversioned_front t front is = by_test (is_version (drop (prefix_len is_no_stop 
     by_test true = (both.0, ap (take n) is.1 ∙ both.1)
     by_test false = is
 
+preprint_front : (t : Text) → (count : ℕ) × (preprint t ≡ take count t)
+preprint_front t = by_test (is_rest (drop (preprint_length t) t))
+  where
+    by_test : (c : Bool) → (count : ℕ) × (cond c (take (preprint_length t) t) [] ≡ take count t)
+    by_test true = (preprint_length t, refl)
+    by_test false = (0, refl)
+
 pub part_front : (namespace : Namespace) (t : Text) → (count : ℕ) × (part namespace t ≡ take count t)
 unfolding IsFront
 part_front Doi t = let front = cut_front (length t) t in (front.0, front.2)
-part_front Pmid t = number_front t
-part_front Oclc t = number_front t
-part_front Pmc t = unversioned_front t (to_end (first_part t)) (number_front t)
+part_front Pmid t = let front = cut_front (length t) t in (front.0, front.2)
+part_front Oclc t = let front = cut_front (length t) t in (front.0, front.2)
+part_front Pmc t = let front = cut_front (length t) t in unversioned_front t (to_end t) (front.0, front.2)
 part_front Arxiv t =
-    let k = lead_length t + prefix_len is_digit_or_stop (drop (lead_length t) t) in
     let front = cut_front (length (preprint t)) (preprint t) in
-    let few : front.0 ≤ k = omega (arith, front.1, length-take k t) in
-    (front.0, front.2 ∙ take-take front.0 k t few)
+    let whole = preprint_front t in
+    let both = take_twice front.0 whole.0 t in
+    (both.0, front.2 ∙ ap (take front.0) whole.1 ∙ both.1)
 
-at_part : (namespace : Namespace) (text t n : Text) → IsRest text t → identifier_at namespace t ≡ Some n → IsPartOf text n
-unfolding IsRest
+at_part : (namespace : Namespace) (text t n : Text) → IsPartOf text t → identifier_at namespace t ≡ Some n → IsPartOf text n
 at_part namespace text t n is h =
     let front = part_front namespace t in
-    (is.0, front.0, (at_is namespace t n h).0 ∙ front.1 ∙ ap (take front.0) is.1)
+    let both = take_twice front.0 is.1 (drop is.0 text) in
+    (is.0, both.0, (at_is namespace t n h).0 ∙ front.1 ∙ ap (take front.0) is.2 ∙ both.1)
 
 pub whole_rest : (text : Text) → IsRest text text
 unfolding IsRest
@@ -165,11 +217,11 @@ unfolding IsRest
 start_rest text = (prefix_len is_before text, refl)
 
 -- what is found at one of these places
-first_at : (namespace : Namespace) (text : Text) (ts : List Text) (n : Text) → All (IsRest text) ts → first_found (identifier_at namespace) ts ≡ Some n
+first_at : (namespace : Namespace) (text : Text) (ts : List Text) (n : Text) → All (IsPartOf text) ts → first_found (identifier_at namespace) ts ≡ Some n
     → IsPartOf text n
 first_at namespace text [] n all h = cc
 first_at namespace text (t ∷ ts) n all h =
-    by_found (identifier_at namespace t) refl (first_at namespace text ts n (All-tail (IsRest text) t ts all)) h
+    by_found (identifier_at namespace t) refl (first_at namespace text ts n (All-tail (IsPartOf text) t ts all)) h
   where
     find : Text → Option Text
     find = identifier_at namespace
@@ -179,14 +231,14 @@ first_at namespace text (t ∷ ts) n all h =
     by_found (Some m) e rest g =
         let same : Some m ≡ Some n = sym (first_some find t m ts e) ∙ g in
         let equal : m ≡ n = cc in
-        at_part namespace text t n (All-head (IsRest text) t ts all) (e ∙ ap Some equal)
+        at_part namespace text t n (All-head (IsPartOf text) t ts all) (e ∙ ap Some equal)
 
 pub named_part : (namespace : Namespace) (text n : Text) → identifier_in namespace text ≡ Some n → IsPartOf text n
 named_part namespace text n h =
     first_at namespace text (places namespace (from_start text)) n (places_are namespace text (from_start text) (start_rest text)) h
 
 pub alone_part : (namespace : Namespace) (text n : Text) → identifier_alone namespace text ≡ Some n → IsPartOf text n
-alone_part namespace text n h = at_part namespace text (from_start text) n (start_rest text) h
+alone_part namespace text n h = at_part namespace text (from_start text) n (rest_part text (from_start text) (start_rest text)) h
 
 -- ---- the form
 

@@ -7,14 +7,14 @@ use Rattle.std.specs.List.{All, list_all, prefix_len, take_while}
 use Rattle.std.specs.Str.{IsAscii}
 use Rattle.std.proofs.lemmas.Bool.{and_parts, or_cases, eqb-true, leb-true}
 use Rattle.std.proofs.lemmas.Bool.Decides.{nat_tests}
-use Rattle.std.proofs.lemmas.List.{take_all, drop_more, take-append-drop, length-drop}
+use Rattle.std.proofs.lemmas.List.{take_all, drop_all, drop_more, take-append-drop, length-drop}
 use Rattle.std.proofs.lemmas.List.Elements.{All-append, All-cons, All-head, All-tail, All-weaker, All-get_or}
 use Rattle.std.proofs.lemmas.List.Sums.{AllPass-from_list_all, prefix_len_is, prefix_len-le-length, take_while-cons}
 use Rattle.std.proofs.lemmas.Str.Ascii.{IsAscii-from_all}
 use Rattle.text_model.specs.Texts.{Text}
 use Rattle.work_identifiers.specs.Ends.{is_before}
 use Rattle.work_identifiers.specs.Forms.{is_digit_or_stop, is_name_byte, is_lead_byte, lead_length, name_length, is_new, is_archive, is_old, is_arxiv}
-use Rattle.work_identifiers.specs.Places.{preprint}
+use Rattle.work_identifiers.specs.Places.{is_rest, preprint_length, preprint}
 
 -- ---- bytes
 
@@ -99,7 +99,8 @@ pub preprint_same : (n : Text) → is_arxiv n ≡ true → preprint n ≡ n
 preprint_same n h = by_form (or_cases (is_new n) (is_old n) h)
   where
     whole : IsWhole n (lead_length n) → preprint n ≡ n
-    whole w = take_all (lead_length n + prefix_len is_digit_or_stop (drop (lead_length n) n)) n w
+    whole w =
+        let k = preprint_length n in ap (λ rest. cond (is_rest rest) (take k n) []) (drop_all k n w) ∙ take_all k n w
 
     by_form : (is_new n ≡ true) ⊎ (is_old n ≡ true) → preprint n ≡ n
     by_form (inl new) = whole (new_whole n new)

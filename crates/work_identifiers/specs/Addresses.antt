@@ -31,8 +31,8 @@ is_no_closer b = not (is_closer b)
 -- what a page shows of an article, and the forms of its file
 abbrev pub views : List Text
 views =
-    codes "abs" ∷ codes "abstract" ∷ codes "citation" ∷ codes "citations" ∷ codes "epdf" ∷ codes "epub" ∷ codes "figures" ∷ codes "full" ∷
-    codes "full-text" ∷ codes "fulltext" ∷ codes "fullhtml" ∷ codes "htm" ∷ codes "html" ∷ codes "meta" ∷ codes "metadata" ∷
+    codes "abs" ∷ codes "abstract" ∷ codes "citation" ∷ codes "citations" ∷ codes "epdf" ∷ codes "epdfplus" ∷ codes "epub" ∷ codes "figures" ∷
+    codes "full" ∷ codes "full-text" ∷ codes "fulltext" ∷ codes "fullhtml" ∷ codes "htm" ∷ codes "html" ∷ codes "meta" ∷ codes "metadata" ∷
     codes "metrics" ∷ codes "pdf" ∷ codes "pdfdirect" ∷ codes "pdfplus" ∷ codes "references" ∷ codes "summary" ∷ codes "suppl_file" ∷
     codes "tables" ∷ codes "xml" ∷ []
 

@@ -1,5 +1,5 @@
 -- What sources write around an identifier.
-use Rattle.std.specs.Prelude.{ℕ, zero, suc, ◌-◌, ◌==◌, ◌||◌, ◌&&◌, not, nat_le, nat_lt, Bool, [], length, take, drop, slice_index, if◌then◌else◌}
+use Rattle.std.specs.Prelude.{ℕ, zero, suc, ◌-◌, ◌==◌, ◌||◌, not, nat_le, nat_lt, Bool, [], length, take, drop, slice_index, if◌then◌else◌}
 use Rattle.std.specs.List.{count_by, prefix_len, take_while}
 use Rattle.text_model.specs.Texts.{Text}
 
@@ -41,10 +41,6 @@ cut_at (suc n) text = if ends_loosely (take (suc n) text) then cut_at n text els
 
 abbrev pub to_end : Text → Text
 to_end text = cut_at (length text) text
-
--- the first n bytes, at least one, end loosely
-abbrev pub is_loose_to : ℕ → Text → Bool
-is_loose_to n text = nat_lt 0 n && ends_loosely (take n text)
 
 -- a space or a control character, or one of `/?#&,;`
 abbrev pub is_break : ℕ → Bool

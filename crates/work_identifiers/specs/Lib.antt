@@ -2,4 +2,5 @@ pub mod Addresses
 pub mod Ends
 pub mod Forms
 pub mod Places
+pub mod StandardNumbers
 pub mod Uris

@@ -170,6 +170,7 @@ fn views() -> &'static [&'static str]
         "citation",
         "citations",
         "epdf",
+        "epdfplus",
         "epub",
         "figures",
         "full",

@@ -8,6 +8,7 @@ ghost use Rattle.work_identifiers.specs.Uris.{without_class};
 
 use crate::ends::byte_at;
 use crate::forms::{are_digits, is_between, is_digit_or_stop};
+use crate::rests::is_rest;
 use std::alloc::{AllocError, Global};
 
 /// Whether this is an identifier of arXiv, a new one or an old one.
@@ -97,13 +98,14 @@ fn name_length(lead: &[u8]) -> usize
     lead.len()
 }
 
-/// The archive, and the digits and full stops after it.
+/// The archive, and the digits and full stops after it; nothing if what follows says more.
 pub(crate) fn preprint(text: &[u8]) -> &[u8]
     ensures { result.now ≡ preprint text.now }
 {
     let lead = lead_length(text);
     let number = number_length(text.split_at(lead).1);
-    text.split_at(lead + number).0
+    let (preprint, rest) = text.split_at(lead + number);
+    if is_rest(rest) { preprint } else { b"" }
 }
 
 /// How many digits and full stops a text begins with.

@@ -1,6 +1,6 @@
 //! What sources write around an identifier.
 
-ghost use Rattle.std.specs.Prelude.{◌≡◌, ◌≤◌, length, slice_index};
+ghost use Rattle.std.specs.Prelude.{◌≡◌, ◌||◌, nat_lt, slice_index};
 ghost use Rattle.work_identifiers.specs.Ends as spec;
 
 /// Spaces, control characters, quotes and `*`.
@@ -91,27 +91,30 @@ pub(crate) fn ends_loosely(text: &[u8]) -> bool
     is_after(last) || is_unopened(last, text)
 }
 
-/// The longest beginning that does not end loosely.
-#[tactic(auto, using(crate::proofs::EndSteps::cut_more, crate::proofs::EndSteps::cut_here))]
+/// The longest beginning that does not end loosely, in one pass.
 pub(crate) fn to_end(text: &[u8]) -> &[u8]
     ensures { result.now ≡ spec.to_end text.now }
 {
-    let mut end = text.len();
-    while is_loose_to(text, end) {
-        end -= 1;
+    let mut counts = [0usize; 256];
+    let mut end = 0;
+    for (at, byte) in text.iter().enumerate() {
+        counts[usize::from(*byte)] += 1;
+        if !is_loose(&counts, *byte) {
+            end = at + 1;
+        }
     }
     text.split_at(end).0
 }
 
-/// Whether the bytes up to `end`, at least one, end loosely.
-fn is_loose_to(text: &[u8], end: usize) -> bool
-    requires { end ≤ length text.now }
-    ensures { result ≡ spec.is_loose_to end text.now }
+/// Whether a text with this last byte ends loosely, by how often it has each byte.
+fn is_loose(counts: &[usize; 256], last: u8) -> bool
+    ensures { result ≡ (spec.is_after last
+        || nat_lt (slice_index counts.now (spec.opening_of last)) (slice_index counts.now last)) }
 {
-    end > 0 && ends_loosely(text.split_at(end).0)
+    is_after(last) || counts[usize::from(opening_of(last))] < counts[usize::from(last)]
 }
 
-/// Whether the byte is none of a number, in a list or an address.
+/// Whether the byte is none of the prefix of a DOI.
 fn is_break(byte: u8) -> bool
     ensures { result ≡ spec.is_break byte }
 {

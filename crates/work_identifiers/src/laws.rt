@@ -1,6 +1,6 @@
 //! What follows from the definitions. These functions have empty bodies; each contract is a theorem.
 
-ghost use Rattle.std.specs.Prelude.{◌≡◌, ◌≢◌, ◌≤◌, ◌++◌, Some, None, false, length};
+ghost use Rattle.std.specs.Prelude.{◌≡◌, ◌≢◌, ◌≤◌, ◌++◌, Some, None, true, false, length};
 ghost use Rattle.text_model.specs.Texts.{Text};
 ghost use Rattle.work_identifiers.specs.declared.namespace.Namespace.{Namespace};
 ghost use Rattle.work_identifiers.specs.Forms.{IsIdentifier};
@@ -10,6 +10,10 @@ ghost use Rattle.work_identifiers.specs.Uris.{registered, uri_of, uri_start};
 ghost use Rattle.work_identifiers.specs.Addresses.{doi_in_address};
 ghost use Rattle.work_identifiers.specs.declared.namespace.Namespace.TheVariants.{Doi, Arxiv};
 ghost use Rattle.uri_text.specs.AnyCase.{begins_in_any_case};
+ghost use Rattle.work_identifiers.specs.declared.numbers.StandardNumber.{StandardNumber};
+ghost use Rattle.work_identifiers.specs.declared.numbers.StandardNumber.TheVariants.{Issn, Isbn};
+ghost use Rattle.work_identifiers.specs.StandardNumbers.{IsSpelled, is_clear, is_number_alone, is_number_named};
+ghost use Rattle.work_identifiers.specs.StandardNumbers.{urn_start};
 
 /// What is found has the form of an identifier of its namespace.
 pub fn identifiers_are_identifiers()
@@ -60,4 +64,18 @@ pub fn preprints_have_dois()
 pub fn dois_in_addresses_are_dois()
     ensures are { (address doi : Text) → doi_in_address address ≡ Some doi → IsIdentifier Doi doi }
     ensures parts { (address doi : Text) → doi_in_address address ≡ Some doi → IsPartOf address doi }
+{}
+
+/// An ISSN or an ISBN is named by its URN, and one alone is a number alone: an ISSN, if it has its hyphen.
+pub fn numbers_are_named_by_their_urns()
+    ensures named { (number : StandardNumber) (text : Text) → IsSpelled number text
+        → is_number_named number (urn_start number ++ text) ≡ true }
+    ensures alone { (number : StandardNumber) (text : Text) → IsSpelled number text → is_clear number text ≡ true
+        → is_number_alone number text ≡ true }
+{}
+
+/// The URN of an ISSN names no ISBN, and that of an ISBN no ISSN.
+pub fn urns_name_one_number()
+    ensures issn { (text : Text) → is_number_named Isbn (urn_start Issn ++ text) ≡ false }
+    ensures isbn { (text : Text) → is_number_named Issn (urn_start Isbn ++ text) ≡ false }
 {}

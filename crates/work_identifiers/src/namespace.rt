@@ -50,13 +50,27 @@ impl Namespace {
     {
         match self {
             Namespace::Doi => &["info:doi/", "info:doi", "urn:doi", "doi"],
-            Namespace::Pmid => &["info:pmid/", "info:pmid", "pmid", "pubmed id", "pubmed"],
+            Namespace::Pmid => &[
+                "info:pmid/",
+                "info:pmid",
+                "pmid",
+                "pubmed id",
+                "pubmedid",
+                "pubmed",
+            ],
             Namespace::Oclc => &[
                 "info:oclcnum/",
+                "info:oclcnum/on",
+                "info:oclcnum:on",
                 "info:oclcnum",
                 "oclcnum",
+                "oclcnum:on",
                 "oclc",
+                "oclc:on",
                 "ocolc)",
+                "ocolc)ocm",
+                "ocolc)ocn",
+                "ocolc)on",
                 "ocm",
                 "ocn",
             ],
@@ -80,12 +94,23 @@ impl Namespace {
         }
     }
 
-    /// What addresses of resolvers and pages have after their schemes.
+    /// What addresses of resolvers and pages have after their schemes: for DOIs the host alone, after which a proxy may
+    /// write its own name. Before the host of OCLC there may be the name of a library.
     pub(crate) fn hosts(self) -> &'static [&'static str]
         ensures { texts_of result.now ≡ spec.hosts self }
     {
         match self {
-            Namespace::Doi => &["doi.org/", "dx.doi.org/", "www.doi.org/"],
+            Namespace::Doi => &[
+                "doi.org",
+                "dx.doi.org",
+                "www.doi.org",
+                "doi-org",
+                "dx-doi-org",
+                "dx.doi-org",
+                "dx-doi.org",
+                "www.doi-org",
+                "www-doi-org",
+            ],
             Namespace::Pmid => &[
                 "pubmed.ncbi.nlm.nih.gov/",
                 "www.ncbi.nlm.nih.gov/pubmed/",
@@ -94,8 +119,11 @@ impl Namespace {
                 "www.pubmed.gov/",
                 "pubmed.ncbi.nlm.nih.gov/?term=",
                 "www.ncbi.nlm.nih.gov/pubmed/?term=",
+                "ncbi.nlm.nih.gov/pubmed/?term=",
+                "pubmed.gov/?term=",
+                "www.pubmed.gov/?term=",
             ],
-            Namespace::Oclc => &["worldcat.org/oclc/", "www.worldcat.org/oclc/"],
+            Namespace::Oclc => &["worldcat.org/oclc/", "worldcat.org/title/"],
             Namespace::Pmc => &[
                 "pmc.ncbi.nlm.nih.gov/articles/pmc",
                 "www.ncbi.nlm.nih.gov/pmc/articles/pmc",

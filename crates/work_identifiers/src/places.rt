@@ -1,6 +1,6 @@
 //! Where an identifier may begin in a text.
 
-ghost use Rattle.std.specs.Prelude.{◌≡◌, ◌≤◌, ◌++◌, ◌∷◌, [], IfOk, IfSome, OnOk, length};
+ghost use Rattle.std.specs.Prelude.{◌≡◌, ◌≤◌, ◌++◌, ◌∷◌, [], IfOk, IfSome, OnOk, length, map};
 ghost use Rattle.std.specs.List.{filter_map, prefix_len};
 ghost use Rattle.std.specs.Option.{option_copied};
 ghost use Rattle.std.specs.Str.{IsAscii};
@@ -8,9 +8,10 @@ ghost use Rattle.text_model.specs.Texts.{texts_of};
 ghost use Rattle.work_identifiers.specs.Places as spec;
 
 use crate::arxiv::preprint;
-use crate::ends::{first_part, from_start, to_end};
+use crate::ends::{from_start, to_end};
 use crate::forms::{MOST_BYTES, is_identifier, is_number};
 use crate::namespace::{Namespace, schemes};
+use crate::segments::{from_site, segment};
 use std::alloc::{AllocError, Global};
 use uri_text::begins_in_any_case;
 
@@ -73,8 +74,8 @@ fn part(namespace: Namespace, text: &[u8]) -> &[u8]
 {
     match namespace {
         Namespace::Doi => to_end(text),
-        Namespace::Pmid | Namespace::Oclc => to_end(first_part(text)),
-        Namespace::Pmc => unversioned(to_end(first_part(text))),
+        Namespace::Pmid | Namespace::Oclc => to_end(text),
+        Namespace::Pmc => unversioned(to_end(text)),
         Namespace::Arxiv => to_end(preprint(text)),
     }
 }
@@ -165,7 +166,50 @@ fn after_addresses<'a>(
     let mut texts = texts;
     let mut addresses = after_any(alloc, schemes(), &texts)?;
     texts.append(&mut addresses)?;
-    after_any(alloc, namespace.hosts(), &texts)
+    let sites = from_sites(alloc, namespace, texts)?;
+    let rests = after_any(alloc, namespace.hosts(), &sites)?;
+    segments(alloc, namespace, &rests)
+}
+
+/// Addresses from the hosts of OCLC on, without the names of libraries before it; any others themselves.
+fn from_sites<'a>(
+    alloc: Global,
+    namespace: Namespace,
+    texts: Vec<&'a [u8]>,
+) -> Result<Vec<&'a [u8]>, AllocError>
+    ensures { IfOk result
+        (λ sites. texts_of sites.items ≡ spec.from_sites namespace (texts_of texts.entry.items)) }
+{
+    match namespace {
+        Namespace::Oclc => each_from_site(alloc, &texts),
+        Namespace::Doi | Namespace::Pmid | Namespace::Pmc | Namespace::Arxiv => Ok(texts),
+    }
+}
+
+fn each_from_site<'a>(alloc: Global, texts: &[&'a [u8]]) -> Result<Vec<&'a [u8]>, AllocError>
+    ensures { IfOk result (λ sites. texts_of sites.items ≡ map spec.from_site (texts_of texts.now)) }
+{
+    let mut sites = Vec::new(alloc);
+    for text in texts {
+        sites.push(from_site(text))?;
+    }
+    Ok(sites)
+}
+
+/// The parts of the rests of addresses that would be their identifiers.
+fn segments<'a>(
+    alloc: Global,
+    namespace: Namespace,
+    rests: &[&'a [u8]],
+) -> Result<Vec<&'a [u8]>, AllocError>
+    ensures { IfOk result
+        (λ segments. texts_of segments.items ≡ map (spec.segment namespace) (texts_of rests.now)) }
+{
+    let mut segments = Vec::new(alloc);
+    for rest in rests {
+        segments.push(segment(namespace, rest))?;
+    }
+    Ok(segments)
 }
 
 /// The text alone.

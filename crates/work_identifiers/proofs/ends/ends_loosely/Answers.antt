@@ -1,4 +1,4 @@
-use Rattle.std.proofs.Common.{◌||◌, ◌-◌, length, ap, sym, ◌∙◌}
+use Rattle.std.proofs.Common.{◌||◌, ap, sym, ◌∙◌}
 use Rattle.std.specs.Prelude.{slice_index}
 use Rattle.work_identifiers.specs.Ends.{is_after, is_unopened}
 use Rattle.work_identifiers.proofs.ends.ends_loosely.Goals as goal
