@@ -1,5 +1,5 @@
 -- What is found in a text has ASCII alone.
-use Rattle.std.proofs.Common.{◌≡◌, ◌+◌, ◌<◌, ℕ, List, [], ◌∷◌, ◌++◌, Bool, true, false, cond, ◌&&◌, not, eqb, Option, Some, None, length, take, drop}
+use Rattle.std.proofs.Common.{◌≡◌, ◌+◌, ◌<◌, ℕ, List, [], ◌∷◌, ◌++◌, true, false, cond, Option, Some, None, take, drop}
 use Rattle.std.proofs.Common.{refl, sym, subst, arith}
 use Rattle.std.specs.Borrow.{Bor}
 use Rattle.std.specs.Prelude.{IfSome}
@@ -8,7 +8,7 @@ use Rattle.std.specs.Option.{option_and_then, option_copied, option_map}
 use Rattle.std.specs.Str.{IsAscii}
 use Rattle.std.proofs.lemmas.Bool.{cond_both, and_parts}
 use Rattle.std.proofs.lemmas.Bool.Decides.{nat_tests}
-use Rattle.std.proofs.lemmas.List.Elements.{All-nil, All-head, All-tail, All-append, All-take, All-drop, All-weaker}
+use Rattle.std.proofs.lemmas.List.Elements.{All-head, All-tail, All-append, All-take, All-drop, All-weaker}
 use Rattle.std.proofs.lemmas.List.Sums.{AllPass-from_list_all}
 use Rattle.std.proofs.lemmas.Str.Ascii.{IsAscii-from_all}
 use Rattle.text_model.specs.Texts.{Text}
@@ -21,13 +21,12 @@ use Rattle.article_places.specs.LastPages.{is_apart, is_later, missing, last_pag
 use Rattle.article_places.specs.Pages as spec
 use Rattle.article_places.specs.Pages.{Range}
 use Rattle.article_places.specs.Enumerations.{Numbers, numbers, numbers_in}
-use Rattle.article_places.specs.Parts.{IsPartOf}
 use Rattle.article_places.proofs.PartLaws.{IsIn, part_is, in_itself}
 use Rattle.article_places.proofs.Found.{Holds, holds, IsNumberOf, IsMarkOf}
 use Rattle.article_places.proofs.Joined.{IsOne}
 use Rattle.article_places.proofs.NumberLaws.{ones}
 use Rattle.article_places.proofs.PageAlone.{IsClean}
-use Rattle.article_places.proofs.PageParts.{either, numbered_in, page_in}
+use Rattle.article_places.proofs.PageParts.{either, numbered_in, page_in, last_is}
 use Rattle.article_places.proofs.PageStay.{words_clean}
 use Rattle.article_places.proofs.WrittenNumbers.{mark_bytes}
 
@@ -78,36 +77,36 @@ last_page_clean first (Some last) clean h =
     (λ _. cond_both (is_later first last) (Some (take count first ++ rest)) None (Holds IsClean)
     (λ _. All-append B (take count first) rest (All-take B count first clean) (All-drop B (letters last) last h)) (λ _. tt))
 
-last_in_clean : (first : Text) (firsts lasts : List Text) → IsClean first → All IsClean lasts → Holds IsClean (spec.last_in first firsts lasts)
-unfolding Holds
-last_in_clean first firsts [] clean all = tt
-last_in_clean first firsts (w ∷ ws) clean all =
-    cond_both (eqb (length firsts) 1) (option_and_then (last_page first) (page w)) None (Holds IsClean)
-    (λ _. last_page_clean first (page w) clean (page_clean w (All-head IsClean w ws all))) (λ _. tt)
+last_in_clean : (first : Text) (firsts lasts : List Text) → IsClean first → All IsClean firsts → All IsClean lasts
+    → Holds IsClean (spec.last_in first firsts lasts)
+last_in_clean first firsts lasts clean all others =
+    last_page_clean first (option_and_then page (spec.last_word firsts lasts)) clean (last_is IsClean IsClean page_clean firsts lasts all others)
 
-record AreClean (r : Range) : Type 0 where
-  first : IsClean r.first
-  last : Holds IsClean r.last
+pub record AreClean (r : Range) : Type 0 where
+  pub first : IsClean r.first
+  pub last : Holds IsClean r.last
 
 AreIf : Option Range → Type 0
 AreIf None = Unit {0}
 AreIf (Some r) = AreClean r
 
-from_page_clean : (o : Option Text) (firsts lasts : List Text) → Holds IsClean o → All IsClean lasts → AreIf (spec.from_page o firsts lasts)
+from_page_clean : (o : Option Text) (firsts lasts : List Text) → Holds IsClean o → All IsClean firsts → All IsClean lasts
+    → AreIf (spec.from_page o firsts lasts)
 unfolding Holds AreIf
-from_page_clean None firsts lasts h all = tt
-from_page_clean (Some first) firsts lasts h all =
+from_page_clean None firsts lasts h all others = tt
+from_page_clean (Some first) firsts lasts h all others =
     cond_both (spec.is_sectioned first lasts) None (Some (record { first = first; last = spec.last_in first firsts lasts })) AreIf (λ _. tt)
-    (λ _. record { first = h; last = last_in_clean first firsts lasts h all })
+    (λ _. record { first = h; last = last_in_clean first firsts lasts h all others })
 
-pages_clean : (text : Text) (r : Range) → spec.pages_in text ≡ Some r → AreClean r
+pub pages_clean : (text : Text) (r : Range) → spec.pages_in text ≡ Some r → AreClean r
 unfolding AreIf
 pages_clean text r e =
     let n = prefix_len spec.is_no_hyphen text in
     let firsts = spec.page_words (take n text) in
     let lasts = spec.page_words (drop n text) in
     subst AreIf e
-    (from_page_clean (spec.first_page firsts) firsts lasts (first_page_clean firsts (words_clean (take n text))) (words_clean (drop n text)))
+    (from_page_clean (spec.first_page firsts) firsts lasts (first_page_clean firsts (words_clean (take n text))) (words_clean (take n text))
+    (words_clean (drop n text)))
 
 pub first_ascii : (text : Text) (r : Range) → spec.pages_in text ≡ Some r → IsAscii r.first
 first_ascii text r e = clean_ascii r.first (pages_clean text r e).first
@@ -124,8 +123,11 @@ bytes_ascii : (t : Text) → list_all is_number_byte t ≡ true → IsAscii t
 bytes_ascii t h =
     IsAscii-from_all t (All-weaker (λ b. is_number_byte b ≡ true) (λ b. b < 128) byte_below t (AllPass-from_list_all is_number_byte t h))
 
+pub number_bytes : (o : Option Text) (number : Text) → Holds (IsNumberOf IsOne) o → o ≡ Some number → list_all is_number_byte number ≡ true
+number_bytes o number h e = (and_parts _ _ (holds (IsNumberOf IsOne) o number h e).number).0
+
 number_ascii : (o : Option Text) (number : Text) → Holds (IsNumberOf IsOne) o → o ≡ Some number → IsAscii number
-number_ascii o number h e = bytes_ascii number (and_parts _ _ (holds (IsNumberOf IsOne) o number h e).number).0
+number_ascii o number h e = bytes_ascii number (number_bytes o number h e)
 
 pub first_number_ascii : (text number : Text) (n : Numbers) → numbers_in text ≡ Some n → n.first ≡ Some number → IsAscii number
 first_number_ascii text number n e f = number_ascii n.first number (ones text n e).first f

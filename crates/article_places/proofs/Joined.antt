@@ -1,11 +1,12 @@
 -- No word of a text is joined.
-use Rattle.std.proofs.Common.{◌≡◌, ℕ, ◌+◌, ◌<◌, [], ◌∷◌, Bool, true, false, cond, ◌&&◌, ◌||◌, length, get_or, take, drop, refl, ap, ◌∙◌, arith}
-use Rattle.std.specs.Prelude.{nat_le, nat_lt}
+use Rattle.std.proofs.Common.{◌≡◌, ℕ, ◌+◌, ◌<◌, ◌≤◌, [], ◌∷◌, Bool, true, false, cond, ◌&&◌, ◌||◌, length, get_or, take, drop, ltb, refl, sym, ap, ◌∙◌}
+use Rattle.std.proofs.Common.{arith}
+use Rattle.std.specs.Prelude.{nat_le}
 use Rattle.std.specs.Char.{is_ascii_alphabetic, is_ascii_digit}
 use Rattle.std.specs.List.{All, list_all, prefix_len, slice_split}
-use Rattle.std.proofs.lemmas.Bool.{cond_both, and_parts, ltb-true}
+use Rattle.std.proofs.lemmas.Bool.{cond_both, and_parts, ltb-true, ltb-false, false≢true}
 use Rattle.std.proofs.lemmas.Bool.Decides.{nat_tests}
-use Rattle.std.proofs.lemmas.List.{get_or-take, get_or-drop}
+use Rattle.std.proofs.lemmas.List.{get_or-take, get_or-drop, get_or_past}
 use Rattle.std.proofs.lemmas.List.Elements.{All-nil, All-cons, All-append}
 use Rattle.std.proofs.lemmas.List.Folds.{length-prefix_len}
 use Rattle.std.proofs.lemmas.List.Sums.{prefix_len_is, prefix_len_passes, prefix_len_stops}
@@ -40,19 +41,36 @@ IsOne w = spec.is_joined w ≡ false
 few_letters : (w : Text) → spec.letters w < 2 → IsOne w
 few_letters w few = let no : nat_le 2 (spec.letters w) ≡ false = grind (arith, nat_tests) in rw no refl
 
+no_digit_past : (w : Text) (n : ℕ) → length w ≤ n → is_ascii_digit (get_or w n 0) ≡ false
+no_digit_past w n h = ap is_ascii_digit (get_or_past w n 0 h)
+
 all_letters : (w : Text) → spec.letters w ≡ length w → IsOne w
 all_letters w e = by_test (nat_le 2 (spec.letters w))
   where
-    no : nat_lt (spec.letters w) (length w) ≡ false
-    no = grind (arith, nat_tests, e)
+    no : is_ascii_digit (get_or w (spec.letters w) 0) ≡ false
+    no = no_digit_past w (spec.letters w) (omega (arith, e))
 
     by_test : (b : Bool)
-        → (b && nat_lt (spec.letters w) (length w) && (is_label (take (spec.letters w) w) || is_supplement_word (take (spec.letters w) w))) ≡ false
+        → (b && is_ascii_digit (get_or w (spec.letters w) 0) && (is_label (take (spec.letters w) w) || is_supplement_word (take (spec.letters w) w)))
+        ≡ false
     by_test true = rw no refl
     by_test false = refl
 
 joined_long : (w : Text) → spec.is_joined w ≡ true → spec.letters w < length w
-joined_long w h = ltb-true (spec.letters w) (length w) (and_parts _ _ (and_parts _ _ h).0).1
+joined_long w h = by_test (ltb (spec.letters w) (length w)) refl
+  where
+    front : (nat_le 2 (spec.letters w) && is_ascii_digit (get_or w (spec.letters w) 0)) ≡ true
+    front =
+        (and_parts (nat_le 2 (spec.letters w) && is_ascii_digit (get_or w (spec.letters w) 0))
+        (is_label (take (spec.letters w) w) || is_supplement_word (take (spec.letters w) w)) h).0
+
+    digit : is_ascii_digit (get_or w (spec.letters w) 0) ≡ true
+    digit = (and_parts (nat_le 2 (spec.letters w)) (is_ascii_digit (get_or w (spec.letters w) 0)) front).1
+
+    by_test : (b : Bool) → ltb (spec.letters w) (length w) ≡ b → spec.letters w < length w
+    by_test true e = ltb-true (spec.letters w) (length w) e
+    by_test false e =
+        absurd (false≢true (sym (no_digit_past w (spec.letters w) (ltb-false (spec.letters w) (length w) e)) ∙ digit))
 
 apart_one : (w : Text) → All IsOne (spec.apart w)
 apart_one [] = All-nil IsOne

@@ -1,5 +1,5 @@
 -- A last page in full is found as it is.
-use Rattle.std.proofs.Common.{◌≡◌, ℕ, ◌+◌, ◌<◌, ◌≤◌, List, [], ◌∷◌, ◌++◌, Bool, true, false, cond, not, ◌&&◌, eqb, Option, Some, None}
+use Rattle.std.proofs.Common.{◌≡◌, ℕ, ◌+◌, ◌<◌, ◌≤◌, List, [], ◌++◌, Bool, true, false, cond, not, ◌&&◌, eqb, Option, Some, None}
 use Rattle.std.proofs.Common.{length, get_or, take, drop, refl, sym, ap, ◌∙◌, subst, arith}
 use Rattle.std.specs.Prelude.{nat_le, nat_lt}
 use Rattle.std.specs.Char.{is_ascii_alphabetic, is_ascii_digit}
@@ -9,7 +9,7 @@ use Rattle.std.proofs.lemmas.Bool.{and_from, and_parts, or_parts, cond_both, lt-
 use Rattle.std.proofs.lemmas.Bool.Decides.{nat_tests}
 use Rattle.std.proofs.lemmas.List.{drop_all, drop-drop, drop-take, take-take, drop_at, take-append-le, drop-append-le}
 use Rattle.std.proofs.lemmas.List.{get_or-take, get_or-drop, get_or_append_left, length-append, length-take, length-drop}
-use Rattle.std.proofs.lemmas.List.Elements.{All-head, All-append, All-take, All-drop}
+use Rattle.std.proofs.lemmas.List.Elements.{All-append, All-take, All-drop}
 use Rattle.std.proofs.lemmas.List.Folds.{length-prefix_len, prefix_len-append}
 use Rattle.std.proofs.lemmas.List.Sums.{prefix_len_is, prefix_len_passes, prefix_len-le-length}
 use Rattle.text_model.specs.Texts.{Text}
@@ -19,6 +19,7 @@ use Rattle.article_places.specs.PageForms as forms
 use Rattle.article_places.specs.LastPages as last_pages
 use Rattle.article_places.specs.Pages as spec
 use Rattle.article_places.proofs.Found.{Holds, holds}
+use Rattle.article_places.proofs.PageParts.{last_is}
 use Rattle.article_places.proofs.PageAlone.{IsClean, IsAlone, alone_stays}
 use Rattle.article_places.proofs.PageShapes.{numbered_alone}
 use Rattle.article_places.proofs.PageStay.{page_alone, first_page_alone, words_clean, digit_no_letter}
@@ -151,18 +152,16 @@ unfolding Holds
 after_page first None f h = tt
 after_page first (Some last) f h = last_alone first last f h
 
-last_in_alone : (first : Text) (firsts lasts : List Text) → IsAlone first → All IsClean lasts → Holds IsAlone (spec.last_in first firsts lasts)
-unfolding Holds
-last_in_alone first firsts [] f all = tt
-last_in_alone first firsts (word ∷ words) f all =
-    cond_both (eqb (length firsts) 1) (option_and_then (last_pages.last_page first) (forms.page word)) None (Holds IsAlone)
-    (λ _. after_page first (forms.page word) f (page_alone word (All-head IsClean word words all))) (λ _. tt)
+last_in_alone : (first : Text) (firsts lasts : List Text) → IsAlone first → All IsClean firsts → All IsClean lasts
+    → Holds IsAlone (spec.last_in first firsts lasts)
+last_in_alone first firsts lasts f all others =
+    after_page first (option_and_then forms.page (spec.last_word firsts lasts)) f (last_is IsClean IsAlone page_alone firsts lasts all others)
 
-from_page_last : (o : Option Text) (firsts lasts : List Text) → Holds IsAlone o → All IsClean lasts → (r : spec.Range)
+from_page_last : (o : Option Text) (firsts lasts : List Text) → Holds IsAlone o → All IsClean firsts → All IsClean lasts → (r : spec.Range)
     → spec.from_page o firsts lasts ≡ Some r → Holds IsAlone r.last
 unfolding Holds
-from_page_last None firsts lasts h all r e = cc
-from_page_last (Some first) firsts lasts h all r e = by_test (spec.is_sectioned first lasts) e
+from_page_last None firsts lasts h all others r e = cc
+from_page_last (Some first) firsts lasts h all others r e = by_test (spec.is_sectioned first lasts) e
   where
     found : spec.Range
     found = record { first = first; last = spec.last_in first firsts lasts }
@@ -170,7 +169,7 @@ from_page_last (Some first) firsts lasts h all r e = by_test (spec.is_sectioned 
     by_test : (b : Bool) → cond b None (Some found) ≡ Some r → Holds IsAlone r.last
     by_test true g = cc
     by_test false g =
-        let same : found ≡ r = cc in subst (λ (s : spec.Range). Holds IsAlone s.last) same (last_in_alone first firsts lasts h all)
+        let same : found ≡ r = cc in subst (λ (s : spec.Range). Holds IsAlone s.last) same (last_in_alone first firsts lasts h all others)
 
 pub last_stays : (text last : Text) (r : spec.Range) → spec.pages_in text ≡ Some r → r.last ≡ Some last → spec.pages_in last ≡ Some (spec.only last)
 last_stays text last r e l =
@@ -179,4 +178,5 @@ last_stays text last r e l =
     let lasts = spec.page_words (drop n text) in
     alone_stays last
     (holds IsAlone r.last last
-    (from_page_last (spec.first_page firsts) firsts lasts (first_page_alone firsts (words_clean (take n text))) (words_clean (drop n text)) r e) l)
+    (from_page_last (spec.first_page firsts) firsts lasts (first_page_alone firsts (words_clean (take n text))) (words_clean (take n text))
+    (words_clean (drop n text)) r e) l)

@@ -1,5 +1,6 @@
 pub mod OtherWords
 pub mod Letters
+pub mod Prefixes
 pub mod PartLaws
 pub mod Found
 pub mod Stay
@@ -13,3 +14,4 @@ pub mod LastStay
 pub mod WrittenNumbers
 pub mod SupplementStays
 pub mod AsciiParts
+pub mod PlainParts

@@ -1,10 +1,12 @@
 -- The pages in a text are parts of it, or share their beginning with the first one.
-use Rattle.std.proofs.Common.{◌≡◌, ◌+◌, List, [], ◌∷◌, ◌++◌, cond, eqb, Option, Some, None, length, take, drop, refl, subst}
+use Rattle.std.proofs.Common.{◌≡◌, ◌+◌, List, [], ◌∷◌, ◌++◌, ◌&&◌, cond, eqb, Option, Some, None, length, take, drop, refl, subst}
+use Rattle.std.specs.Prelude.{is_some, slice_get}
 use Rattle.std.specs.List.{All, prefix_len, slice_split}
 use Rattle.std.specs.Option.{option_and_then}
 use Rattle.std.proofs.lemmas.Bool.{cond_both}
 use Rattle.std.proofs.lemmas.List.Elements.{All-nil, All-cons, All-head, All-tail}
 use Rattle.text_model.specs.Texts.{Text}
+use Rattle.article_places.specs.Labels.{is_range_word}
 use Rattle.article_places.specs.Words.{letters}
 use Rattle.article_places.specs.PageForms.{digits, is_suffix, is_numbered, numbered, is_roman_page, roman, page, is_stop}
 use Rattle.article_places.specs.LastPages.{is_apart, is_later, missing, last_page}
@@ -87,12 +89,34 @@ unfolding Holds
 after_page text first None h = tt
 after_page text first (Some last) h = last_page_from text first last h
 
-last_in_from : (text first : Text) (firsts lasts : List Text) → All (IsIn text) lasts → Holds (IsFromFirst text first) (spec.last_in first firsts lasts)
+head_is : (P : Text → Type 0) (ws : List Text) → All P ws → Holds P (slice_get ws 0)
 unfolding Holds
-last_in_from text first firsts [] all = tt
-last_in_from text first firsts (word ∷ words) all =
-    cond_both (eqb (length firsts) 1) (option_and_then (last_page first) (page word)) None (Holds (IsFromFirst text first))
-    (λ _. after_page text first (page word) (page_in text word (All-head (IsIn text) word words all))) (λ _. tt)
+head_is P [] all = tt
+head_is P (word ∷ words) all = All-head P word words all
+
+-- the word at which a range ends is one of the words
+last_word_is : (P : Text → Type 0) (firsts lasts : List Text) → All P firsts → All P lasts → Holds P (spec.last_word firsts lasts)
+unfolding Holds
+last_word_is P [] lasts all others = tt
+last_word_is P (word ∷ []) lasts all others = head_is P lasts others
+last_word_is P (word ∷ between ∷ words) lasts all others =
+    cond_both (is_some (page word) && is_range_word between) (slice_get words 0) None (Holds P)
+    (λ _. head_is P words (All-tail P between words (All-tail P word (between ∷ words) all))) (λ _. tt)
+
+-- what holds of the page with which each such word begins holds of the page at which the range ends
+pub last_is : (P Q : Text → Type 0) → ((w : Text) → P w → Holds Q (page w)) → (firsts lasts : List Text) → All P firsts → All P lasts
+    → Holds Q (option_and_then page (spec.last_word firsts lasts))
+unfolding Holds
+last_is P Q each firsts lasts all others = of_word (spec.last_word firsts lasts) (last_word_is P firsts lasts all others)
+  where
+    of_word : (o : Option Text) → Holds P o → Holds Q (option_and_then page o)
+    of_word None h = tt
+    of_word (Some w) h = each w h
+
+last_in_from : (text first : Text) (firsts lasts : List Text) → All (IsIn text) firsts → All (IsIn text) lasts
+    → Holds (IsFromFirst text first) (spec.last_in first firsts lasts)
+last_in_from text first firsts lasts all others =
+    after_page text first (option_and_then page (spec.last_word firsts lasts)) (last_is (IsIn text) (IsIn text) (page_in text) firsts lasts all others)
 
 -- ---- both pages
 
@@ -104,13 +128,13 @@ AreIf : Text → Option Range → Type 0
 AreIf text None = Unit {0}
 AreIf text (Some r) = AreFrom text r
 
-from_page_are : (text : Text) (o : Option Text) (firsts lasts : List Text) → Holds (IsIn text) o → All (IsIn text) lasts
+from_page_are : (text : Text) (o : Option Text) (firsts lasts : List Text) → Holds (IsIn text) o → All (IsIn text) firsts → All (IsIn text) lasts
     → AreIf text (spec.from_page o firsts lasts)
 unfolding Holds AreIf
-from_page_are text None firsts lasts h all = tt
-from_page_are text (Some first) firsts lasts h all =
+from_page_are text None firsts lasts h all others = tt
+from_page_are text (Some first) firsts lasts h all others =
     cond_both (spec.is_sectioned first lasts) None (Some (record { first = first; last = spec.last_in first firsts lasts })) (AreIf text) (λ _. tt)
-    (λ _. record { first = part_is text first h; last = last_in_from text first firsts lasts all })
+    (λ _. record { first = part_is text first h; last = last_in_from text first firsts lasts all others })
 
 are_from : (text : Text) (r : Range) → spec.pages_in text ≡ Some r → AreFrom text r
 unfolding AreIf firsts lasts
@@ -119,7 +143,7 @@ are_from text r e =
     let all : All (IsIn text) (firsts text) = within text (take n text) (firsts text) (front_in n text) (page_words_in (take n text)) in
     let others : All (IsIn text) (lasts text) = within text (drop n text) (lasts text) (rest_in n text) (page_words_in (drop n text)) in
     subst (AreIf text) e
-    (from_page_are text (spec.first_page (firsts text)) (firsts text) (lasts text) (first_page_in text (firsts text) all) others)
+    (from_page_are text (spec.first_page (firsts text)) (firsts text) (lasts text) (first_page_in text (firsts text) all) all others)
 
 pub first_part : (text : Text) (r : Range) → spec.pages_in text ≡ Some r → IsPartOf text r.first
 first_part text r e = (are_from text r e).first

@@ -18,12 +18,16 @@ issue_words =
 
 abbrev pub supplement_words : List Text
 supplement_words =
-    codes "suppl" ∷ codes "supp" ∷ codes "supl" ∷ codes "sup" ∷ codes "supplement" ∷ codes "supplementum" ∷
-    codes "supplemento" ∷ codes "suplemento" ∷ []
+    codes "suppl" ∷ codes "supp" ∷ codes "supl" ∷ codes "sup" ∷ codes "supplt" ∷ codes "supplement" ∷ codes "supplementary" ∷
+    codes "supplementum" ∷ codes "supplemento" ∷ codes "suplemento" ∷ []
 
 abbrev pub page_labels : List Text
 page_labels =
     codes "p" ∷ codes "pp" ∷ codes "pg" ∷ codes "pgs" ∷ codes "page" ∷ codes "pages" ∷ codes "seite" ∷ codes "seiten" ∷ []
+
+-- those between the first page and the last one, in English and German
+abbrev pub range_words : List Text
+range_words = codes "to" ∷ codes "bis" ∷ []
 
 -- one of these words, in capital or small letters
 abbrev pub is_one_of : List Text → Text → Bool
@@ -34,6 +38,9 @@ is_issue_word word = is_one_of issue_words word
 
 abbrev pub is_supplement_word : Text → Bool
 is_supplement_word word = is_one_of supplement_words word
+
+abbrev pub is_range_word : Text → Bool
+is_range_word word = is_one_of range_words word
 
 -- a word before the first number
 abbrev pub is_label : Text → Bool

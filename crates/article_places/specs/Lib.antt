@@ -4,4 +4,5 @@ pub mod Enumerations
 pub mod PageForms
 pub mod LastPages
 pub mod Pages
+pub mod Runs
 pub mod Parts

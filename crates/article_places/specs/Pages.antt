@@ -1,6 +1,6 @@
 -- The first and the last page in a text.
 use Rattle.std.specs.Prelude.{ℕ, ◌==◌, ◌||◌, ◌&&◌, not, Bool, false, List, [], ◌∷◌, ◌++◌, codes}
-use Rattle.std.specs.Prelude.{length, take, drop, slice_index, Option, Some, None, if◌then◌else◌}
+use Rattle.std.specs.Prelude.{length, take, drop, slice_get, slice_index, Option, Some, None, is_some, if◌then◌else◌}
 use Rattle.std.specs.Char.{is_ascii_alphanumeric}
 use Rattle.std.specs.List.{flat_map, prefix_len, slice_split}
 use Rattle.std.specs.Option.{option_and_then, option_map}
@@ -8,6 +8,7 @@ use Rattle.std.specs.Str.{str_eq_ignore_ascii_case}
 use Rattle.text_model.specs.Texts.{Text}
 use Rattle.article_places.specs.declared.pages.Pages as code
 use Rattle.article_places.specs.declared.pages.LastPage as code_last
+use Rattle.article_places.specs.Labels.{is_range_word}
 use Rattle.article_places.specs.Words.{letters}
 use Rattle.article_places.specs.PageForms.{digits, has_label, is_stop, is_numbered, numbered, roman, page}
 use Rattle.article_places.specs.LastPages.{last_page}
@@ -69,10 +70,14 @@ begins_with_number (word ∷ words) = is_numbered word
 abbrev pub is_sectioned : Text → List Text → Bool
 is_sectioned first lasts = length first == 1 && digits first == 0 && begins_with_number lasts
 
--- the last page, if there is but one word before the hyphen
+-- the word at which a range ends: after a hyphen that has but one word before it, or after a page and a word such as `to`
+abbrev pub last_word : List Text → List Text → Option Text
+last_word [] lasts = None
+last_word (word ∷ []) lasts = slice_get lasts 0
+last_word (word ∷ between ∷ words) lasts = if is_some (page word) && is_range_word between then slice_get words 0 else None
+
 abbrev pub last_in : Text → List Text → List Text → Option Text
-last_in first firsts [] = None
-last_in first firsts (word ∷ words) = if length firsts == 1 then option_and_then (last_page first) (page word) else None
+last_in first firsts lasts = option_and_then (last_page first) (option_and_then page (last_word firsts lasts))
 
 abbrev pub from_page : Option Text → List Text → List Text → Option Range
 from_page None firsts lasts = None
@@ -86,7 +91,7 @@ is_no_hyphen b = not (b == 0x2d)
 abbrev pub only : Text → Range
 only page = record { first = page; last = None }
 
--- `45`, `pp. 45-67`, `2344-55`, `S12-S18`, `e1234`, `xii`: the words before the first hyphen, and those after it
+-- `45`, `pp. 45-67`, `2344-55`, `101 to 118`, `S12-S18`, `e1234`, `xii`: the words before the first hyphen, and those after it
 abbrev pub pages_in : Text → Option Range
 pages_in text =
     let n = prefix_len is_no_hyphen text in

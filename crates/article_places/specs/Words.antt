@@ -1,14 +1,14 @@
 -- The words of a text.
-use Rattle.std.specs.Prelude.{ℕ, ◌==◌, ◌||◌, ◌&&◌, not, nat_le, nat_lt, Bool, List, [], ◌∷◌, ◌++◌, length, take, drop, if◌then◌else◌}
+use Rattle.std.specs.Prelude.{ℕ, ◌==◌, ◌||◌, ◌&&◌, not, nat_le, Bool, List, [], ◌∷◌, ◌++◌, take, drop, slice_index, if◌then◌else◌}
 use Rattle.std.specs.Char.{is_ascii_alphabetic, is_ascii_alphanumeric, is_ascii_digit}
 use Rattle.std.specs.List.{flat_map, list_all, list_any, prefix_len, slice_split}
 use Rattle.text_model.specs.Texts.{Text}
 use Rattle.article_places.specs.Labels.{is_label, is_supplement_word}
 
--- a space or a control character, one of `.,:;_`, a quote, or a closing bracket
+-- a space or a control character, one of `.,:;`, a quote, or a closing bracket
 abbrev pub is_gap : ℕ → Bool
 is_gap b =
-    nat_le b 0x20 || b == 0x2e || b == 0x2c || b == 0x3a || b == 0x3b || b == 0x5f || b == 0x22 || b == 0x27 || b == 0x29 || b == 0x5d
+    nat_le b 0x20 || b == 0x2e || b == 0x2c || b == 0x3a || b == 0x3b || b == 0x22 || b == 0x27 || b == 0x29 || b == 0x5d
 
 -- `(` or `[`
 abbrev pub is_open : ℕ → Bool
@@ -21,10 +21,10 @@ is_not_open b = not (is_open b)
 abbrev pub letters : Text → ℕ
 letters word = prefix_len is_ascii_alphabetic word
 
--- a word of two letters or more that says which number it is, and that number, as `Vol12`
+-- a word of two letters or more that says which number it is, and a number that begins with a digit, as `Vol12`
 abbrev pub is_joined : Text → Bool
 is_joined word =
-    nat_le 2 (letters word) && nat_lt (letters word) (length word)
+    nat_le 2 (letters word) && is_ascii_digit (slice_index word (letters word))
     && (is_label (take (letters word) word) || is_supplement_word (take (letters word) word))
 
 -- a joined word as two, any other as it is, and none of an empty one

@@ -8,6 +8,7 @@ ghost use Rattle.text_model.specs.Texts.{texts_of};
 ghost use Rattle.article_places.specs.Enumerations as spec;
 
 use crate::labels::{is_issue_word, is_label, is_supplement_word};
+use crate::runs::{Class, are, run};
 use crate::words::{are_digits, are_letters, byte_at, is_number, is_open, words};
 use std::alloc::{AllocError, Global};
 
@@ -142,7 +143,7 @@ fn supplement<'a>(words: &[&'a [u8]]) -> Option<&'a [u8]>
     }
 }
 
-fn is_in_part(byte: u8) -> bool
+pub(crate) fn is_in_part(byte: u8) -> bool
     ensures { result ≡ spec.is_in_part byte }
 {
     !(byte == b'-' || byte == b'/')
@@ -153,7 +154,7 @@ fn part_len(number: &[u8]) -> usize
     ensures value { result ≡ prefix_len spec.is_in_part number.now }
     ensures within { result ≤ length number.now }
 {
-    number.iter().take_while(|byte| is_in_part(**byte)).count()
+    run(Class::InPart, number)
 }
 
 /// Whether this is a year from 1000 to 2999, or several.
@@ -171,7 +172,7 @@ fn is_s_number(word: &[u8]) -> bool
     byte_at(word, 0).to_ascii_lowercase() == b's' && is_number(word)
 }
 
-fn is_roman(byte: u8) -> bool
+pub(crate) fn is_roman(byte: u8) -> bool
     ensures { result ≡ spec.is_roman byte }
 {
     let letter = byte.to_ascii_lowercase();
@@ -181,7 +182,7 @@ fn is_roman(byte: u8) -> bool
 fn are_roman(word: &[u8]) -> bool
     ensures { result ≡ list_all spec.is_roman word.now }
 {
-    word.iter().all(|byte| is_roman(*byte))
+    are(Class::SmallNumeral, word)
 }
 
 /// Whether the word says which supplement it is.

@@ -48,7 +48,9 @@ fn supplement_words() -> &'static [&'static str]
         "supp",
         "supl",
         "sup",
+        "supplt",
         "supplement",
+        "supplementary",
         "supplementum",
         "supplemento",
         "suplemento",
@@ -61,11 +63,22 @@ fn page_labels() -> &'static [&'static str]
     &["p", "pp", "pg", "pgs", "page", "pages", "seite", "seiten"]
 }
 
+fn range_words() -> &'static [&'static str]
+    ensures { texts_of result.now ≡ spec.range_words }
+{
+    &["to", "bis"]
+}
+
 /// Whether the word is one of these, in capital or small letters.
 fn is_one_of(words: &[&str], word: &[u8]) -> bool
     ensures { result ≡ spec.is_one_of (texts_of words.now) word.now }
 {
-    words.iter().any(|other| is_same(word, other))
+    for other in words {
+        if is_same(word, other) {
+            return true;
+        }
+    }
+    false
 }
 
 #[tactic(auto, using(crate::proofs::Letters::same_letters))]
@@ -100,4 +113,11 @@ pub(crate) fn is_page_label(letters: &[u8]) -> bool
     ensures { result ≡ spec.is_one_of spec.page_labels letters.now }
 {
     is_one_of(page_labels(), letters)
+}
+
+/// Whether the word is between the first page and the last one.
+pub(crate) fn is_range_word(word: &[u8]) -> bool
+    ensures { result ≡ spec.is_range_word word.now }
+{
+    is_one_of(range_words(), word)
 }

@@ -6,7 +6,7 @@ ghost use Rattle.std.specs.List.{list_all};
 ghost use Rattle.text_model.specs.Texts.{Text};
 ghost use Rattle.article_places.specs.Enumerations.{Numbers, alone, numbers_in, short_supplement, written};
 ghost use Rattle.article_places.specs.Pages.{Range, only, pages_in};
-ghost use Rattle.article_places.specs.Parts.{IsFromFirst, IsPartOf};
+ghost use Rattle.article_places.specs.Parts.{IsFromFirst, IsPartOf, is_place_byte};
 
 /// What is found is a part of the text: no byte of it is invented.
 pub fn numbers_are_parts()
@@ -66,4 +66,18 @@ pub fn parts_are_short()
     ensures part { (text part : Text) → IsPartOf text part → length part ≤ length text }
     ensures last { (text first last : Text) → IsFromFirst text first last
         → length last ≤ length first + length text }
+{}
+
+/// What is found has letters and digits of ASCII, `-`, `.` and `/`, and no other characters.
+pub fn parts_are_plain()
+    ensures first { (text number : Text) (n : Numbers) → numbers_in text ≡ Some n → n.first ≡ Some number
+        → list_all is_place_byte number ≡ true }
+    ensures issue { (text number : Text) (n : Numbers) → numbers_in text ≡ Some n → n.issue ≡ Some number
+        → list_all is_place_byte number ≡ true }
+    ensures supplement { (text mark : Text) (n : Numbers) → numbers_in text ≡ Some n → n.supplement ≡ Some mark
+        → list_all is_place_byte mark ≡ true }
+    ensures page { (text : Text) (pages : Range) → pages_in text ≡ Some pages
+        → list_all is_place_byte pages.first ≡ true }
+    ensures last_page { (text last : Text) (pages : Range) → pages_in text ≡ Some pages → pages.last ≡ Some last
+        → list_all is_place_byte last ≡ true }
 {}

@@ -19,7 +19,10 @@
 //! - A year in brackets after the number of a volume, as in `53 (2003)`, is no issue.
 //! - A part of a volume, as in `12 Pt 3`, counts as an issue.
 //! - Without a word or a bracket between them, as in `12, 3`, two numbers are not read.
-//! - A page has at most four letters before its digits. Of several ranges of pages, the first one counts.
+//! - A word and a number in one word, as `Suppl1`, are two words; with another sign between them (`suppl_1`) they are
+//!   one, and not read.
+//! - A page has at most four letters before its digits. Of several ranges of pages, the first one counts. A range has a
+//!   hyphen, or `to` or `bis`.
 #![tactic(auto)]
 
 mod enumerations;
@@ -28,6 +31,7 @@ mod last_pages;
 pub mod laws;
 mod page_forms;
 mod pages;
+mod runs;
 mod words;
 
 pub use enumerations::{Enumeration, enumeration_in};

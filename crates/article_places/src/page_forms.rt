@@ -8,14 +8,15 @@ ghost use Rattle.article_places.specs.PageForms as spec;
 ghost use Rattle.article_places.specs.Words.{letters};
 
 use crate::labels::{is_page_label, is_same};
-use crate::words::{are_letters, byte_at, has_digit, letters};
+use crate::runs::{Class, are, has_digit, run};
+use crate::words::{are_letters, byte_at, letters};
 
 /// How many digits a text begins with.
 fn digit_run(text: &[u8]) -> usize
     ensures value { result ≡ prefix_len is_ascii_digit text.now }
     ensures within { result ≤ length text.now }
 {
-    text.iter().take_while(|byte| byte.is_ascii_digit()).count()
+    run(Class::Digit, text)
 }
 
 /// How many digits are after the letters with which the word begins.
@@ -49,7 +50,7 @@ pub(crate) fn is_stop(byte: u8) -> bool
 fn are_alphanumeric(text: &[u8]) -> bool
     ensures { result ≡ list_all is_ascii_alphanumeric text.now }
 {
-    text.iter().all(|byte| byte.is_ascii_alphanumeric())
+    are(Class::Alphanumeric, text)
 }
 
 /// Whether this is a full stop, and letters and digits.
@@ -84,7 +85,7 @@ pub(crate) fn numbered(word: &[u8]) -> &[u8]
     if is_suffix(rest) { word } else { front }
 }
 
-fn is_numeral(byte: u8) -> bool
+pub(crate) fn is_numeral(byte: u8) -> bool
     ensures { result ≡ spec.is_numeral byte }
 {
     let letter = byte.to_ascii_lowercase();
@@ -100,7 +101,7 @@ fn is_numeral(byte: u8) -> bool
 fn are_numerals(text: &[u8]) -> bool
     ensures { result ≡ list_all spec.is_numeral text.now }
 {
-    text.iter().all(|byte| is_numeral(*byte))
+    are(Class::Numeral, text)
 }
 
 /// The letters with which the word begins.

@@ -1,18 +1,20 @@
 //! The first and the last page in a text.
 
-ghost use Rattle.std.specs.Prelude.{◌≡◌, ◌≤◌, ◌++◌, length, IfOk, IfSome, OnOk};
+ghost use Rattle.std.specs.Prelude.{◌≡◌, ◌≤◌, ◌++◌, ◌&&◌, ◌∷◌, length, is_some, slice_get, IfOk, IfSome, OnOk};
 ghost use Rattle.std.specs.List.{prefix_len, slice_split};
 ghost use Rattle.std.specs.Option.{option_copied, option_map};
 ghost use Rattle.std.specs.Str.{IsAscii};
 ghost use Rattle.text_model.specs.Texts.{texts_of};
-ghost use Rattle.article_places.specs.PageForms.{is_stop};
+ghost use Rattle.article_places.specs.Labels.{is_range_word};
+ghost use Rattle.article_places.specs.PageForms.{is_stop, page as spec_page};
 ghost use Rattle.article_places.specs.Pages as spec;
 
-use crate::labels::is_same;
+use crate::labels::{is_range_word, is_same};
 use crate::last_pages::last_page;
 use crate::page_forms::{
     digits, has_label, is_numbered, is_roman_page, is_stop, numbered, page, roman,
 };
+use crate::runs::{Class, run};
 use crate::words::{byte_at, letters};
 use std::alloc::{AllocError, Global};
 
@@ -61,7 +63,7 @@ fn is_between(byte: u8) -> bool
     !(byte.is_ascii_alphanumeric() || is_stop(byte))
 }
 
-fn is_no_hyphen(byte: u8) -> bool
+pub(crate) fn is_no_hyphen(byte: u8) -> bool
     ensures { result ≡ spec.is_no_hyphen byte }
 {
     byte != b'-'
@@ -72,7 +74,7 @@ fn before_hyphen(text: &[u8]) -> usize
     ensures value { result ≡ prefix_len spec.is_no_hyphen text.now }
     ensures within { result ≤ length text.now }
 {
-    text.iter().take_while(|byte| is_no_hyphen(**byte)).count()
+    run(Class::NoHyphen, text)
 }
 
 /// How many full stops the text begins with.
@@ -80,7 +82,7 @@ fn stops(text: &[u8]) -> usize
     ensures value { result ≡ prefix_len is_stop text.now }
     ensures within { result ≤ length text.now }
 {
-    text.iter().take_while(|byte| is_stop(**byte)).count()
+    run(Class::Stop, text)
 }
 
 /// How many letters say that a page is next.
@@ -175,15 +177,50 @@ fn is_sectioned(first: &[u8], lasts: &[&[u8]]) -> bool
     first.len() == 1 && digits(first) == 0 && begins_with_number(lasts)
 }
 
-/// The last page, if there is but one word before the hyphen.
+fn first_word<'a>(words: &[&'a [u8]]) -> Option<&'a [u8]>
+    ensures { option_copied result ≡ slice_get (texts_of words.now) 0 }
+{
+    match words {
+        [] => None,
+        [word, ..] => Some(word),
+    }
+}
+
+/// Whether the first word is a page, and the second one, such as `to`, says that the last page is next.
+fn is_range(word: &[u8], between: &[u8]) -> bool
+    ensures { result ≡ (is_some (spec_page word.now) && is_range_word between.now) }
+{
+    page(word).is_some() && is_range_word(between)
+}
+
+/// The word at which a range ends that begins with this one, if these are after it.
+fn after_word<'a>(word: &[u8], others: &[&'a [u8]], lasts: &[&'a [u8]]) -> Option<&'a [u8]>
+    ensures { option_copied result ≡ spec.last_word (word.now ∷ texts_of others.now) (texts_of lasts.now) }
+{
+    match others {
+        [] => first_word(lasts),
+        [between, words @ ..] if is_range(word, between) => first_word(words),
+        _ => None,
+    }
+}
+
+/// The word at which a range ends: after a hyphen that has but one word before it, or after a page and such a word.
+fn last_word<'a>(firsts: &[&'a [u8]], lasts: &[&'a [u8]]) -> Option<&'a [u8]>
+    ensures { option_copied result ≡ spec.last_word (texts_of firsts.now) (texts_of lasts.now) }
+{
+    match firsts {
+        [] => None,
+        [word, others @ ..] => after_word(word, others, lasts),
+    }
+}
+
+/// The last page.
 fn last_in<'a>(first: &'a [u8], firsts: &[&'a [u8]], lasts: &[&'a [u8]]) -> Option<LastPage<'a>>
     ensures { option_map spec.in_full result
         ≡ spec.last_in first.now (texts_of firsts.now) (texts_of lasts.now) }
 {
-    match lasts {
-        [word, ..] if firsts.len() == 1 => last_page(first, page(word)?),
-        _ => None,
-    }
+    let word = last_word(firsts, lasts)?;
+    last_page(first, page(word)?)
 }
 
 fn from_page<'a>(

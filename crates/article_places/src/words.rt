@@ -2,11 +2,12 @@
 
 ghost use Rattle.std.specs.Prelude.{◌≡◌, ◌≤◌, ◌++◌, length, IfOk, OnOk, slice_index};
 ghost use Rattle.std.specs.Char.{is_ascii_alphabetic, is_ascii_digit};
-ghost use Rattle.std.specs.List.{list_all, list_any, prefix_len, slice_split};
+ghost use Rattle.std.specs.List.{list_all, prefix_len, slice_split};
 ghost use Rattle.text_model.specs.Texts.{texts_of};
 ghost use Rattle.article_places.specs.Words as spec;
 
 use crate::labels::{is_label, is_supplement_word};
+use crate::runs::{Class, are, has_digit, run};
 use std::alloc::{AllocError, Global};
 
 /// Spaces, control characters, punctuation, quotes and closing brackets.
@@ -18,7 +19,6 @@ fn is_gap(byte: u8) -> bool
         || byte == b','
         || byte == b':'
         || byte == b';'
-        || byte == b'_'
         || byte == b'"'
         || byte == b'\''
         || byte == b')'
@@ -36,9 +36,7 @@ pub(crate) fn letters(word: &[u8]) -> usize
     ensures value { result ≡ spec.letters word.now }
     ensures within { result ≤ length word.now }
 {
-    word.iter()
-        .take_while(|byte| byte.is_ascii_alphabetic())
-        .count()
+    run(Class::Letter, word)
 }
 
 /// How many bytes are before the first opening bracket.
@@ -46,15 +44,15 @@ fn outside(text: &[u8]) -> usize
     ensures value { result ≡ prefix_len spec.is_not_open text.now }
     ensures within { result ≤ length text.now }
 {
-    text.iter().take_while(|byte| !is_open(**byte)).count()
+    run(Class::NotOpen, text)
 }
 
-/// Whether the word has a label of two letters or more and its number.
+/// Whether the word has a label of two letters or more, and a number that begins with a digit.
 fn is_joined(word: &[u8]) -> bool
     ensures { result ≡ spec.is_joined word.now }
 {
     let letters = letters(word);
-    if letters < 2 || letters >= word.len() {
+    if letters < 2 || !byte_at(word, letters).is_ascii_digit() {
         return false;
     }
     let label = word.split_at(letters).0;
@@ -125,7 +123,7 @@ pub(crate) fn words(alloc: Global, text: &[u8]) -> Result<Vec<&[u8]>, AllocError
     Ok(words)
 }
 
-fn is_number_byte(byte: u8) -> bool
+pub(crate) fn is_number_byte(byte: u8) -> bool
     ensures { result ≡ spec.is_number_byte byte }
 {
     byte.is_ascii_alphanumeric() || byte == b'-' || byte == b'/'
@@ -134,13 +132,7 @@ fn is_number_byte(byte: u8) -> bool
 fn are_number_bytes(word: &[u8]) -> bool
     ensures { result ≡ list_all spec.is_number_byte word.now }
 {
-    word.iter().all(|byte| is_number_byte(*byte))
-}
-
-pub(crate) fn has_digit(word: &[u8]) -> bool
-    ensures { result ≡ list_any is_ascii_digit word.now }
-{
-    word.iter().any(|byte| byte.is_ascii_digit())
+    are(Class::NumberByte, word)
 }
 
 /// Whether the word is a number as volumes and issues have them.
@@ -160,11 +152,11 @@ pub(crate) fn byte_at(text: &[u8], index: usize) -> u8
 pub(crate) fn are_digits(text: &[u8]) -> bool
     ensures { result ≡ list_all is_ascii_digit text.now }
 {
-    text.iter().all(|byte| byte.is_ascii_digit())
+    are(Class::Digit, text)
 }
 
 pub(crate) fn are_letters(word: &[u8]) -> bool
     ensures { result ≡ list_all is_ascii_alphabetic word.now }
 {
-    word.iter().all(|byte| byte.is_ascii_alphabetic())
+    are(Class::Letter, word)
 }

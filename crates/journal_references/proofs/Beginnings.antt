@@ -11,9 +11,9 @@ use Rattle.std.proofs.lemmas.Option.{same_Some}
 use Rattle.std.proofs.lemmas.Str.Ascii.{IsAscii-from_all}
 use Rattle.text_model.specs.Texts.{Text}
 use Rattle.journal_references.specs.declared.words.Word.{Word}
-use Rattle.journal_references.specs.declared.words.Word.TheVariants.{OfVolume, OfIssue, OfPages}
+use Rattle.journal_references.specs.declared.words.Word.TheVariants.{OfVolume, OfIssue, OfPages, OfMonth}
 use Rattle.journal_references.specs.declared.pieces.Piece.{Piece}
-use Rattle.journal_references.specs.declared.pieces.Piece.TheVariants.{Volume, Plain, Issue, Inner, Pages, Year, Days}
+use Rattle.journal_references.specs.declared.pieces.Piece.TheVariants.{Volume, Plain, Issue, PlainIssue, Inner, Pages, Year, Days}
 use Rattle.journal_references.specs.Words.{words, is_one_of, letters, gap, is_word, word_length}
 use Rattle.journal_references.specs.Pieces.{is_number_byte, is_inner_byte, is_page_byte, is_byte, is_volume, is_year, is_piece, piece_length}
 
@@ -41,6 +41,7 @@ byte_below : (p : Piece) (b : ℕ) → is_byte p b ≡ true → b < 128
 byte_below Volume = number_below
 byte_below Plain = number_below
 byte_below Issue = number_below
+byte_below PlainIssue = number_below
 byte_below Inner = inner_below
 byte_below Pages = page_below
 byte_below Year = number_below
@@ -97,6 +98,7 @@ no_word : (word : Word) → is_one_of (words word) [] ≡ false
 no_word OfVolume = refl
 no_word OfIssue = refl
 no_word OfPages = refl
+no_word OfMonth = refl
 
 first_letter : (word : Word) (t : Text) → is_one_of (words word) (take (letters t) t) ≡ true → is_ascii_alphabetic (get_or t 0 0) ≡ true
 first_letter word [] h = absurd (both_ways (is_one_of (words word) []) (no_word word) h)

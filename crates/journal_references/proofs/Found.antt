@@ -7,17 +7,17 @@ use Rattle.std.specs.Option.{option_map}
 use Rattle.std.proofs.lemmas.Bool.{and_parts}
 use Rattle.std.proofs.lemmas.Option.{same_Some}
 use Rattle.text_model.specs.Texts.{Text}
-use Rattle.journal_references.specs.declared.pieces.Piece.TheVariants.{Volume, Plain, Issue, Inner, Pages, Year, Days}
+use Rattle.journal_references.specs.declared.pieces.Piece.TheVariants.{Volume, Plain, Issue, PlainIssue, Inner, Pages, Year, Days}
 use Rattle.journal_references.specs.declared.parts.Part.{Part}
-use Rattle.journal_references.specs.declared.parts.Part.TheVariants.{Sign, Mark, Month, Needed, Maybe, Read}
+use Rattle.journal_references.specs.declared.parts.Part.TheVariants.{Sign, Mark, Closing, Month, Date, NoDay, Needed, Maybe, Read}
 use Rattle.journal_references.specs.declared.groups.Group.{Group}
-use Rattle.journal_references.specs.declared.groups.Group.TheVariants.{AnyVolume, NamedVolume, PlainVolume, YearAndDays, YearAndComma}
 use Rattle.journal_references.specs.Pieces.{last}
 use Rattle.journal_references.specs.Parts.{Match, unread, with_part}
 use Rattle.journal_references.specs.Forms.{parts, forms, match_groups, first_match, match_form}
 use Rattle.journal_references.specs.Forms as forms_spec
 use Rattle.journal_references.specs.References.{Reference, is_inside, tight, reference_of, reference_at, first_reference, or_other}
 use Rattle.journal_references.specs.References.{may_have_one, reference_in}
+use Rattle.journal_references.proofs.Beginnings.{is_firm}
 use Rattle.journal_references.proofs.Kept.{some_part, IsReadBy}
 
 -- ---- what each form has
@@ -29,22 +29,23 @@ reads_volume _ = false
 
 abbrev pub reads_place : Part → Bool
 reads_place (Read Issue) = true
+reads_place (Read PlainIssue) = true
 reads_place (Read Inner) = true
 reads_place (Read Pages) = true
 reads_place _ = false
 
--- the first group begins with a digit or a word
-abbrev pub begins : Group → Bool
-begins AnyVolume = true
-begins NamedVolume = true
-begins PlainVolume = true
-begins YearAndDays = true
-begins YearAndComma = true
+-- words and a date, and then a piece that begins with a digit
+abbrev pub begins : List Part → Bool
+begins [] = false
+begins (Needed word ∷ list) = begins list
+begins (Maybe word ∷ list) = begins list
+begins (Date ∷ list) = begins list
+begins (Read piece ∷ list) = is_firm piece
 begins _ = false
 
 abbrev pub begins_well : List Group → Bool
 begins_well [] = false
-begins_well (group ∷ form) = begins group
+begins_well (group ∷ form) = begins (parts group)
 
 abbrev pub has_part : (Part → Bool) → List Group → Bool
 has_part reads form = list_any (λ group. list_any reads (parts group)) form
@@ -139,12 +140,16 @@ with_volume : (part : Part) (taken rest : Text) (m : Match) → (has_volume m ||
     → has_volume (with_part part taken rest m) ≡ true
 with_volume (Sign sign) taken rest m h = same _ h
 with_volume Mark taken rest m h = same _ h
+with_volume Closing taken rest m h = same _ h
 with_volume Month taken rest m h = same _ h
+with_volume Date taken rest m h = same _ h
+with_volume NoDay taken rest m h = same _ h
 with_volume (Needed word) taken rest m h = same _ h
 with_volume (Maybe word) taken rest m h = same _ h
 with_volume (Read Volume) taken rest m h = refl
 with_volume (Read Plain) taken rest m h = refl
 with_volume (Read Issue) taken rest m h = same _ h
+with_volume (Read PlainIssue) taken rest m h = same _ h
 with_volume (Read Inner) taken rest m h = same _ h
 with_volume (Read Pages) taken rest m h = same _ h
 with_volume (Read Year) taken rest m h = same _ h
@@ -158,12 +163,16 @@ with_place : (part : Part) (taken rest : Text) (m : Match) → (has_place m || r
     → has_place (with_part part taken rest m) ≡ true
 with_place (Sign sign) taken rest m h = same _ h
 with_place Mark taken rest m h = same _ h
+with_place Closing taken rest m h = same _ h
 with_place Month taken rest m h = same _ h
+with_place Date taken rest m h = same _ h
+with_place NoDay taken rest m h = same _ h
 with_place (Needed word) taken rest m h = same _ h
 with_place (Maybe word) taken rest m h = same _ h
 with_place (Read Volume) taken rest m h = same _ h
 with_place (Read Plain) taken rest m h = same _ h
 with_place (Read Issue) taken rest m h = refl
+with_place (Read PlainIssue) taken rest m h = refl
 with_place (Read Inner) taken rest m h = refl
 with_place (Read Pages) taken rest m h = or_true (is_some m.issue)
 with_place (Read Year) taken rest m h = same _ h

@@ -10,9 +10,9 @@ use Rattle.std.proofs.lemmas.List.{drop-drop}
 use Rattle.std.proofs.lemmas.Option.{same_Some, option_and_then_some}
 use Rattle.text_model.specs.Texts.{Text}
 use Rattle.journal_references.specs.declared.pieces.Piece.{Piece}
-use Rattle.journal_references.specs.declared.pieces.Piece.TheVariants.{Volume, Plain, Issue, Inner, Pages, Year, Days}
+use Rattle.journal_references.specs.declared.pieces.Piece.TheVariants.{Volume, Plain, Issue, PlainIssue, Inner, Pages, Year, Days}
 use Rattle.journal_references.specs.declared.parts.Part.{Part}
-use Rattle.journal_references.specs.declared.parts.Part.TheVariants.{Sign, Mark, Month, Needed, Maybe, Read}
+use Rattle.journal_references.specs.declared.parts.Part.TheVariants.{Sign, Mark, Closing, Month, Date, NoDay, Needed, Maybe, Read}
 use Rattle.journal_references.specs.declared.groups.Group.{Group}
 use Rattle.journal_references.specs.Pieces.{piece_length}
 use Rattle.journal_references.specs.Parts.{Match, part_length, with_piece, with_part, match_part, match_parts}
@@ -80,6 +80,7 @@ piece_fine : (piece : Piece) (text : Text) (m : Match) (n : ℕ) → IsGood text
 piece_fine Volume text m n good is = record { at = is.at; rest = is.rest; volume = good; issue = is.issue; pages = is.pages; year = is.year }
 piece_fine Plain text m n good is = record { at = is.at; rest = is.rest; volume = good; issue = is.issue; pages = is.pages; year = is.year }
 piece_fine Issue text m n good is = record { at = is.at; rest = is.rest; volume = is.volume; issue = good; pages = is.pages; year = is.year }
+piece_fine PlainIssue text m n good is = record { at = is.at; rest = is.rest; volume = is.volume; issue = good; pages = is.pages; year = is.year }
 piece_fine Inner text m n good is = record { at = is.at; rest = is.rest; volume = is.volume; issue = good; pages = is.pages; year = is.year }
 piece_fine Pages text m n good is = record { at = is.at; rest = is.rest; volume = is.volume; issue = is.issue; pages = good; year = is.year }
 piece_fine Year text m n good is = record { at = is.at; rest = is.rest; volume = is.volume; issue = is.issue; pages = is.pages; year = good }
@@ -92,7 +93,10 @@ taken_fine : (part : Part) (text : Text) (m : Match) (n : ℕ) → part_length p
     → IsFine text (with_part part (take n m.rest) (drop n m.rest) m)
 taken_fine (Sign sign) text m n h is = rest_fine text m n is
 taken_fine Mark text m n h is = rest_fine text m n is
+taken_fine Closing text m n h is = rest_fine text m n is
 taken_fine Month text m n h is = rest_fine text m n is
+taken_fine Date text m n h is = rest_fine text m n is
+taken_fine NoDay text m n h is = rest_fine text m n is
 taken_fine (Needed word) text m n h is = rest_fine text m n is
 taken_fine (Maybe word) text m n h is = rest_fine text m n is
 taken_fine (Read piece) text m n h is = piece_fine piece text m n (is_good piece text m n h is) (rest_fine text m n is)

@@ -1,10 +1,12 @@
 pub mod Letters
 pub mod Steps
 pub mod Beginnings
+pub mod Starts
 pub mod Kept
 pub mod Found
 pub mod Names
 pub mod ReferenceLaws
+pub mod WrittenPieces
 pub mod WrittenParts
 pub mod WrittenPlaces
 pub mod Prefixes

@@ -1,8 +1,7 @@
 -- The name before a reference.
-use Rattle.std.proofs.Common.{◌≡◌, ℕ, ◌+◌, ◌-◌, ◌<◌, ◌≤◌, List, [], ◌∷◌, Bool, true, false, ◌⊎◌, inl, inr, Option, Some, None}
+use Rattle.std.proofs.Common.{◌≡◌, ℕ, ◌+◌, ◌-◌, ◌<◌, ◌≤◌, List, [], ◌∷◌, Bool, true, false, Some}
 use Rattle.std.proofs.Common.{length, get_or, take, drop, reverse, refl, sym, ap, ◌∙◌, subst, arith}
-use Rattle.std.specs.Prelude.{unwrap_or}
-use Rattle.std.specs.Char.{is_ascii_alphabetic, is_ascii_alphanumeric, is_ascii_digit}
+use Rattle.std.specs.Char.{is_ascii_alphanumeric, is_ascii_digit}
 use Rattle.std.specs.List.{suffix_len}
 use Rattle.std.specs.Str.{IsUtf8, IsCharBoundary}
 use Rattle.std.proofs.Common.{ltb}
@@ -13,37 +12,20 @@ use Rattle.std.proofs.lemmas.List.Sums.{suffix_len-le-length, prefix_len_passes}
 use Rattle.std.proofs.lemmas.Option.{same_Some, option_and_then_some}
 use Rattle.std.proofs.lemmas.Str.{IsUtf8-take}
 use Rattle.text_model.specs.Texts.{Text}
-use Rattle.journal_references.specs.declared.words.Word.TheVariants.{OfVolume}
 use Rattle.journal_references.specs.declared.pieces.Piece.{Piece}
-use Rattle.journal_references.specs.declared.pieces.Piece.TheVariants.{Volume, Plain, Year, Days}
 use Rattle.journal_references.specs.declared.parts.Part.{Part}
-use Rattle.journal_references.specs.declared.parts.Part.TheVariants.{Sign, Needed, Maybe, Read}
+use Rattle.journal_references.specs.declared.parts.Part.TheVariants.{Date, Needed, Maybe, Read}
 use Rattle.journal_references.specs.declared.groups.Group.{Group}
-use Rattle.journal_references.specs.declared.groups.Group.TheVariants.{AnyVolume, NamedVolume, PlainVolume, YearAndDays, YearAndComma}
-use Rattle.journal_references.specs.Words.{word_length}
+use Rattle.journal_references.specs.Dates.{date_length}
 use Rattle.journal_references.specs.Parts.{Match, unread, match_part, match_parts}
 use Rattle.journal_references.specs.Forms.{parts, match_groups}
 use Rattle.journal_references.specs.References.{Reference, is_loose, tight}
-use Rattle.journal_references.proofs.Beginnings.{is_firm, piece_first, word_first}
+use Rattle.journal_references.proofs.Beginnings.{is_firm, piece_first}
+use Rattle.journal_references.proofs.Starts.{IsStart, digit_starts, word_starts, maybe_starts, date_starts}
 use Rattle.journal_references.proofs.Kept.{some_part}
 use Rattle.journal_references.proofs.Found.{begins, begins_well, IsFound}
 
--- ---- the first byte of a reference
-
-of_digit : (b : ℕ) → is_ascii_digit b ≡ true → is_ascii_alphanumeric b ≡ true
-of_digit b h = grind (arith, nat_tests)
-
-of_letter : (b : ℕ) → is_ascii_alphabetic b ≡ true → is_ascii_alphanumeric b ≡ true
-of_letter b h = grind (arith, nat_tests)
-
-pub record IsNamed (t : Text) : Type 0 where
-  pub n : ℕ
-  pub is : word_length OfVolume t ≡ Some n
-  pub digit : is_ascii_digit (get_or (drop n t) 0 0) ≡ true
-
--- a digit, or a word for a volume and then a digit
-abbrev pub IsStart : Text → Type 0
-IsStart t = (is_ascii_digit (get_or t 0 0) ≡ true) ⊎ IsNamed t
+-- ---- the beginning of a reference
 
 piece_digit : (piece : Piece) (list : List Part) (m r : Match) → is_firm piece ≡ true → match_parts (Read piece ∷ list) m ≡ Some r
     → is_ascii_digit (get_or m.rest 0 0) ≡ true
@@ -51,59 +33,39 @@ piece_digit piece list m r firm h =
     option_and_then_some (match_parts list) (match_part (Read piece) m) r h
     (λ u e g. let taken = some_part (Read piece) m u e in piece_first piece m.rest taken.n firm taken.is)
 
-needed_start : (piece : Piece) (list : List Part) (m r : Match) → is_firm piece ≡ true
-    → match_parts (Needed OfVolume ∷ Read piece ∷ list) m ≡ Some r → IsStart m.rest
-needed_start piece list m r firm h =
-    option_and_then_some (match_parts (Read piece ∷ list)) (match_part (Needed OfVolume) m) r h
+-- words, a date, and a piece that begins with a digit
+list_starts : (list : List Part) (m r : Match) → begins list ≡ true → match_parts list m ≡ Some r → IsStart m.rest
+list_starts [] m r ok h = cc
+list_starts (Needed word ∷ list) m r ok h =
+    option_and_then_some (match_parts list) (match_part (Needed word) m) r h
     (λ u e g.
-    let taken = some_part (Needed OfVolume) m u e in
-    inr record {
-      n = taken.n;
-      is = taken.is;
-      digit = subst (λ x. is_ascii_digit (get_or x.rest 0 0) ≡ true) taken.whole (piece_digit piece list u r firm g);
-    })
-
-maybe_start : (piece : Piece) (list : List Part) (m r : Match) → is_firm piece ≡ true
-    → match_parts (Maybe OfVolume ∷ Read piece ∷ list) m ≡ Some r → IsStart m.rest
-maybe_start piece list m r firm h =
-    option_and_then_some (match_parts (Read piece ∷ list)) (match_part (Maybe OfVolume) m) r h
+    let taken = some_part (Needed word) m u e in
+    word_starts word m.rest taken.n taken.is (subst (λ x. IsStart x.rest) taken.whole (list_starts list u r ok g)))
+list_starts (Maybe word ∷ list) m r ok h =
+    option_and_then_some (match_parts list) (match_part (Maybe word) m) r h
     (λ u e g.
-    let taken = some_part (Maybe OfVolume) m u e in
-    let digit = subst (λ x. is_ascii_digit (get_or x.rest 0 0) ≡ true) taken.whole (piece_digit piece list u r firm g) in
-    by_word (word_length OfVolume m.rest) refl taken.n taken.is digit)
-  where
-    by_word : (o : Option ℕ) → word_length OfVolume m.rest ≡ o → (k : ℕ) → Some (unwrap_or (word_length OfVolume m.rest) 0) ≡ Some k
-        → is_ascii_digit (get_or (drop k m.rest) 0 0) ≡ true → IsStart m.rest
-    by_word (Some n) is k e digit =
-        let same : k ≡ n = sym (same_Some (unwrap_or (word_length OfVolume m.rest) 0) k e) ∙ ap (λ o. unwrap_or o 0) is in
-        inr record { n = n; is = is; digit = subst (λ x. is_ascii_digit (get_or (drop x m.rest) 0 0) ≡ true) same digit }
-    by_word None is k e digit =
-        let same : k ≡ 0 = sym (same_Some (unwrap_or (word_length OfVolume m.rest) 0) k e) ∙ ap (λ o. unwrap_or o 0) is in
-        inl (subst (λ x. is_ascii_digit (get_or (drop x m.rest) 0 0) ≡ true) same digit)
-
-group_starts : (group : Group) (m r : Match) → begins group ≡ true → match_parts (parts group) m ≡ Some r → IsStart m.rest
-group_starts AnyVolume m r ok h = maybe_start Volume [] m r refl h
-group_starts NamedVolume m r ok h = needed_start Volume [] m r refl h
-group_starts PlainVolume m r ok h = maybe_start Plain [] m r refl h
-group_starts YearAndDays m r ok h = inl (piece_digit Year (Read Days ∷ Sign 0x3b ∷ []) m r refl h)
-group_starts YearAndComma m r ok h = inl (piece_digit Year (Sign 0x2c ∷ []) m r refl h)
-group_starts _ m r ok h = cc
+    let taken = some_part (Maybe word) m u e in
+    maybe_starts word m.rest taken.n taken.is (subst (λ x. IsStart x.rest) taken.whole (list_starts list u r ok g)))
+list_starts (Date ∷ list) m r ok h =
+    option_and_then_some (match_parts list) (match_part Date m) r h
+    (λ u e g.
+    let taken = some_part Date m u e in
+    date_starts m.rest taken.n (same_Some (date_length m.rest) taken.n taken.is)
+    (subst (λ x. IsStart x.rest) taken.whole (list_starts list u r ok g)))
+list_starts (Read piece ∷ list) m r ok h = digit_starts m.rest (piece_digit piece list m r ok h)
+list_starts (_ ∷ list) m r ok h = cc
 
 pub form_starts : (form : List Group) (t : Text) (r : Match) → begins_well form ≡ true → match_groups form (unread t) ≡ Some r → IsStart t
 form_starts [] t r ok h = cc
 form_starts (group ∷ form) t r ok h =
-    option_and_then_some (match_groups form) (match_parts (parts group) (unread t)) r h (λ u e g. group_starts group (unread t) u ok e)
-
-pub start_begun : (t : Text) → IsStart t → is_ascii_alphanumeric (get_or t 0 0) ≡ true
-start_begun t (inl digit) = of_digit (get_or t 0 0) digit
-start_begun t (inr named) = of_letter (get_or t 0 0) (word_first OfVolume t named.n named.is)
+    option_and_then_some (match_groups form) (match_parts (parts group) (unread t)) r h (λ u e g. list_starts (parts group) (unread t) u ok e)
 
 begun_at : (text : Text) (r : Reference) (is : IsFound text r) → is_ascii_alphanumeric (get_or text is.at 0) ≡ true
 begun_at text r is =
     let same : is.at ≡ is.at + 0 = omega arith in
     ap (λ k. is_ascii_alphanumeric (get_or text k 0)) same
     ∙ ap is_ascii_alphanumeric (sym (get_or-drop is.at text 0 0))
-    ∙ start_begun (drop is.at text) (form_starts is.form (drop is.at text) is.found (and_parts _ _ is.sound).0 is.matches)
+    ∙ (form_starts is.form (drop is.at text) is.found (and_parts _ _ is.sound).0 is.matches).begun
 
 -- ---- characters
 

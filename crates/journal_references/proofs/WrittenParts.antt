@@ -1,106 +1,26 @@
 -- The parts of a reference as it is written are read.
-use Rattle.std.proofs.Common.{◌≡◌, ℕ, ◌+◌, List, [], ◌∷◌, ◌++◌, Bool, true, false, ◌&&◌, cond, Option, Some, None, length, get_or, take, drop}
-use Rattle.std.proofs.Common.{refl, sym, ap, ◌∙◌, arith, append-nil}
-use Rattle.std.specs.Prelude.{unwrap_or}
-use Rattle.std.specs.Char.{is_ascii_alphabetic, is_ascii_digit}
-use Rattle.std.specs.List.{list_all, prefix_len}
+use Rattle.std.proofs.Common.{◌≡◌, ℕ, ◌+◌, List, [], ◌∷◌, ◌++◌, false, ◌&&◌, cond, Option, Some, None, length, take, drop}
+use Rattle.std.proofs.Common.{refl, sym, ap, ◌∙◌, append-nil}
+use Rattle.std.specs.Prelude.{unwrap_or, nat_lt}
 use Rattle.std.specs.Option.{option_and_then, option_map}
-use Rattle.std.proofs.lemmas.Bool.{and_parts, both_ways}
-use Rattle.std.proofs.lemmas.Bool.Decides.{nat_tests}
-use Rattle.std.proofs.lemmas.List.{take_at, drop_at, take_all}
+use Rattle.std.proofs.lemmas.List.{take_at, drop_at}
 use Rattle.text_model.specs.Texts.{Text}
 use Rattle.journal_references.specs.declared.words.Word.{Word}
 use Rattle.journal_references.specs.declared.words.Word.TheVariants.{OfVolume, OfIssue, OfPages}
 use Rattle.journal_references.specs.declared.pieces.Piece.{Piece}
-use Rattle.journal_references.specs.declared.pieces.Piece.TheVariants.{Volume, Inner, Pages, Year}
+use Rattle.journal_references.specs.declared.pieces.Piece.TheVariants.{Volume, Inner, Pages, Year, Days}
 use Rattle.journal_references.specs.declared.parts.Part.{Part}
-use Rattle.journal_references.specs.declared.parts.Part.TheVariants.{Sign, Mark, Month, Maybe, Read}
+use Rattle.journal_references.specs.declared.parts.Part.TheVariants.{Sign, Mark, Month, NoDay, Maybe, Read}
 use Rattle.journal_references.specs.declared.groups.Group.{Group}
 use Rattle.journal_references.specs.declared.groups.Group.TheVariants.{AnyVolume, InBrackets, AnyPages, YearAfterComma, YearInBrackets}
-use Rattle.journal_references.specs.Words.{word_length}
-use Rattle.journal_references.specs.Pieces.{is_number_byte, is_page_byte, is_byte, is_year, is_piece, piece_length}
-use Rattle.journal_references.specs.Parts.{is_space, spaces, is_month_gap, Match, unread, with_piece, match_part, match_parts}
+use Rattle.journal_references.specs.Pieces.{is_year, piece_length}
+use Rattle.journal_references.specs.Dates.{begins_with_month}
+use Rattle.journal_references.specs.Parts.{spaces, sign_after, Match, unread, with_piece, with_part, match_part, match_parts}
 use Rattle.journal_references.specs.Forms.{parts, forms, match_groups, or_other, first_match, match_form}
 use Rattle.journal_references.specs.Written.{IsWhole}
-use Rattle.journal_references.proofs.Beginnings.{volume_first, word_first}
-
--- ---- runs
-
-one_more : (b : ℕ) (t : Text) → 1 + length t ≡ length (b ∷ t)
-one_more b t = omega arith
-
-pub run_then : (test : ℕ → Bool) (t : Text) (c : ℕ) (r : Text) → list_all test t ≡ true → test c ≡ false → prefix_len test (t ++ c ∷ r) ≡ length t
-run_then test [] c r all stop = ap (λ b. cond b (1 + prefix_len test r) 0) stop
-run_then test (b ∷ t) c r all stop =
-    let passed = and_parts (test b) (list_all test t) all in
-    ap (λ x. cond x (1 + prefix_len test (t ++ c ∷ r)) 0) passed.0 ∙ ap (λ n. 1 + n) (run_then test t c r passed.1 stop) ∙ one_more b t
-
-run_whole : (test : ℕ → Bool) (t : Text) → list_all test t ≡ true → prefix_len test t ≡ length t
-run_whole test [] all = refl
-run_whole test (b ∷ t) all =
-    let passed = and_parts (test b) (list_all test t) all in
-    ap (λ x. cond x (1 + prefix_len test t) 0) passed.0 ∙ ap (λ n. 1 + n) (run_whole test t passed.1) ∙ one_more b t
-
-no_run : (test : ℕ → Bool) (t : Text) → test (get_or t 0 0) ≡ false → prefix_len test t ≡ 0
-no_run test [] h = refl
-no_run test (b ∷ t) h = ap (λ c. cond c (1 + prefix_len test t) 0) h
-
-weaker : (p q : ℕ → Bool) → ((b : ℕ) → p b ≡ true → q b ≡ true) → (t : Text) → list_all p t ≡ true → list_all q t ≡ true
-weaker p q each [] all = refl
-weaker p q each (b ∷ t) all =
-    let passed = and_parts (p b) (list_all p t) all in
-    ap (λ c. c && list_all q t) (each b passed.0) ∙ weaker p q each t passed.1
-
--- ---- texts that begin with a digit
-
-abbrev HasDigit : Text → Type 0
-HasDigit t = is_ascii_digit (get_or t 0 0) ≡ true
-
-pub digit_front : (t s : Text) → HasDigit t → HasDigit (t ++ s)
-digit_front [] s h = cc
-digit_front (b ∷ t) s h = h
-
-not_letter : (b : ℕ) → is_ascii_digit b ≡ true → is_ascii_alphabetic b ≡ false
-not_letter b h = grind (arith, nat_tests)
-
-not_space : (b : ℕ) → is_ascii_digit b ≡ true → is_space b ≡ false
-not_space b h = grind (arith, nat_tests)
-
-not_gap : (b : ℕ) → is_ascii_digit b ≡ true → is_month_gap b ≡ false
-not_gap b h = grind (arith, nat_tests)
-
-no_spaces : (t : Text) → HasDigit t → spaces t ≡ 0
-no_spaces t h = no_run is_space t (not_space (get_or t 0 0) h)
-
-no_word : (word : Word) (t : Text) → HasDigit t → word_length word t ≡ None
-no_word word t h = by_length (word_length word t) refl
-  where
-    by_length : (o : Option ℕ) → word_length word t ≡ o → o ≡ None
-    by_length None e = refl
-    by_length (Some n) e = absurd (both_ways (is_ascii_alphabetic (get_or t 0 0)) (not_letter (get_or t 0 0) h) (word_first word t n e))
-
--- ---- pieces
-
-piece_then : (p : Piece) (t : Text) (c : ℕ) (r : Text) → IsWhole p t → is_byte p c ≡ false → piece_length p (t ++ c ∷ r) ≡ Some (length t)
-piece_then p t c r whole stop =
-    ap (λ k. cond (is_piece p (take k (t ++ c ∷ r))) (Some k) None) (run_then (is_byte p) t c r whole.0 stop)
-    ∙ ap (λ x. cond (is_piece p x) (Some (length t)) None) (take_at t (c ∷ r) (length t) refl)
-    ∙ ap (λ b. cond b (Some (length t)) None) whole.1
-
-piece_whole : (p : Piece) (t : Text) → IsWhole p t → piece_length p t ≡ Some (length t)
-piece_whole p t whole =
-    ap (λ k. cond (is_piece p (take k t)) (Some k) None) (run_whole (is_byte p) t whole.0)
-    ∙ ap (λ x. cond (is_piece p x) (Some (length t)) None) (take_all (length t) t (omega arith))
-    ∙ ap (λ b. cond b (Some (length t)) None) whole.1
-
-page_number : (b : ℕ) → is_page_byte b ≡ true → is_number_byte b ≡ true
-page_number b h = grind (arith, nat_tests)
-
-no_year_in : (t : Text) → IsWhole Pages t → is_year t ≡ false → piece_length Year t ≡ None
-no_year_in t whole other =
-    ap (λ k. cond (is_year (take k t)) (Some k) None) (run_whole is_number_byte t (weaker is_page_byte is_number_byte page_number t whole.0))
-    ∙ ap (λ x. cond (is_year x) (Some (length t)) None) (take_all (length t) t (omega arith))
-    ∙ ap (λ b. cond b (Some (length t)) None) other
+use Rattle.journal_references.proofs.Beginnings.{volume_first}
+use Rattle.journal_references.proofs.WrittenPieces.{HasDigit, digit_front, digit_no_opening, no_spaces, no_word, piece_then, piece_whole}
+use Rattle.journal_references.proofs.WrittenPieces.{no_year_in, day_none, month_none}
 
 -- ---- parts
 
@@ -133,10 +53,21 @@ comma_read v i p t h = ap (λ k. Some (found v i p (drop (0 + 1 + (1 + k)) (0x2c
 mark_read : (v i p : Option Text) (t : Text) → HasDigit t → match_part Mark (found v i p (0x2c ∷ 0x20 ∷ t)) ≡ Some (found v i p t)
 mark_read v i p t h = ap (λ k. Some (found v i p (drop (0 + 1 + (1 + k)) (0x2c ∷ 0x20 ∷ t)))) (no_spaces t h)
 
-no_month : (v i p : Option Text) (t : Text) → HasDigit t → match_part Month (found v i p t) ≡ Some (found v i p t)
-no_month v i p t h =
-    ap (λ k. Some (found v i p (drop (k + prefix_len is_month_gap (drop k t)) t))) (no_run is_ascii_alphabetic t (not_letter (get_or t 0 0) h))
-    ∙ ap (λ k. Some (found v i p (drop (0 + k) t))) (no_run is_month_gap t (not_gap (get_or t 0 0) h))
+no_month : (v i p : Option Text) (t : Text) → IsWhole Pages t → HasDigit t → match_part Month (found v i p t) ≡ Some (found v i p t)
+no_month v i p t whole h = ap (λ k. Some (found v i p (drop k t))) (month_none t whole h)
+
+no_day : (v i p : Option Text) (t : Text) → IsWhole Pages t → match_part NoDay (found v i p t) ≡ Some (found v i p t)
+no_day v i p t whole =
+    let m = found v i p t in
+    ap (λ n. option_map (λ k. with_part NoDay (take k t) (drop k t) m) (cond (nat_lt 0 n && begins_with_month (drop n t)) None (Some 0))) (day_none t whole)
+
+no_opening : (v i p : Option Text) (t : Text) → HasDigit t → match_part (Sign 0x28) (found v i p t) ≡ None
+no_opening v i p [] h = cc
+no_opening v i p (b ∷ t) h =
+    let m = found v i p (b ∷ t) in
+    let take_some : Option ℕ → Option Match = option_map (λ n. with_part (Sign 0x28) (take n (b ∷ t)) (drop n (b ∷ t)) m) in
+    ap (λ k. take_some (sign_after k 0x28 (drop k (b ∷ t)))) (no_spaces (b ∷ t) h)
+    ∙ ap (λ c. take_some (cond c (Some (0 + 1 + spaces t)) None)) (digit_no_opening b h)
 
 -- ---- groups
 
@@ -165,7 +96,9 @@ pages_read : (v i p : Text) → IsWhole Pages p → HasDigit p
     → match_parts (parts AnyPages) (found (Some v) (Some i) None (0x2c ∷ 0x20 ∷ p)) ≡ Some (found (Some v) (Some i) (Some p) [])
 pages_read v i p whole h =
     let m = found (Some v) (Some i) None p in
-    step Mark (Maybe OfPages ∷ Maybe OfIssue ∷ Read Pages ∷ []) (found (Some v) (Some i) None (0x2c ∷ 0x20 ∷ p)) m (mark_read (Some v) (Some i) None p h)
+    step Mark (NoDay ∷ Maybe OfPages ∷ Maybe OfIssue ∷ Read Pages ∷ []) (found (Some v) (Some i) None (0x2c ∷ 0x20 ∷ p)) m
+    (mark_read (Some v) (Some i) None p h)
+    ∙ step NoDay (Maybe OfPages ∷ Maybe OfIssue ∷ Read Pages ∷ []) m m (no_day (Some v) (Some i) None p whole)
     ∙ step (Maybe OfPages) (Maybe OfIssue ∷ Read Pages ∷ []) m m (skip_word OfPages (Some v) (Some i) None p h)
     ∙ step (Maybe OfIssue) (Read Pages ∷ []) m m (skip_word OfIssue (Some v) (Some i) None p h)
     ∙ step (Read Pages) [] m (found (Some v) (Some i) (Some p) [])
@@ -176,8 +109,16 @@ year_missing : (v i p : Text) → IsWhole Pages p → HasDigit p → is_year p �
 year_missing v i p whole h other =
     let m = found (Some v) (Some i) None p in
     step (Sign 0x2c) (Month ∷ Read Year ∷ []) (found (Some v) (Some i) None (0x2c ∷ 0x20 ∷ p)) m (comma_read (Some v) (Some i) None p h)
-    ∙ step Month (Read Year ∷ []) m m (no_month (Some v) (Some i) None p h)
+    ∙ step Month (Read Year ∷ []) m m (no_month (Some v) (Some i) None p whole h)
     ∙ stop (Read Year) [] m (ap (λ o. option_map (λ n. with_piece Year (take n p) (drop n p) m) o) (no_year_in p whole other))
+
+brackets_missing : (v i p : Text) → HasDigit p
+    → match_parts (parts YearInBrackets) (found (Some v) (Some i) None (0x2c ∷ 0x20 ∷ p)) ≡ None
+brackets_missing v i p h =
+    let m = found (Some v) (Some i) None p in
+    let list : List Part = Month ∷ Read Year ∷ Read Days ∷ Sign 0x29 ∷ [] in
+    step Mark (Sign 0x28 ∷ list) (found (Some v) (Some i) None (0x2c ∷ 0x20 ∷ p)) m (mark_read (Some v) (Some i) None p h)
+    ∙ stop (Sign 0x28) list m (no_opening (Some v) (Some i) None p h)
 
 -- ---- forms
 
@@ -212,7 +153,7 @@ form_read v i p volume issue issue_digit pages pages_digit other =
     (match_groups (AnyVolume ∷ InBrackets ∷ AnyPages ∷ YearAfterComma ∷ []) (unread t))
     (match_groups (AnyVolume ∷ InBrackets ∷ YearAfterComma ∷ []) (unread t))
     (match_groups (AnyVolume ∷ InBrackets ∷ AnyPages ∷ []) (unread t)) (first_match (drop 6 forms) t) u
-    (after (YearInBrackets ∷ AnyPages ∷ []))
+    (after (YearInBrackets ∷ AnyPages ∷ []) ∙ group_stop YearInBrackets (AnyPages ∷ []) m (brackets_missing v i p pages_digit))
     (after (YearAfterComma ∷ AnyPages ∷ []) ∙ group_stop YearAfterComma (AnyPages ∷ []) m no_year)
     (after (AnyPages ∷ YearInBrackets ∷ []) ∙ with_pages (YearInBrackets ∷ []))
     (after (AnyPages ∷ YearAfterComma ∷ []) ∙ with_pages (YearAfterComma ∷ []))

@@ -1,28 +1,28 @@
 -- A reference as it is written is the first one of its text.
-use Rattle.std.proofs.Common.{◌≡◌, ℕ, zero, suc, ◌+◌, ◌-◌, ◌<◌, ◌≤◌, [], ◌∷◌, ◌++◌, Bool, true, false, ◌||◌, ◌&&◌, cond, inl, inr}
+use Rattle.std.proofs.Common.{◌≡◌, ℕ, zero, suc, ◌+◌, ◌-◌, ◌<◌, ◌≤◌, [], ◌∷◌, ◌++◌, Bool, true, false, ◌||◌, ◌&&◌, not, cond}
 use Rattle.std.proofs.Common.{Option, Some, None, length, get_or, take, drop, ltb, refl, sym, ap, ◌∙◌, subst, arith, append_assoc}
-use Rattle.std.specs.Prelude.{nat_le}
-use Rattle.std.specs.Char.{is_ascii_alphabetic, is_ascii_digit}
+use Rattle.std.specs.Prelude.{◌==◌, nat_le}
+use Rattle.std.specs.Char.{is_ascii_digit}
 use Rattle.std.specs.List.{list_any, prefix_len, suffix_len}
 use Rattle.std.specs.Option.{option_map}
-use Rattle.std.proofs.lemmas.Bool.{both_ways, or_left, or_right, ltb-true, ltb-false}
+use Rattle.std.proofs.lemmas.Bool.{or_left, or_right, ltb-true, ltb-false}
 use Rattle.std.proofs.lemmas.Bool.Decides.{nat_tests}
-use Rattle.std.proofs.lemmas.List.{take_at, drop_at, drop-append-le, length-drop, length-take, length-append, reverse-append, get_or-append-add}
+use Rattle.std.proofs.lemmas.List.{take_at, drop_at, drop-append-le, length-take, length-append, reverse-append, get_or-append-add}
 use Rattle.std.proofs.lemmas.List.Folds.{list_any-append}
 use Rattle.std.proofs.lemmas.List.Sums.{suffix_len-le-length}
 use Rattle.text_model.specs.Texts.{Text}
-use Rattle.journal_references.specs.declared.words.Word.TheVariants.{OfVolume}
-use Rattle.journal_references.specs.Words.{letters, is_gap, gap, is_word, word_length}
 use Rattle.journal_references.specs.Pieces.{last}
 use Rattle.journal_references.specs.Parts.{Match}
 use Rattle.journal_references.specs.Forms.{forms, match_form}
 use Rattle.journal_references.specs.References.{Reference, is_inside, is_loose, tight, reference_of, reference_at, or_other, first_reference}
 use Rattle.journal_references.specs.References.{reference_in}
 use Rattle.journal_references.specs.Written.{written, written_parts, ArePlain}
-use Rattle.journal_references.proofs.Beginnings.{some_if, volume_first}
+use Rattle.journal_references.proofs.Beginnings.{volume_first}
+use Rattle.journal_references.proofs.Starts.{IsStart, reaches}
 use Rattle.journal_references.proofs.Found.{form_of, is_sound, all_sound}
-use Rattle.journal_references.proofs.Names.{IsStart, form_starts, start_begun}
-use Rattle.journal_references.proofs.WrittenParts.{found, digit_front, form_read}
+use Rattle.journal_references.proofs.Names.{form_starts}
+use Rattle.journal_references.proofs.WrittenPieces.{digit_front}
+use Rattle.journal_references.proofs.WrittenParts.{found, form_read}
 use Rattle.std.proofs.lemmas.Bool.{and_parts}
 
 -- ---- the first place
@@ -61,44 +61,26 @@ right_false : (x y : Bool) → (x || y) ≡ false → y ≡ false
 right_false true y h = cc
 right_false false y h = h
 
+left_false : (x y : Bool) → (x || y) ≡ false → x ≡ false
+left_false true y h = cc
+left_false false y h = refl
+
 drop_any : (n : ℕ) (s : Text) → list_any is_ascii_digit s ≡ false → list_any is_ascii_digit (drop n s) ≡ false
 drop_any zero s h = h
 drop_any (suc n) [] h = h
 drop_any (suc n) (b ∷ s) h = drop_any n s (right_false (is_ascii_digit b) (list_any is_ascii_digit s) h)
 
-no_digit : (s x : Text) → list_any is_ascii_digit s ≡ false → is_ascii_digit (get_or (s ++ 0x2c ∷ x) 0 0) ≡ true → ⊥
-no_digit [] x h digit = cc
-no_digit (b ∷ s) x h digit =
-    both_ways (is_ascii_digit b || list_any is_ascii_digit s) h (or_left (is_ascii_digit b) (list_any is_ascii_digit s) digit)
-
-run_bound : (test : ℕ → Bool) (s : Text) (c : ℕ) (x : Text) → test c ≡ false → prefix_len test (s ++ c ∷ x) ≤ length s
-run_bound test [] c x stop =
-    let none : cond (test c) (1 + prefix_len test x) 0 ≡ 0 = ap (λ b. cond b (1 + prefix_len test x) 0) stop in
-    omega (arith, none)
-run_bound test (b ∷ s) c x stop = by_test (test b) (run_bound test s c x stop)
-  where
-    by_test : (d : Bool) → prefix_len test (s ++ c ∷ x) ≤ length s → cond d (1 + prefix_len test (s ++ c ∷ x)) 0 ≤ length (b ∷ s)
-    by_test true h = omega (arith, h)
-    by_test false h = omega arith
-
-word_bound : (s x : Text) (n : ℕ) → word_length OfVolume (s ++ 0x2c ∷ x) ≡ Some n → n ≤ length s
-word_bound s x n h =
-    let t : Text = s ++ 0x2c ∷ x in
-    let k = letters t in
-    let after = gap (drop k t) in
-    let few : k ≤ length s = run_bound is_ascii_alphabetic s 0x2c x refl in
-    let rest : drop k t ≡ drop k s ++ 0x2c ∷ x = drop-append-le k s (0x2c ∷ x) few in
-    let short : after ≤ length (drop k s) =
-    subst (λ y. gap y ≤ length (drop k s)) (sym rest) (run_bound is_gap (drop k s) 0x2c x refl) in
-    let is : k + after ≡ n = (some_if (is_word OfVolume (take k t) after) (k + after) n h).1 in
-    omega (arith, few, short, is, length-drop k s)
+-- a digit comes before the first comma at a place where a reference begins
+no_digit : (s x : Text) → list_any is_ascii_digit s ≡ false → reaches (s ++ 0x2c ∷ x) ≡ true → ⊥
+no_digit [] x h reached = cc
+no_digit (b ∷ s) x h reached =
+    let none = left_false (is_ascii_digit b) (list_any is_ascii_digit s) h in
+    let later : (not (b == 0x2c) && reaches (s ++ 0x2c ∷ x)) ≡ true =
+    sym (ap (λ c. c || (not (b == 0x2c) && reaches (s ++ 0x2c ∷ x))) none) ∙ reached in
+    no_digit s x (right_false (is_ascii_digit b) (list_any is_ascii_digit s) h) (and_parts (not (b == 0x2c)) (reaches (s ++ 0x2c ∷ x)) later).1
 
 no_start : (s x : Text) → list_any is_ascii_digit s ≡ false → IsStart (s ++ 0x2c ∷ x) → ⊥
-no_start s x h (inl digit) = no_digit s x h digit
-no_start s x h (inr named) =
-    let within = word_bound s x named.n named.is in
-    no_digit (drop named.n s) x (drop_any named.n s h)
-    (subst (λ y. is_ascii_digit (get_or y 0 0) ≡ true) (drop-append-le named.n s (0x2c ∷ x) within) named.digit)
+no_start s x h start = no_digit s x h start.reached
 
 none_before : (name x : Text) → list_any is_ascii_digit name ≡ false → (j : ℕ) → j < length name + 2
     → reference_at (name ++ 0x2c ∷ 0x20 ∷ x) j ≡ None
@@ -115,7 +97,7 @@ none_before name x h j less = none_at (name ++ 0x2c ∷ 0x20 ∷ x) j (by_place 
         let first : length (name ++ 0x2c ∷ []) ≡ j = omega (arith, less, ltb-true (length name) j e, length-append name (0x2c ∷ [])) in
         let rest : drop j (name ++ 0x2c ∷ 0x20 ∷ x) ≡ 0x20 ∷ x =
         ap (drop j) (sym (append_assoc name (0x2c ∷ []) (0x20 ∷ x))) ∙ drop_at (name ++ 0x2c ∷ []) (0x20 ∷ x) j first in
-        space (start_begun (0x20 ∷ x) (subst IsStart rest start))
+        space (subst IsStart rest start).begun
 
 -- ---- the name
 

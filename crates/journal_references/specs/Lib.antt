@@ -1,4 +1,6 @@
 pub mod Words
+pub mod Dates
+pub mod Runs
 pub mod Pieces
 pub mod Parts
 pub mod Forms

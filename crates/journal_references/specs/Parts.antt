@@ -6,11 +6,12 @@ use Rattle.std.specs.List.{prefix_len}
 use Rattle.std.specs.Option.{option_and_then, option_copied, option_map}
 use Rattle.text_model.specs.Texts.{Text}
 use Rattle.journal_references.specs.declared.pieces.Piece.{Piece}
-use Rattle.journal_references.specs.declared.pieces.Piece.TheVariants.{Volume, Plain, Issue, Inner, Pages, Year, Days}
+use Rattle.journal_references.specs.declared.pieces.Piece.TheVariants.{Volume, Plain, Issue, PlainIssue, Inner, Pages, Year, Days}
 use Rattle.journal_references.specs.declared.parts.Part.{Part}
-use Rattle.journal_references.specs.declared.parts.Part.TheVariants.{Sign, Mark, Month, Needed, Maybe, Read}
+use Rattle.journal_references.specs.declared.parts.Part.TheVariants.{Sign, Mark, Closing, Month, Date, NoDay, Needed, Maybe, Read}
 use Rattle.journal_references.specs.declared.matches.Match as code
-use Rattle.journal_references.specs.Words.{letters, word_length}
+use Rattle.journal_references.specs.Words.{word_length}
+use Rattle.journal_references.specs.Dates.{date_length, begins_with_day, month_length}
 use Rattle.journal_references.specs.Pieces.{piece_length}
 
 -- ---- how many bytes of a text a part takes
@@ -41,18 +42,18 @@ mark_after n (b ∷ t) = if is_mark b then n + 1 + spaces t else n
 abbrev pub mark_length : Text → ℕ
 mark_length t = mark_after (spaces t) (drop (spaces t) t)
 
--- a space, a full stop or a comma
-abbrev pub is_month_gap : ℕ → Bool
-is_month_gap b = b == 0x20 || b == 0x2e || b == 0x2c
-
--- the name of a month or a season before a year, if there is one
-abbrev pub month_length : Text → ℕ
-month_length t = letters t + prefix_len is_month_gap (drop (letters t) t)
+-- a closing bracket, if there is one
+abbrev pub closing_length : Text → ℕ
+closing_length [] = 0
+closing_length (b ∷ t) = if b == 0x29 then 1 else 0
 
 abbrev pub part_length : Part → Text → Option ℕ
 part_length (Sign sign) t = sign_length sign t
 part_length Mark t = Some (mark_length t)
+part_length Closing t = Some (closing_length t)
 part_length Month t = Some (month_length t)
+part_length Date t = Some (date_length t)
+part_length NoDay t = if begins_with_day t then None else Some 0
 part_length (Needed word) t = word_length word t
 part_length (Maybe word) t = Some (unwrap_or (word_length word t) 0)
 part_length (Read piece) t = piece_length piece t
@@ -85,6 +86,7 @@ abbrev pub with_piece : Piece → Text → Text → Match → Match
 with_piece Volume piece rest found = record found { volume = Some piece; rest = rest }
 with_piece Plain piece rest found = record found { volume = Some piece; rest = rest }
 with_piece Issue piece rest found = record found { issue = Some piece; rest = rest }
+with_piece PlainIssue piece rest found = record found { issue = Some piece; rest = rest }
 with_piece Inner piece rest found = record found { issue = Some piece; rest = rest }
 with_piece Pages piece rest found = record found { pages = Some piece; rest = rest }
 with_piece Year piece rest found = record found { year = Some piece; rest = rest }

@@ -6,7 +6,7 @@ use Rattle.std.specs.List.{list_all, list_any, prefix_len}
 use Rattle.text_model.specs.Texts.{Text}
 use Rattle.uri_text.specs.AnyCase.{begins_in_any_case}
 use Rattle.journal_references.specs.declared.pieces.Piece.{Piece}
-use Rattle.journal_references.specs.declared.pieces.Piece.TheVariants.{Volume, Plain, Issue, Inner, Pages, Year, Days}
+use Rattle.journal_references.specs.declared.pieces.Piece.TheVariants.{Volume, Plain, Issue, PlainIssue, Inner, Pages, Year, Days}
 use Rattle.journal_references.specs.Words.{letters}
 
 -- ---- classes of bytes
@@ -30,6 +30,7 @@ abbrev pub is_byte : Piece → ℕ → Bool
 is_byte Volume = is_number_byte
 is_byte Plain = is_number_byte
 is_byte Issue = is_number_byte
+is_byte PlainIssue = is_number_byte
 is_byte Inner = is_inner_byte
 is_byte Pages = is_page_byte
 is_byte Year = is_number_byte
@@ -62,11 +63,15 @@ is_issue t = list_any is_ascii_digit t && is_closed t && nat_le (length t) 9
 abbrev pub ends_with_year : Text → Bool
 ends_with_year t = is_year (drop (length t - 4) t)
 
+-- the digits at the beginning are a year
+abbrev pub begins_with_year : Text → Bool
+begins_with_year t = is_year (take (prefix_len is_ascii_digit t) t)
+
 -- an issue in brackets, of at most twenty bytes, and no year, as `3`, `3 Suppl 1`, `Pt 3` and `Suppl`
 abbrev pub is_inner : Text → Bool
 is_inner t =
     (list_any is_ascii_digit t || begins_in_any_case t (codes "suppl")) && is_closed t && nat_le (length t) 20
-    && not (ends_with_year t)
+    && not (ends_with_year t || begins_with_year t)
 
 -- at most three letters and a digit at the beginning, and at most one letter at the end, as `45`, `S45-S50` and `e1234`
 abbrev pub is_numbered : Text → Bool
@@ -93,6 +98,7 @@ abbrev pub is_piece : Piece → Text → Bool
 is_piece Volume t = is_volume t
 is_piece Plain t = is_volume t && not (is_year t)
 is_piece Issue t = is_issue t
+is_piece PlainIssue t = is_issue t && not (ends_with_year t)
 is_piece Inner t = is_inner t
 is_piece Pages t = are_pages t
 is_piece Year t = is_year t

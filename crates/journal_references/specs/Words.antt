@@ -6,9 +6,10 @@ use Rattle.std.specs.List.{list_any, prefix_len}
 use Rattle.std.specs.Str.{str_eq_ignore_ascii_case}
 use Rattle.text_model.specs.Texts.{Text}
 use Rattle.journal_references.specs.declared.words.Word.{Word}
-use Rattle.journal_references.specs.declared.words.Word.TheVariants.{OfVolume, OfIssue, OfPages}
+use Rattle.journal_references.specs.declared.words.Word.TheVariants.{OfVolume, OfIssue, OfPages, OfMonth}
 
--- the words and abbreviations that a source writes before a volume, before an issue, and before pages or the number of an article
+-- the words and abbreviations that a source writes before a volume, before an issue, and before pages or the number of an article;
+-- and the months in English
 abbrev pub words : Word → List Text
 words OfVolume =
     codes "vol" ∷ codes "vols" ∷ codes "volume" ∷ codes "volumes" ∷ codes "v" ∷ codes "bd" ∷ codes "band" ∷ codes "jg" ∷
@@ -19,6 +20,11 @@ words OfIssue =
 words OfPages =
     codes "p" ∷ codes "pp" ∷ codes "pg" ∷ codes "pgs" ∷ codes "page" ∷ codes "pages" ∷ codes "s" ∷ codes "seite" ∷
     codes "seiten" ∷ codes "art" ∷ codes "article" ∷ []
+words OfMonth =
+    codes "jan" ∷ codes "january" ∷ codes "feb" ∷ codes "february" ∷ codes "mar" ∷ codes "march" ∷ codes "apr" ∷ codes "april" ∷
+    codes "may" ∷ codes "jun" ∷ codes "june" ∷ codes "jul" ∷ codes "july" ∷ codes "aug" ∷ codes "august" ∷ codes "sep" ∷
+    codes "sept" ∷ codes "september" ∷ codes "oct" ∷ codes "october" ∷ codes "nov" ∷ codes "november" ∷ codes "dec" ∷
+    codes "december" ∷ []
 
 -- one of these words, in capital or small letters
 abbrev pub is_one_of : List Text → Text → Bool

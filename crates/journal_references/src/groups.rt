@@ -3,8 +3,8 @@
 ghost use Rattle.std.specs.Prelude.{◌≡◌};
 ghost use Rattle.journal_references.specs.Forms as spec;
 
-use crate::parts::Part::{self, Mark, Maybe, Month, Needed, Read, Sign};
-use crate::pieces::Piece::{Days, Inner, Issue, Pages, Plain, Volume, Year};
+use crate::parts::Part::{self, Closing, Date, Mark, Maybe, Month, Needed, NoDay, Read, Sign};
+use crate::pieces::Piece::{Days, Inner, Issue, Pages, Plain, PlainIssue, Volume, Year};
 use crate::words::Word::{OfIssue, OfPages, OfVolume};
 
 /// Parts that belong together.
@@ -20,18 +20,20 @@ pub(crate) enum Group {
     InBrackets,
     /// `, no. 3`.
     NamedIssue,
-    /// `, 3`.
+    /// `, 3`; no year.
     CommaIssue,
     /// `.3`.
     PointIssue,
-    /// `(2012)`, `(Mar. 2012)`.
+    /// `(2012)`, `(Mar. 2012)`, `(5 March 2012)`, `, (2012 Mar 5)`.
     YearInBrackets,
     /// `, 2012`, `, Mar. 2012`.
     YearAfterComma,
-    /// `2012;`, `2012 Mar 5;`.
+    /// `2012;`, `2012 Mar 5;`, `5 March 2012;`.
     YearAndDays,
-    /// `2012,`.
+    /// `2012,`, `Mar. 2012,`.
     YearAndComma,
+    /// The same, with another sign or none, or at the end of brackets.
+    YearAndMark,
     /// `45-67`, `, 45-67`, `: 45-67`, `, pp. 45-67`.
     AnyPages,
     /// `, pp. 45-67`.
@@ -52,15 +54,16 @@ impl Group {
             Group::PlainVolume => &[Maybe(OfVolume), Read(Plain)],
             Group::InBrackets => &[Sign(b'('), Maybe(OfIssue), Read(Inner), Sign(b')')],
             Group::NamedIssue => &[Mark, Needed(OfIssue), Read(Issue)],
-            Group::CommaIssue => &[Sign(b','), Read(Issue)],
+            Group::CommaIssue => &[Sign(b','), Read(PlainIssue)],
             Group::PointIssue => &[Sign(b'.'), Read(Issue)],
-            Group::YearInBrackets => &[Sign(b'('), Month, Read(Year), Sign(b')')],
+            Group::YearInBrackets => &[Mark, Sign(b'('), Month, Read(Year), Read(Days), Sign(b')')],
             Group::YearAfterComma => &[Sign(b','), Month, Read(Year)],
-            Group::YearAndDays => &[Read(Year), Read(Days), Sign(b';')],
-            Group::YearAndComma => &[Read(Year), Sign(b',')],
-            Group::AnyPages => &[Mark, Maybe(OfPages), Maybe(OfIssue), Read(Pages)],
+            Group::YearAndDays => &[Date, Read(Year), Read(Days), Sign(b';')],
+            Group::YearAndComma => &[Date, Read(Year), Sign(b',')],
+            Group::YearAndMark => &[Date, Read(Year), Mark, Date, Closing, Mark],
+            Group::AnyPages => &[Mark, NoDay, Maybe(OfPages), Maybe(OfIssue), Read(Pages)],
             Group::NamedPages => &[Mark, Needed(OfPages), Maybe(OfIssue), Read(Pages)],
-            Group::CommaPages => &[Sign(b','), Maybe(OfPages), Read(Pages)],
+            Group::CommaPages => &[Sign(b','), NoDay, Maybe(OfPages), Read(Pages)],
             Group::ColonPages => &[Sign(b':'), Maybe(OfPages), Read(Pages)],
         }
     }

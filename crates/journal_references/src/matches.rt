@@ -40,7 +40,7 @@ fn with_piece<'a>(piece: Piece, text: &'a [u8], rest: &'a [u8], found: Match<'a>
             volume: Some(text),
             ..found
         },
-        Piece::Issue | Piece::Inner => Match {
+        Piece::Issue | Piece::PlainIssue | Piece::Inner => Match {
             issue: Some(text),
             ..found
         },

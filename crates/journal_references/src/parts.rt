@@ -1,11 +1,12 @@
 //! The parts of forms, and how many bytes of a text each takes.
 
 ghost use Rattle.std.specs.Prelude.{◌≡◌, ◌≤◌, ◌+◌, IfSome, length};
-ghost use Rattle.std.specs.List.{prefix_len};
 ghost use Rattle.journal_references.specs.Parts as spec;
 
+use crate::dates::{begins_with_day, date_length, month_length};
 use crate::pieces::{Piece, piece_length};
-use crate::words::{Word, letters, word_length};
+use crate::runs::{Class, run};
+use crate::words::{Word, word_length};
 
 /// A part of a form.
 #[derive(Clone, Copy)]
@@ -14,8 +15,14 @@ pub(crate) enum Part {
     Sign(u8),
     /// Punctuation, spaces, both or nothing.
     Mark,
-    /// The name of a month or a season, or nothing.
+    /// A closing bracket, or nothing.
+    Closing,
+    /// The name of a month or a season, maybe with a day, or nothing.
     Month,
+    /// The English name of a month, maybe with a day, or nothing.
+    Date,
+    /// No day before a month.
+    NoDay,
     /// A word.
     Needed(Word),
     /// A word, or nothing.
@@ -24,23 +31,12 @@ pub(crate) enum Part {
     Read(Piece),
 }
 
-fn is_space(byte: u8) -> bool
-    ensures { result ≡ spec.is_space byte }
-{
-    byte == b' '
-}
-
 /// How many spaces the text begins with.
 fn spaces(text: &[u8]) -> usize
     ensures value { result ≡ spec.spaces text.now }
     ensures within { result ≤ length text.now }
 {
-    for (at, byte) in text.iter().enumerate() {
-        if !is_space(*byte) {
-            return at;
-        }
-    }
-    text.len()
+    run(Class::Space, text)
 }
 
 fn sign_length(sign: u8, text: &[u8]) -> Option<usize>
@@ -72,32 +68,15 @@ fn mark_length(text: &[u8]) -> usize
     }
 }
 
-/// A space, a full stop or a comma.
-fn is_month_gap(byte: u8) -> bool
-    ensures { result ≡ spec.is_month_gap byte }
-{
-    byte == b' ' || byte == b'.' || byte == b','
-}
-
-/// How many of these the text begins with.
-fn month_gap(text: &[u8]) -> usize
-    ensures value { result ≡ prefix_len spec.is_month_gap text.now }
+/// How many bytes a closing bracket has, if the text begins with one.
+fn closing_length(text: &[u8]) -> usize
+    ensures value { result ≡ spec.closing_length text.now }
     ensures within { result ≤ length text.now }
 {
-    for (at, byte) in text.iter().enumerate() {
-        if !is_month_gap(*byte) {
-            return at;
-        }
+    match text {
+        [first, ..] if *first == b')' => 1,
+        _ => 0,
     }
-    text.len()
-}
-
-fn month_length(text: &[u8]) -> usize
-    ensures value { result ≡ spec.month_length text.now }
-    ensures within { result ≤ length text.now }
-{
-    let count = letters(text);
-    count + month_gap(text.split_at(count).1)
 }
 
 /// How many bytes of the text the part takes, if the text begins with it.
@@ -108,7 +87,11 @@ pub(crate) fn part_length(part: Part, text: &[u8]) -> Option<usize>
     match part {
         Part::Sign(sign) => sign_length(sign, text),
         Part::Mark => Some(mark_length(text)),
+        Part::Closing => Some(closing_length(text)),
         Part::Month => Some(month_length(text)),
+        Part::Date => Some(date_length(text)),
+        Part::NoDay if begins_with_day(text) => None,
+        Part::NoDay => Some(0),
         Part::Needed(word) => word_length(word, text),
         Part::Maybe(word) => Some(word_length(word, text).unwrap_or(0)),
         Part::Read(piece) => piece_length(piece, text),

@@ -5,6 +5,7 @@ ghost use Rattle.std.specs.Char.{is_ascii_alphabetic, is_ascii_digit};
 ghost use Rattle.std.specs.List.{list_all, list_any, prefix_len};
 ghost use Rattle.journal_references.specs.Pieces as spec;
 
+use crate::runs::{Class, are, count, has_one, run};
 use crate::words::letters;
 use uri_text::begins_in_any_case;
 
@@ -26,6 +27,8 @@ pub(crate) enum Piece {
     Plain,
     /// The number of an issue.
     Issue,
+    /// The number of an issue that does not end with a year.
+    PlainIssue,
     /// An issue in brackets.
     Inner,
     /// A page or a range of pages, or the number of an article.
@@ -36,7 +39,7 @@ pub(crate) enum Piece {
     Days,
 }
 
-fn is_hyphen(byte: u8) -> bool
+pub(crate) fn is_hyphen(byte: u8) -> bool
     ensures { result ≡ spec.is_hyphen byte }
 {
     byte == b'-'
@@ -84,37 +87,25 @@ fn is_closed(text: &[u8]) -> bool
 fn are_digits(text: &[u8]) -> bool
     ensures { result ≡ list_all is_ascii_digit text.now }
 {
-    for byte in text {
-        if !byte.is_ascii_digit() {
-            return false;
-        }
-    }
-    true
+    are(Class::Digit, text)
 }
 
 pub(crate) fn has_digit(text: &[u8]) -> bool
     ensures { result ≡ list_any is_ascii_digit text.now }
 {
-    for byte in text {
-        if byte.is_ascii_digit() {
-            return true;
-        }
-    }
-    false
+    has_one(Class::Digit, text)
 }
 
 fn count_of_digits(text: &[u8]) -> usize
     ensures { result ≡ count_by is_ascii_digit text.now }
 {
-    text.iter().filter(|byte| byte.is_ascii_digit()).count()
+    count(Class::Digit, text)
 }
 
 fn count_of_letters(text: &[u8]) -> usize
     ensures { result ≡ count_by is_ascii_alphabetic text.now }
 {
-    text.iter()
-        .filter(|byte| byte.is_ascii_alphabetic())
-        .count()
+    count(Class::Letter, text)
 }
 
 /// Whether this is a year from 1500 to 2099.
@@ -147,6 +138,13 @@ fn ends_with_year(text: &[u8]) -> bool
     is_year(text.split_at(text.len().saturating_sub(4)).1)
 }
 
+/// Whether the digits at the beginning are a year.
+fn begins_with_year(text: &[u8]) -> bool
+    ensures { result ≡ spec.begins_with_year text.now }
+{
+    is_year(text.split_at(run(Class::Digit, text)).0)
+}
+
 /// Whether this is an issue, as it may be in brackets.
 fn is_inner(text: &[u8]) -> bool
     ensures { result ≡ spec.is_inner text.now }
@@ -154,7 +152,7 @@ fn is_inner(text: &[u8]) -> bool
     (has_digit(text) || begins_in_any_case(text, b"suppl"))
         && is_closed(text)
         && text.len() <= MOST_BYTES_INSIDE
-        && !ends_with_year(text)
+        && !(ends_with_year(text) || begins_with_year(text))
 }
 
 /// Whether this may be a page in digits, or a range that begins with one.
@@ -168,7 +166,7 @@ fn is_numbered(text: &[u8]) -> bool
             || byte_at(text, text.len().saturating_sub(2)).is_ascii_digit())
 }
 
-fn is_roman_byte(byte: u8) -> bool
+pub(crate) fn is_roman_byte(byte: u8) -> bool
     ensures { result ≡ spec.is_roman_byte byte }
 {
     let letter = byte.to_ascii_lowercase();
@@ -178,23 +176,13 @@ fn is_roman_byte(byte: u8) -> bool
 fn are_roman(text: &[u8]) -> bool
     ensures { result ≡ list_all spec.is_roman_byte text.now }
 {
-    for byte in text {
-        if !is_roman_byte(*byte) {
-            return false;
-        }
-    }
-    true
+    are(Class::RomanByte, text)
 }
 
 fn has_hyphen(text: &[u8]) -> bool
     ensures { result ≡ list_any spec.is_hyphen text.now }
 {
-    for byte in text {
-        if is_hyphen(*byte) {
-            return true;
-        }
-    }
-    false
+    has_one(Class::Hyphen, text)
 }
 
 /// Whether this is a range of pages in Roman numerals.
@@ -223,7 +211,8 @@ impl Piece {
         ensures { result ≡ spec.is_byte self byte }
     {
         match self {
-            Piece::Volume | Piece::Plain | Piece::Issue | Piece::Year => is_number_byte(byte),
+            Piece::Volume | Piece::Plain | Piece::Issue => is_number_byte(byte),
+            Piece::PlainIssue | Piece::Year => is_number_byte(byte),
             Piece::Inner | Piece::Days => is_inner_byte(byte),
             Piece::Pages => is_page_byte(byte),
         }
@@ -250,6 +239,7 @@ impl Piece {
             Piece::Volume => is_volume(text),
             Piece::Plain => is_volume(text) && !is_year(text),
             Piece::Issue => is_issue(text),
+            Piece::PlainIssue => is_issue(text) && !ends_with_year(text),
             Piece::Inner => is_inner(text),
             Piece::Pages => are_pages(text),
             Piece::Year => is_year(text),

@@ -5,6 +5,8 @@ ghost use Rattle.std.specs.Str.{str_eq_ignore_ascii_case};
 ghost use Rattle.text_model.specs.Texts.{texts_of};
 ghost use Rattle.journal_references.specs.Words as spec;
 
+use crate::runs::{Class, run};
+
 /// What a word is before.
 #[derive(Clone, Copy)]
 pub(crate) enum Word {
@@ -14,10 +16,13 @@ pub(crate) enum Word {
     OfIssue,
     /// Pages, or the number of an article.
     OfPages,
+    /// None of these: the word is a month.
+    OfMonth,
 }
 
 impl Word {
-    /// The words for it and their abbreviations, in English, German, French, Spanish, Portuguese and Italian.
+    /// The words for it and their abbreviations, in English, German, French, Spanish, Portuguese and Italian; months in
+    /// English.
     fn words(self) -> &'static [&'static str]
         ensures { texts_of result.now ≡ spec.words self }
     {
@@ -45,7 +50,40 @@ impl Word {
             Word::OfPages => &[
                 "p", "pp", "pg", "pgs", "page", "pages", "s", "seite", "seiten", "art", "article",
             ],
+            Word::OfMonth => &[
+                "jan",
+                "january",
+                "feb",
+                "february",
+                "mar",
+                "march",
+                "apr",
+                "april",
+                "may",
+                "jun",
+                "june",
+                "jul",
+                "july",
+                "aug",
+                "august",
+                "sep",
+                "sept",
+                "september",
+                "oct",
+                "october",
+                "nov",
+                "november",
+                "dec",
+                "december",
+            ],
         }
+    }
+
+    /// Whether the name is one of its words.
+    pub(crate) fn is_name(self, name: &[u8]) -> bool
+        ensures { result ≡ spec.is_one_of (spec.words self) name.now }
+    {
+        is_one_of(self.words(), name)
     }
 }
 
@@ -73,32 +111,15 @@ pub(crate) fn letters(text: &[u8]) -> usize
     ensures value { result ≡ spec.letters text.now }
     ensures within { result ≤ length text.now }
 {
-    for (at, byte) in text.iter().enumerate() {
-        if !byte.is_ascii_alphabetic() {
-            return at;
-        }
-    }
-    text.len()
+    run(Class::Letter, text)
 }
 
-/// A space, a full stop or a colon.
-fn is_gap(byte: u8) -> bool
-    ensures { result ≡ spec.is_gap byte }
-{
-    byte == b' ' || byte == b'.' || byte == b':'
-}
-
-/// How many of these the text begins with.
+/// How many spaces, full stops and colons the text begins with.
 fn gap(text: &[u8]) -> usize
     ensures value { result ≡ spec.gap text.now }
     ensures within { result ≤ length text.now }
 {
-    for (at, byte) in text.iter().enumerate() {
-        if !is_gap(*byte) {
-            return at;
-        }
-    }
-    text.len()
+    run(Class::WordGap, text)
 }
 
 /// Whether this is one letter, as in `v. 12`, but not `p`, as in `p45`.
@@ -112,7 +133,7 @@ fn needs_gap(word: &[u8]) -> bool
 fn is_word(word: Word, name: &[u8], after: usize) -> bool
     ensures { result ≡ spec.is_word word name.now after }
 {
-    is_one_of(word.words(), name) && (after > 0 || !needs_gap(name))
+    word.is_name(name) && (after > 0 || !needs_gap(name))
 }
 
 /// How many bytes the word takes with which the text begins, and what is between it and what is next.

@@ -121,14 +121,16 @@ const TWO_NUMBERS: [(&str, &str); 31] = [
     ("12(3", "12|3"),
 ];
 
-const SUPPLEMENTS: [(&str, &str); 25] = [
+const SUPPLEMENTS: [(&str, &str); 27] = [
     ("12 Suppl", "12||"),
     ("12 (Suppl)", "12||"),
     ("12, suppl. 1", "12||1"),
     ("12; Suppl 1", "12||1"),
     ("12: Suppl 1", "12||1"),
     ("12 Suppl1", "12||1"),
-    ("12 suppl_1", "12||1"),
+    ("12 Suppl. 1", "12||1"),
+    ("12 Supplt 1", "12||1"),
+    ("12 supplementary 1", "12||1"),
     ("12 Suppl. (1)", "12||1"),
     ("12 Suppl No. 1", "12||1"),
     ("12 Suppl 1-2", "12||1-2"),
@@ -149,7 +151,7 @@ const SUPPLEMENTS: [(&str, &str); 25] = [
     ("supplementum 4", "||4"),
 ];
 
-const OTHERS: [(&str, &str); 24] = [
+const OTHERS: [(&str, &str); 33] = [
     ("", "|"),
     ("Vol.", "|"),
     ("XII", ""),
@@ -169,6 +171,15 @@ const OTHERS: [(&str, &str); 24] = [
     ("x 12(3)", ""),
     ("no. 3, vol. 12", ""),
     ("12 (vol. 3)", ""),
+    ("75 (3 Pt 2)", ""),
+    ("75 Pt A", ""),
+    ("suppl_1", ""),
+    ("Suppl_1", ""),
+    ("12 suppl_1", ""),
+    ("12_13", ""),
+    ("vol_12", ""),
+    ("suppl-1", "suppl-1|"),
+    ("Vol-12", "Vol-12|"),
     ("12 Suppl AB", ""),
     ("12 Suppl 1 2", ""),
     ("Special Issue", ""),

@@ -110,6 +110,22 @@ const RANGES: [(&str, &str); 28] = [
     ("xii-xx", "xii|xx"),
 ];
 
+const RANGES_WITH_A_WORD: [(&str, &str); 13] = [
+    ("101 to 118", "101|118"),
+    ("101 TO 118", "101|118"),
+    ("101 bis 118", "101|118"),
+    ("pp. 101 to 118", "101|118"),
+    ("S. 101 bis S. 118", "101|118"),
+    ("101 to 18", "101|118"),
+    ("e101 to e118", "e101|e118"),
+    ("xii to xx", "xii|xx"),
+    ("101 to 118, 120-125", "101|118"),
+    ("118 to 101", "118|"),
+    ("101 and 118", "101|"),
+    ("see to 118", "118|"),
+    ("101 to", "101|"),
+];
+
 const MIXED: [(&str, &str); 3] = [("xii-45", "xii|45"), ("C-12", ""), ("45-e67", "45|e67")];
 
 /// Numbers of articles, which a source may send in place of pages.
@@ -146,6 +162,7 @@ const NONE: [(&str, &str); 15] = [
 fn pages_are_found(rt: HostRuntime) -> Result<(), Fail> {
     assert_eq!(rt; first_other(rt.alloc(), &FIRST_PAGES)?, None);
     assert_eq!(rt; first_other(rt.alloc(), &RANGES)?, None);
+    assert_eq!(rt; first_other(rt.alloc(), &RANGES_WITH_A_WORD)?, None);
     assert_eq!(rt; first_other(rt.alloc(), &MIXED)?, None);
     assert_eq!(rt; first_other(rt.alloc(), &ARTICLES)?, None);
     assert_eq!(rt; first_other(rt.alloc(), &NONE)?, None);

@@ -119,7 +119,7 @@ const OF_GUIDES: [(&str, &str); 29] = [
     ),
     (
         "Annals of Tidal Studies. Mar2012, Vol. 12 Issue 3, p45-67. 23p.",
-        "Annals of Tidal Studies. Mar2012|12|3|45-67|",
+        "Annals of Tidal Studies|12|3|45-67|2012",
     ),
     (
         "Annalen der Gezeiten, Jg. 12 (2012), H. 3, S. 45-67",
@@ -147,6 +147,119 @@ const OF_GUIDES: [(&str, &str); 29] = [
         "Annals of Tidal Studies 12.3 (2012): 45-67. Print.",
         "Annals of Tidal Studies|12|3|45-67|2012",
     ),
+];
+
+/// Days, months and seasons with the year, after the volume and before it.
+const OF_DATES: [(&str, &str); 41] = [
+    (
+        "Tides 12, no. 3, 15 Mar. 2012, pp. 45-67",
+        "Tides|12|3|45-67|2012",
+    ),
+    (
+        "Tides 12 (3), 15 March 2012, 45-67",
+        "Tides|12|3|45-67|2012",
+    ),
+    (
+        "Tides 12(3), March 15, 2012, pp. 45-67",
+        "Tides|12|3|45-67|2012",
+    ),
+    (
+        "Tides 12(3) (15. March 2012): 45-67",
+        "Tides|12|3|45-67|2012",
+    ),
+    (
+        "Tides, vol. 12, no. 3, Mar-Apr 2012, pp. 45-67",
+        "Tides|12|3|45-67|2012",
+    ),
+    (
+        "Tides, vol. 12, no. 3 (March/April 2012)",
+        "Tides|12|3||2012",
+    ),
+    (
+        "Tides, vol. 12, no. 3, March, 2012, p. 45",
+        "Tides|12|3|45|2012",
+    ),
+    (
+        "Tides, vol. 12, no. 3, Spring/Summer 2012, pp. 45-67",
+        "Tides|12|3|45-67|2012",
+    ),
+    (
+        "Gezeiten, Jg. 12, H. 3, M\u{e4}rz 2012, S. 45-67",
+        "Gezeiten|12|3|45-67|2012",
+    ),
+    ("Tides, vol. 12, no. 3, 15 Mar.", "Tides|12|3||"),
+    (
+        "Tides, vol. 12, no. 3, p. 15, Mar. 2012",
+        "Tides|12|3|15|2012",
+    ),
+    ("Tides 12(3), 15, March 2012", "Tides|12|3|15|2012"),
+    ("Tides 12(3), 45 (March 2012)", "Tides|12|3|45|2012"),
+    ("Tides. 2012 Mar 15;12(3):45-67", "Tides|12|3|45-67|2012"),
+    ("Tides, 15 March 2012;12(3):45-67", "Tides|12|3|45-67|2012"),
+    ("Tides March 2012;12:45-67", "Tides|12||45-67|2012"),
+    (
+        "Tides, 15 March 2012, 12(3), 45-67",
+        "Tides|12|3|45-67|2012",
+    ),
+    ("Tides, March 15, 2012, vol. 12, no. 3", "Tides|12|3||2012"),
+    ("Tides. Mar2012, Vol. 12 Issue 3", "Tides|12|3||2012"),
+    ("Tides (2012) 12(3): 45-67", "Tides|12|3|45-67|2012"),
+    (
+        "Tides (Mar-Apr 2012), vol. 12, no. 3, pp. 45-67",
+        "Tides|12|3|45-67|2012",
+    ),
+    ("Tides, 2012. 12(3): p. 45-67.", "Tides|12|3|45-67|2012"),
+    ("Tides 2012 12(3)", "Tides|12|3||2012"),
+    ("Tides, 2012, vol. 12, pp. 45-67", "Tides|12||45-67|2012"),
+    ("Tides, Apr 2012, 12, 45-67", "Tides|12||45-67|2012"),
+    ("March 2012;12:45-67", "|12||45-67|2012"),
+    ("Tides of May 12(3), 45-67", "Tides of May|12|3|45-67|"),
+    ("Tides of May, 2012(3), 45-67", "Tides of May|2012|3|45-67|"),
+    (
+        "J Marketing 2012;12(3):45-67",
+        "J Marketing|12|3|45-67|2012",
+    ),
+    ("Tides 12(3), 15 (2012)", "Tides|12|3|15|2012"),
+    ("Tides 12, no. 3, May 2012: 45-67", "Tides|12|3|45-67|2012"),
+    ("Tides 1 Jan 2012;12(3)", "Tides|12|3||2012"),
+    ("Tides 12(3) (2012)", "Tides|12|3||2012"),
+    ("Tides 12(3), (March 15, 2012), p. 45", "Tides|12|3|45|2012"),
+    ("Tides 12 (2012 Mar 15) 45-67", "Tides|12||45-67|2012"),
+    ("Tides vol. 12 (2012), no. 3", "Tides|12|3||2012"),
+    ("Tides 2012;12, no. 3, pp. 45-67", "Tides|12|3|45-67|2012"),
+    ("Tides 2012;12.3:45-67", "Tides|12|3|45-67|2012"),
+    ("Tides (2012 Mar), vol. 12, no. 3", "Tides|12|3||2012"),
+    ("Tides, vol. 12, pp. 45-67 (2012)", "Tides|12||45-67|2012"),
+    (
+        "Tides 12, 3, March 15, 2012, pp. 45-67",
+        "Tides|12|3|45-67|2012",
+    ),
+];
+
+/// Pages and numbers of articles that are no years, and volumes with an issue after a comma.
+const OF_ARTICLES: [(&str, &str); 19] = [
+    ("Tides 12(3), e2003", "Tides|12|3|e2003|"),
+    ("Tides 12(3):e2003", "Tides|12|3|e2003|"),
+    ("Tides 12(3), e2003 (2012)", "Tides|12|3|e2003|2012"),
+    ("Tides 2012;12(3):e2003", "Tides|12|3|e2003|2012"),
+    ("Tides 12, no. 3, e2003", "Tides|12|3|e2003|"),
+    ("Tides 12(3), ABC2003", "Tides|12|3|ABC2003|"),
+    ("Tides 12(3), p. 2003", "Tides|12|3|2003|"),
+    ("Tides 12(3), Article 2003", "Tides|12|3|2003|"),
+    ("Tides 12(3), art. no. 2003", "Tides|12|3|2003|"),
+    ("Tides, vol. 12, no. 3, p. 45, 2012", "Tides|12|3|45|2012"),
+    (
+        "Tides, vol. 12, no. 3, Article 45, 2012",
+        "Tides|12|3|45|2012",
+    ),
+    ("Tides 12, 3, Article 45", "Tides|12|3|45|"),
+    ("Tides 12, 3, Article 45, 2012", "Tides|12|3|45|2012"),
+    ("Tides 12, 3, pp. 45-67 (2012)", "Tides|12|3|45-67|2012"),
+    ("Tides 12, 3, p. 45", "Tides|12|3|45|"),
+    ("Tides 12, 3, Article 45 (2012)", "Tides|12|3|45|2012"),
+    ("Tides 12, 3, 45-67 (2012)", "Tides|12|3|45-67|2012"),
+    ("Tides 2012, 12, 3, 45-67", "Tides|12|3|45-67|2012"),
+    ("Tides 2012, 12, 45-67", "Tides|12||45-67|2012"),
 ];
 
 /// Names that have numbers, years before a reference that belong to no part of it, and the ends of names.
@@ -181,7 +294,7 @@ const OF_NAMES: [(&str, &str); 15] = [
 ];
 
 /// Titles, and numbers in texts that are no references.
-const OTHERS: [&str; 30] = [
+const OTHERS: [&str; 34] = [
     "",
     "Annals of Tidal Studies",
     "Catch 22",
@@ -212,11 +325,17 @@ const OTHERS: [&str; 30] = [
     "doi:10.5555/12(3), 45-67",
     "Tides A12(3), 45-67",
     "Tides 12345678A9(3), 45-67",
+    "Tides 12(3), 15 March",
+    "Tides, 15 March 2012, 45-67",
+    "Tides 2012, 12, 15 March",
+    "Tides 2012 12, 45-67",
 ];
 
 #[test]
 fn references_are_found(rt: HostRuntime) -> Result<(), Fail> {
     assert_eq!(rt; first_other(rt.alloc(), &OF_GUIDES)?, None);
+    assert_eq!(rt; first_other(rt.alloc(), &OF_DATES)?, None);
+    assert_eq!(rt; first_other(rt.alloc(), &OF_ARTICLES)?, None);
     assert_eq!(rt; first_other(rt.alloc(), &OF_NAMES)?, None);
     Ok(())
 }
