@@ -8,7 +8,7 @@ use Rattle.retraction_remarks.specs.Titles.{is_blank, without_one, without_remar
 use Rattle.retraction_remarks.proofs.OneLess.{part_all, part_part, part_short, one_left, one_less}
 use Rattle.retraction_remarks.proofs.Fixpoint.{all_kept, free_stays, rest_free}
 
-wordless_free : (t : Text) → has_word t ≡ false → IsRemarkFree t
+pub wordless_free : (t : Text) → has_word t ≡ false → IsRemarkFree t
 wordless_free t h = by_one (without_one t) refl
   where
     by_one : (o : Option Text) → without_one t ≡ o → o ≡ None

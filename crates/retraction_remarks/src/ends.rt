@@ -33,7 +33,12 @@ fn is_loose(byte: u8) -> bool
 fn are_loose(text: &[u8]) -> bool
     ensures { result ≡ list_all spec.is_loose text.now }
 {
-    text.iter().all(|byte| is_loose(*byte))
+    for byte in text {
+        if !is_loose(*byte) {
+            return false;
+        }
+    }
+    true
 }
 
 /// Whether nothing else is left of a title.
@@ -90,7 +95,12 @@ fn is_note(text: &[u8]) -> bool
 fn are_digits(text: &[u8]) -> bool
     ensures { result ≡ list_all is_ascii_digit text.now }
 {
-    text.iter().all(|byte| byte.is_ascii_digit())
+    for byte in text {
+        if !byte.is_ascii_digit() {
+            return false;
+        }
+    }
+    true
 }
 
 fn is_year(text: &[u8]) -> bool
@@ -153,7 +163,12 @@ fn is_bracketed(text: &[u8]) -> bool
 fn is_capital(text: &[u8]) -> bool
     ensures { result ≡ spec.is_capital text.now }
 {
-    text.iter().all(|byte| !byte.is_ascii_lowercase())
+    for byte in text {
+        if byte.is_ascii_lowercase() {
+            return false;
+        }
+    }
+    true
 }
 
 /// Whether this is a remark in capitals after a title.

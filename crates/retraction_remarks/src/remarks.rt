@@ -8,6 +8,7 @@ ghost use Rattle.retraction_remarks.specs.Titles as spec;
 
 use crate::ends::{End, before_end};
 use crate::parts::{Part, after_parts};
+use uri_text::begins_in_any_case;
 
 /// A form of remarks.
 #[derive(Clone, Copy)]
@@ -101,7 +102,12 @@ fn left(form: Form, title: &[u8]) -> Option<&[u8]>
 fn is_blank(text: &[u8]) -> bool
     ensures { result ≡ spec.is_blank text.now }
 {
-    text.iter().all(|byte| *byte <= b' ')
+    for byte in text {
+        if *byte > b' ' {
+            return false;
+        }
+    }
+    true
 }
 
 /// The same, unless it is blank.
@@ -125,11 +131,28 @@ fn first_left<'a>(forms: &[Form], title: &'a [u8]) -> Option<&'a [u8]>
     None
 }
 
+/// Whether the word of each remark is in the title, in capital or small letters.
+fn has_word(title: &[u8]) -> bool
+    ensures { result ≡ spec.has_word title.now }
+{
+    let mut rest = title;
+    while let [_, after @ ..] = rest {
+        if begins_in_any_case(rest, b"retracted") {
+            return true;
+        }
+        rest = after;
+    }
+    false
+}
+
 /// What is left of a title without one remark, if there is one and something else.
 #[tactic(auto, unfolding(crate::specs::Titles::without_one))]
 fn without_one(title: &[u8]) -> Option<&[u8]>
     ensures { option_copied result ≡ spec.without_one title.now }
 {
+    if !has_word(title) {
+        return None;
+    }
     let forms = [Form::InBrackets, Form::Translated, Form::Plain, Form::After];
     first_left(&forms, title)
 }

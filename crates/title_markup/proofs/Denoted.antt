@@ -1,7 +1,7 @@
 -- What a reference denotes has fewer bytes than the reference.
 use Rattle.std.proofs.Common.{◌≡◌, ℕ, ◌+◌, ◌<◌, ◌≤◌, ◌⊎◌, inl, inr, List, [], ◌∷◌, Bool, true, false, cond, Option, Some, None, length, drop}
 use Rattle.std.proofs.Common.{refl, sym, ap, ◌∙◌, subst, arith}
-use Rattle.std.specs.Prelude.{◌==◌, ◌&&◌, ◌||◌, nat_lt, nat_le, encode_utf8}
+use Rattle.std.specs.Prelude.{◌++◌, ◌==◌, ◌&&◌, ◌||◌, nat_lt, nat_le, encode_utf8}
 use Rattle.std.specs.Char.{IsScalar, is_digit, digit_value, len_utf8}
 use Rattle.std.specs.List.{list_all, slice_get}
 use Rattle.std.specs.Str.{bytes_eq}
@@ -14,7 +14,7 @@ use Rattle.text_model.specs.Texts.{Text}
 use Rattle.title_markup.specs.declared.references.Base.{Base}
 use Rattle.title_markup.specs.declared.references.Base.TheVariants.{Decimal, Hexadecimal}
 use Rattle.title_markup.specs.Names.{latin_names, latin_characters, greek_names, greek_characters, marks_names, marks_characters}
-use Rattle.title_markup.specs.References.{are_digits, value, is_character, character, number_in, numbered, listed, or_else, named, character_of}
+use Rattle.title_markup.specs.References.{are_digits, value, is_character, character, number_in, numbered, listed, named, character_of}
 
 -- a character, and how many bytes its reference has
 pub record IsDenoted (n c : ℕ) : Type 0 where
@@ -95,29 +95,11 @@ is_long name = nat_le 2 (length name)
 abbrev is_small : ℕ → Bool
 is_small c = is_character c && nat_lt c 0x10000
 
-latin_long : list_all is_long latin_names ≡ true
-unfolding latin_names
-latin_long = refl
+all_long : list_all is_long (latin_names ++ greek_names ++ marks_names) ≡ true
+all_long = refl
 
-latin_small : list_all is_small latin_characters ≡ true
-unfolding latin_characters
-latin_small = refl
-
-greek_long : list_all is_long greek_names ≡ true
-unfolding greek_names
-greek_long = refl
-
-greek_small : list_all is_small greek_characters ≡ true
-unfolding greek_characters
-greek_small = refl
-
-marks_long : list_all is_long marks_names ≡ true
-unfolding marks_names
-marks_long = refl
-
-marks_small : list_all is_small marks_characters ≡ true
-unfolding marks_characters
-marks_small = refl
+all_small : list_all is_small (latin_characters ++ greek_characters ++ marks_characters) ≡ true
+all_small = refl
 
 after_small : (cs : List ℕ) → list_all is_small cs ≡ true → list_all is_small (drop 1 cs) ≡ true
 after_small [] h = h
@@ -144,24 +126,10 @@ listed_denoted (other ∷ names) characters name c long small h =
         record { scalar = is_scalar c is.0; short = omega (arith, size, two) }
     by_name false e others g = others g
 
-either_some : (o p : Option ℕ) (c : ℕ) → or_else o p ≡ Some c → (o ≡ Some c) ⊎ (p ≡ Some c)
-either_some None p c h = inr h
-either_some (Some d) p c h = inl h
-
 named_denoted : (name : Text) (c : ℕ) → named name ≡ Some c → IsDenoted (length name + 2) c
 unfolding named
-named_denoted name c h = by_latin (either_some (listed latin_names latin_characters name) _ c h)
-  where
-    by_greek : (listed greek_names greek_characters name ≡ Some c) ⊎ (listed marks_names marks_characters name ≡ Some c)
-        → IsDenoted (length name + 2) c
-    by_greek (inl g) = listed_denoted greek_names greek_characters name c greek_long greek_small g
-    by_greek (inr g) = listed_denoted marks_names marks_characters name c marks_long marks_small g
-
-    by_latin : (listed latin_names latin_characters name ≡ Some c)
-        ⊎ (or_else (listed greek_names greek_characters name) (listed marks_names marks_characters name) ≡ Some c)
-        → IsDenoted (length name + 2) c
-    by_latin (inl g) = listed_denoted latin_names latin_characters name c latin_long latin_small g
-    by_latin (inr g) = by_greek (either_some (listed greek_names greek_characters name) _ c g)
+named_denoted name c h =
+    listed_denoted (latin_names ++ greek_names ++ marks_names) (latin_characters ++ greek_characters ++ marks_characters) name c all_long all_small h
 
 -- ---- references
 

@@ -1,6 +1,7 @@
 pub mod TextEnds
 pub mod Numbers
 pub mod Denoted
+pub mod Sizes
 pub mod Shortening
 pub mod Settling
 pub mod Reading

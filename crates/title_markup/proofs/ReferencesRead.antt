@@ -12,7 +12,6 @@ use Rattle.std.proofs.lemmas.Str.{encode_ascii, length-encode}
 use Rattle.text_model.specs.Texts.{Text}
 use Rattle.title_markup.specs.declared.references.Reference.{Reference}
 use Rattle.title_markup.specs.Endings.{opening, closing, ampersand, semicolon, is_closing, last_byte, last_bytes, from_last, or_other, has}
-use Rattle.title_markup.specs.Names.{latin_names, latin_characters, greek_names, greek_characters, marks_names, marks_characters}
 use Rattle.title_markup.specs.Tags.{tag_of, tag_length}
 use Rattle.title_markup.specs.References.{named, character_of, body_of, reference_of, reference_ending, reference_with, is_body}
 use Rattle.title_markup.specs.Titles.{before_reference, shortened, settled, read_after, read, IsMarkupFree}
@@ -114,11 +113,11 @@ reference_read body front back c h is =
 -- ---- examples
 
 pub ampersand_read : (front back : Text) → read (front ++ codes "&amp;" ++ back) ≡ read (front ++ encode_utf8 0x26 ++ back)
-unfolding named latin_names latin_characters greek_names greek_characters marks_names marks_characters
+unfolding named
 ampersand_read front back = reference_read (codes "amp") front back 0x26 refl refl
 
 pub letter_read : (front back : Text) → read (front ++ codes "&eacute;" ++ back) ≡ read (front ++ encode_utf8 0xe9 ++ back)
-unfolding named latin_names latin_characters greek_names greek_characters marks_names marks_characters
+unfolding named
 letter_read front back = reference_read (codes "eacute") front back 0xe9 refl refl
 
 pub decimal_read : (front back : Text) → read (front ++ codes "&#233;" ++ back) ≡ read (front ++ encode_utf8 0xe9 ++ back)

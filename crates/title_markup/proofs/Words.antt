@@ -25,6 +25,21 @@ words_more text front i begun gap h =
     append_assoc front (written (is_space b) (begun && gap) b) (words_after (begun || not (is_space b)) (is_space b) (drop (i + 1) text))
     ∙ ap (λ t. front ++ words_after begun gap t) (sym (drop_more text i 0 h))
 
+pub words_after_byte : (text before after all : Text) (i : ℕ) (begun gap passed next is next_gap : Bool) → i < length text
+    → is ≡ is_space (get_or text i 0) → passed ≡ (begun && gap) → next ≡ (begun || not is) → next_gap ≡ is
+    → after ≡ before ++ written is passed (get_or text i 0) → before ++ words_after begun gap (drop i text) ≡ all
+    → after ++ words_after next next_gap (drop (i + 1) text) ≡ all
+words_after_byte text before after all i begun gap passed next is next_gap h space pass then gap_is more so_far =
+    let b = get_or text i 0 in
+    let rest = drop (i + 1) text in
+    let seen : next ≡ (begun || not (is_space b)) = then ∙ ap (λ s. begun || not s) space in
+    let appended : after ≡ before ++ written (is_space b) (begun && gap) b =
+    more ∙ ap (λ s. before ++ written s passed b) space ∙ ap (λ p. before ++ written (is_space b) p b) pass in
+    ap (λ a. a ++ words_after next next_gap rest) appended
+    ∙ ap (λ n. (before ++ written (is_space b) (begun && gap) b) ++ words_after n next_gap rest) seen
+    ∙ ap (λ g. (before ++ written (is_space b) (begun && gap) b) ++ words_after (begun || not (is_space b)) g rest) (gap_is ∙ space)
+    ∙ words_more text before i begun gap h ∙ so_far
+
 -- ---- texts that stay
 
 space_is : (b : ℕ) → (b == 0x20) ≡ true → is_space b ≡ true

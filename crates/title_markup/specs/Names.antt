@@ -1,9 +1,10 @@
 -- The names of characters (HTML 4.01, section 24; those of XML 1.0, section 4.6, also in capital letters), and the characters in their order.
-use Rattle.std.specs.Prelude.{ℕ, List, [], ◌∷◌, ◌++◌, codes}
+use Rattle.std.specs.Prelude.{ℕ, ◌==◌, min, max, Bool, List, [], ◌∷◌, ◌++◌, length, codes, if◌then◌else◌}
+use Rattle.std.specs.List.{filter}
 use Rattle.text_model.specs.Texts.{Text}
 
 -- the marks of HTML and XML, and Latin letters, punctuation, arrows and symbols
-unfoldable pub marks_names : List Text
+abbrev pub marks_names : List Text
 marks_names =
     codes "QUOT" ∷ codes "quot" ∷ codes "AMP" ∷ codes "amp" ∷ codes "apos" ∷ codes "LT" ∷ codes "lt" ∷ codes "GT" ∷ codes "gt" ∷
     codes "OElig" ∷ codes "oelig" ∷ codes "Scaron" ∷ codes "scaron" ∷ codes "Yuml" ∷ codes "fnof" ∷ codes "circ" ∷ codes "tilde" ∷
@@ -20,13 +21,13 @@ marks_names =
     codes "rceil" ∷ codes "lfloor" ∷ codes "rfloor" ∷ codes "lang" ∷ codes "rang" ∷ codes "loz" ∷ codes "spades" ∷ codes "clubs" ∷
     codes "hearts" ∷ codes "diams" ∷ []
 
-unfoldable pub marks_characters : List ℕ
+abbrev pub marks_characters : List ℕ
 marks_characters =
     0x22 ∷ 0x22 ∷ codes "&&'<<>>ŒœŠšŸƒˆ˜" ++ 0x2002 ∷ 0x2003 ∷ 0x2009 ∷ 0x200c ∷ 0x200d ∷ 0x200e ∷ 0x200f ∷
     codes "–—‘’‚“”„†‡•…‰′″‹›‾⁄€ℑ℘ℜ™ℵ←↑→↓↔↵⇐⇑⇒⇓⇔∀∂∃∅∇∈∉∋∏∑−∗" ++ codes "√∝∞∠∧∨∩∪∫∴∼≅≈≠≡≤≥⊂⊃⊄⊆⊇⊕⊗⊥⋅⌈⌉⌊⌋〈〉◊♠♣♥♦"
 
 -- the characters of ISO 8859-1
-unfoldable pub latin_names : List Text
+abbrev pub latin_names : List Text
 latin_names =
     codes "nbsp" ∷ codes "iexcl" ∷ codes "cent" ∷ codes "pound" ∷ codes "curren" ∷ codes "yen" ∷ codes "brvbar" ∷ codes "sect" ∷
     codes "uml" ∷ codes "copy" ∷ codes "ordf" ∷ codes "laquo" ∷ codes "not" ∷ codes "shy" ∷ codes "reg" ∷ codes "macr" ∷ codes "deg" ∷
@@ -41,13 +42,13 @@ latin_names =
     codes "ntilde" ∷ codes "ograve" ∷ codes "oacute" ∷ codes "ocirc" ∷ codes "otilde" ∷ codes "ouml" ∷ codes "divide" ∷ codes "oslash" ∷
     codes "ugrave" ∷ codes "uacute" ∷ codes "ucirc" ∷ codes "uuml" ∷ codes "yacute" ∷ codes "thorn" ∷ codes "yuml" ∷ []
 
-unfoldable pub latin_characters : List ℕ
+abbrev pub latin_characters : List ℕ
 latin_characters =
     0xa0 ∷ codes "¡¢£¤¥¦§¨©ª«¬" ++ 0xad ∷ codes "®¯°±²³´µ¶·¸¹º»¼½¾¿ÀÁÂÃÄÅÆÇÈÉÊËÌÍÎÏÐÑÒÓÔÕÖ×ØÙÚÛÜÝ" ++
     codes "Þßàáâãäåæçèéêëìíîïðñòóôõö÷øùúûüýþÿ"
 
 -- Greek
-unfoldable pub greek_names : List Text
+abbrev pub greek_names : List Text
 greek_names =
     codes "Alpha" ∷ codes "Beta" ∷ codes "Gamma" ∷ codes "Delta" ∷ codes "Epsilon" ∷ codes "Zeta" ∷ codes "Eta" ∷ codes "Theta" ∷
     codes "Iota" ∷ codes "Kappa" ∷ codes "Lambda" ∷ codes "Mu" ∷ codes "Nu" ∷ codes "Xi" ∷ codes "Omicron" ∷ codes "Pi" ∷ codes "Rho" ∷
@@ -57,6 +58,29 @@ greek_names =
     codes "sigma" ∷ codes "tau" ∷ codes "upsilon" ∷ codes "phi" ∷ codes "chi" ∷ codes "psi" ∷ codes "omega" ∷ codes "thetasym" ∷
     codes "upsih" ∷ codes "piv" ∷ []
 
-unfoldable pub greek_characters : List ℕ
+abbrev pub greek_characters : List ℕ
 greek_characters =
     codes "ΑΒΓΔΕΖΗΘΙΚΛΜΝΞΟΠΡΣΤΥΦΧΨΩαβγδεζηθικλμνξοπρςστυφχψ" ++ codes "ωϑϒϖ"
+
+-- ---- by size
+
+-- how many letters a name has: 2 of one with fewer, and 6 of one with more
+abbrev pub size : Text → ℕ
+size name = min (max (length name) 2) 6
+
+abbrev pub has_size : ℕ → Text → Bool
+has_size n name = size name == n
+
+unfoldable pub names_of : ℕ → List Text
+names_of n = filter (has_size n) (latin_names ++ greek_names ++ marks_names)
+
+-- those at the places of names of this size
+abbrev pub characters_at : ℕ → List Text → List ℕ → List ℕ
+characters_at n [] characters = []
+characters_at n (name ∷ names) [] = []
+characters_at n (name ∷ names) (c ∷ characters) =
+    if has_size n name then c ∷ characters_at n names characters else characters_at n names characters
+
+unfoldable pub characters_of : ℕ → List ℕ
+characters_of n =
+    characters_at n (latin_names ++ greek_names ++ marks_names) (latin_characters ++ greek_characters ++ marks_characters)

@@ -51,14 +51,10 @@ abbrev pub listed : List Text → List ℕ → Text → Option ℕ
 listed [] characters name = None
 listed (other ∷ names) characters name = if bytes_eq other name then slice_get characters 0 else listed names (drop 1 characters) name
 
-abbrev pub or_else : Option ℕ → Option ℕ → Option ℕ
-or_else None other = other
-or_else (Some n) other = Some n
-
 unfoldable pub named : Text → Option ℕ
 named name =
-    or_else (listed names.latin_names names.latin_characters name)
-    (or_else (listed names.greek_names names.greek_characters name) (listed names.marks_names names.marks_characters name))
+    listed (names.latin_names ++ names.greek_names ++ names.marks_names)
+    (names.latin_characters ++ names.greek_characters ++ names.marks_characters) name
 
 -- ---- references
 

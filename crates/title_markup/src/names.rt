@@ -1,101 +1,139 @@
-//! The names of characters (HTML 4.01, section 24; those of XML 1.0, section 4.6, also in capital letters).
+//! The names of characters (HTML 4.01, section 24; those of XML 1.0, section 4.6, also in capital letters), by how many
+//! letters they have.
 
 ghost use Rattle.std.specs.Prelude.{◌≡◌};
 ghost use Rattle.text_model.specs.Texts.{texts_of};
 ghost use Rattle.title_markup.specs.Names as spec;
 
-/// Marks of HTML and XML, and Latin letters, punctuation, arrows and symbols.
-#[tactic(auto, unfolding(crate::specs::Names::marks_names))]
-pub(crate) fn marks_names() -> &'static [&'static str]
-    ensures { texts_of result.now ≡ spec.marks_names }
+/// Names of two letters.
+#[tactic(auto, unfolding(crate::specs::Names::names_of))]
+pub(crate) fn names_of_two() -> &'static [&'static str]
+    ensures { texts_of result.now ≡ spec.names_of 2 }
 {
     &[
-        "QUOT", "quot", "AMP", "amp", "apos", "LT", "lt", "GT", "gt", "OElig", "oelig", "Scaron",
-        "scaron", "Yuml", "fnof", "circ", "tilde", "ensp", "emsp", "thinsp", "zwnj", "zwj", "lrm",
-        "rlm", "ndash", "mdash", "lsquo", "rsquo", "sbquo", "ldquo", "rdquo", "bdquo", "dagger",
-        "Dagger", "bull", "hellip", "permil", "prime", "Prime", "lsaquo", "rsaquo", "oline",
-        "frasl", "euro", "image", "weierp", "real", "trade", "alefsym", "larr", "uarr", "rarr",
-        "darr", "harr", "crarr", "lArr", "uArr", "rArr", "dArr", "hArr", "forall", "part", "exist",
-        "empty", "nabla", "isin", "notin", "ni", "prod", "sum", "minus", "lowast", "radic", "prop",
-        "infin", "ang", "and", "or", "cap", "cup", "int", "there4", "sim", "cong", "asymp", "ne",
-        "equiv", "le", "ge", "sub", "sup", "nsub", "sube", "supe", "oplus", "otimes", "perp",
-        "sdot", "lceil", "rceil", "lfloor", "rfloor", "lang", "rang", "loz", "spades", "clubs",
-        "hearts", "diams",
+        "Mu", "Nu", "Xi", "Pi", "mu", "nu", "xi", "pi", "LT", "lt", "GT", "gt", "ni", "or", "ne",
+        "le", "ge",
     ]
 }
 
 /// What these names denote, in their order.
-#[tactic(auto, unfolding(crate::specs::Names::marks_characters))]
-pub(crate) fn marks_characters() -> &'static [char]
-    ensures { result.now ≡ spec.marks_characters }
+#[tactic(auto, unfolding(crate::specs::Names::characters_of))]
+pub(crate) fn characters_of_two() -> &'static [char]
+    ensures { result.now ≡ spec.characters_of 2 }
 {
     &[
-        '"', '"', '&', '&', '\'', '<', '<', '>', '>', 'Œ', 'œ', 'Š', 'š', 'Ÿ', 'ƒ', 'ˆ', '˜',
-        '\u{2002}', '\u{2003}', '\u{2009}', '\u{200c}', '\u{200d}', '\u{200e}', '\u{200f}', '–',
-        '—', '‘', '’', '‚', '“', '”', '„', '†', '‡', '•', '…', '‰', '′', '″', '‹', '›', '‾', '⁄',
-        '€', 'ℑ', '℘', 'ℜ', '™', 'ℵ', '←', '↑', '→', '↓', '↔', '↵', '⇐', '⇑', '⇒', '⇓', '⇔', '∀',
-        '∂', '∃', '∅', '∇', '∈', '∉', '∋', '∏', '∑', '−', '∗', '√', '∝', '∞', '∠', '∧', '∨', '∩',
-        '∪', '∫', '∴', '∼', '≅', '≈', '≠', '≡', '≤', '≥', '⊂', '⊃', '⊄', '⊆', '⊇', '⊕', '⊗', '⊥',
-        '⋅', '⌈', '⌉', '⌊', '⌋', '〈', '〉', '◊', '♠', '♣', '♥', '♦',
+        'Μ', 'Ν', 'Ξ', 'Π', 'μ', 'ν', 'ξ', 'π', '<', '<', '>', '>', '∋', '∨', '≠', '≤', '≥',
     ]
 }
 
-/// The characters of ISO 8859-1.
-#[tactic(auto, unfolding(crate::specs::Names::latin_names))]
-pub(crate) fn latin_names() -> &'static [&'static str]
-    ensures { texts_of result.now ≡ spec.latin_names }
+/// Names of three letters.
+#[tactic(auto, unfolding(crate::specs::Names::names_of))]
+pub(crate) fn names_of_three() -> &'static [&'static str]
+    ensures { texts_of result.now ≡ spec.names_of 3 }
 {
     &[
-        "nbsp", "iexcl", "cent", "pound", "curren", "yen", "brvbar", "sect", "uml", "copy", "ordf",
-        "laquo", "not", "shy", "reg", "macr", "deg", "plusmn", "sup2", "sup3", "acute", "micro",
-        "para", "middot", "cedil", "sup1", "ordm", "raquo", "frac14", "frac12", "frac34", "iquest",
-        "Agrave", "Aacute", "Acirc", "Atilde", "Auml", "Aring", "AElig", "Ccedil", "Egrave",
-        "Eacute", "Ecirc", "Euml", "Igrave", "Iacute", "Icirc", "Iuml", "ETH", "Ntilde", "Ograve",
-        "Oacute", "Ocirc", "Otilde", "Ouml", "times", "Oslash", "Ugrave", "Uacute", "Ucirc",
-        "Uuml", "Yacute", "THORN", "szlig", "agrave", "aacute", "acirc", "atilde", "auml", "aring",
-        "aelig", "ccedil", "egrave", "eacute", "ecirc", "euml", "igrave", "iacute", "icirc",
-        "iuml", "eth", "ntilde", "ograve", "oacute", "ocirc", "otilde", "ouml", "divide", "oslash",
-        "ugrave", "uacute", "ucirc", "uuml", "yacute", "thorn", "yuml",
+        "yen", "uml", "not", "shy", "reg", "deg", "ETH", "eth", "Eta", "Rho", "Tau", "Phi", "Chi",
+        "Psi", "eta", "rho", "tau", "phi", "chi", "psi", "piv", "AMP", "amp", "zwj", "lrm", "rlm",
+        "sum", "ang", "and", "cap", "cup", "int", "sim", "sub", "sup", "loz",
     ]
 }
 
 /// What these names denote, in their order.
-#[tactic(auto, unfolding(crate::specs::Names::latin_characters))]
-pub(crate) fn latin_characters() -> &'static [char]
-    ensures { result.now ≡ spec.latin_characters }
+#[tactic(auto, unfolding(crate::specs::Names::characters_of))]
+pub(crate) fn characters_of_three() -> &'static [char]
+    ensures { result.now ≡ spec.characters_of 3 }
 {
     &[
-        '\u{a0}', '¡', '¢', '£', '¤', '¥', '¦', '§', '¨', '©', 'ª', '«', '¬', '\u{ad}', '®', '¯',
-        '°', '±', '²', '³', '´', 'µ', '¶', '·', '¸', '¹', 'º', '»', '¼', '½', '¾', '¿', 'À', 'Á',
-        'Â', 'Ã', 'Ä', 'Å', 'Æ', 'Ç', 'È', 'É', 'Ê', 'Ë', 'Ì', 'Í', 'Î', 'Ï', 'Ð', 'Ñ', 'Ò', 'Ó',
-        'Ô', 'Õ', 'Ö', '×', 'Ø', 'Ù', 'Ú', 'Û', 'Ü', 'Ý', 'Þ', 'ß', 'à', 'á', 'â', 'ã', 'ä', 'å',
-        'æ', 'ç', 'è', 'é', 'ê', 'ë', 'ì', 'í', 'î', 'ï', 'ð', 'ñ', 'ò', 'ó', 'ô', 'õ', 'ö', '÷',
-        'ø', 'ù', 'ú', 'û', 'ü', 'ý', 'þ', 'ÿ',
+        '¥', '¨', '¬', '\u{ad}', '®', '°', 'Ð', 'ð', 'Η', 'Ρ', 'Τ', 'Φ', 'Χ', 'Ψ', 'η', 'ρ', 'τ',
+        'φ', 'χ', 'ψ', 'ϖ', '&', '&', '\u{200d}', '\u{200e}', '\u{200f}', '∑', '∠', '∧', '∩', '∪',
+        '∫', '∼', '⊂', '⊃', '◊',
     ]
 }
 
-/// Greek letters.
-#[tactic(auto, unfolding(crate::specs::Names::greek_names))]
-pub(crate) fn greek_names() -> &'static [&'static str]
-    ensures { texts_of result.now ≡ spec.greek_names }
+/// Names of four letters.
+#[tactic(auto, unfolding(crate::specs::Names::names_of))]
+pub(crate) fn names_of_four() -> &'static [&'static str]
+    ensures { texts_of result.now ≡ spec.names_of 4 }
 {
     &[
-        "Alpha", "Beta", "Gamma", "Delta", "Epsilon", "Zeta", "Eta", "Theta", "Iota", "Kappa",
-        "Lambda", "Mu", "Nu", "Xi", "Omicron", "Pi", "Rho", "Sigma", "Tau", "Upsilon", "Phi",
-        "Chi", "Psi", "Omega", "alpha", "beta", "gamma", "delta", "epsilon", "zeta", "eta",
-        "theta", "iota", "kappa", "lambda", "mu", "nu", "xi", "omicron", "pi", "rho", "sigmaf",
-        "sigma", "tau", "upsilon", "phi", "chi", "psi", "omega", "thetasym", "upsih", "piv",
+        "nbsp", "cent", "sect", "copy", "ordf", "macr", "sup2", "sup3", "para", "sup1", "ordm",
+        "Auml", "Euml", "Iuml", "Ouml", "Uuml", "auml", "euml", "iuml", "ouml", "uuml", "yuml",
+        "Beta", "Zeta", "Iota", "beta", "zeta", "iota", "QUOT", "quot", "apos", "Yuml", "fnof",
+        "circ", "ensp", "emsp", "zwnj", "bull", "euro", "real", "larr", "uarr", "rarr", "darr",
+        "harr", "lArr", "uArr", "rArr", "dArr", "hArr", "part", "isin", "prod", "prop", "cong",
+        "nsub", "sube", "supe", "perp", "sdot", "lang", "rang",
     ]
 }
 
 /// What these names denote, in their order.
-#[tactic(auto, unfolding(crate::specs::Names::greek_characters))]
-pub(crate) fn greek_characters() -> &'static [char]
-    ensures { result.now ≡ spec.greek_characters }
+#[tactic(auto, unfolding(crate::specs::Names::characters_of))]
+pub(crate) fn characters_of_four() -> &'static [char]
+    ensures { result.now ≡ spec.characters_of 4 }
 {
     &[
-        'Α', 'Β', 'Γ', 'Δ', 'Ε', 'Ζ', 'Η', 'Θ', 'Ι', 'Κ', 'Λ', 'Μ', 'Ν', 'Ξ', 'Ο', 'Π', 'Ρ', 'Σ',
-        'Τ', 'Υ', 'Φ', 'Χ', 'Ψ', 'Ω', 'α', 'β', 'γ', 'δ', 'ε', 'ζ', 'η', 'θ', 'ι', 'κ', 'λ', 'μ',
-        'ν', 'ξ', 'ο', 'π', 'ρ', 'ς', 'σ', 'τ', 'υ', 'φ', 'χ', 'ψ', 'ω', 'ϑ', 'ϒ', 'ϖ',
+        '\u{a0}', '¢', '§', '©', 'ª', '¯', '²', '³', '¶', '¹', 'º', 'Ä', 'Ë', 'Ï', 'Ö', 'Ü', 'ä',
+        'ë', 'ï', 'ö', 'ü', 'ÿ', 'Β', 'Ζ', 'Ι', 'β', 'ζ', 'ι', '"', '"', '\'', 'Ÿ', 'ƒ', 'ˆ',
+        '\u{2002}', '\u{2003}', '\u{200c}', '•', '€', 'ℜ', '←', '↑', '→', '↓', '↔', '⇐', '⇑', '⇒',
+        '⇓', '⇔', '∂', '∈', '∏', '∝', '≅', '⊄', '⊆', '⊇', '⊥', '⋅', '〈', '〉',
+    ]
+}
+
+/// Names of five letters.
+#[tactic(auto, unfolding(crate::specs::Names::names_of))]
+pub(crate) fn names_of_five() -> &'static [&'static str]
+    ensures { texts_of result.now ≡ spec.names_of 5 }
+{
+    &[
+        "iexcl", "pound", "laquo", "acute", "micro", "cedil", "raquo", "Acirc", "Aring", "AElig",
+        "Ecirc", "Icirc", "Ocirc", "times", "Ucirc", "THORN", "szlig", "acirc", "aring", "aelig",
+        "ecirc", "icirc", "ocirc", "ucirc", "thorn", "Alpha", "Gamma", "Delta", "Theta", "Kappa",
+        "Sigma", "Omega", "alpha", "gamma", "delta", "theta", "kappa", "sigma", "omega", "upsih",
+        "OElig", "oelig", "tilde", "ndash", "mdash", "lsquo", "rsquo", "sbquo", "ldquo", "rdquo",
+        "bdquo", "prime", "Prime", "oline", "frasl", "image", "trade", "crarr", "exist", "empty",
+        "nabla", "notin", "minus", "radic", "infin", "asymp", "equiv", "oplus", "lceil", "rceil",
+        "clubs", "diams",
+    ]
+}
+
+/// What these names denote, in their order.
+#[tactic(auto, unfolding(crate::specs::Names::characters_of))]
+pub(crate) fn characters_of_five() -> &'static [char]
+    ensures { result.now ≡ spec.characters_of 5 }
+{
+    &[
+        '¡', '£', '«', '´', 'µ', '¸', '»', 'Â', 'Å', 'Æ', 'Ê', 'Î', 'Ô', '×', 'Û', 'Þ', 'ß', 'â',
+        'å', 'æ', 'ê', 'î', 'ô', 'û', 'þ', 'Α', 'Γ', 'Δ', 'Θ', 'Κ', 'Σ', 'Ω', 'α', 'γ', 'δ', 'θ',
+        'κ', 'σ', 'ω', 'ϒ', 'Œ', 'œ', '˜', '–', '—', '‘', '’', '‚', '“', '”', '„', '′', '″', '‾',
+        '⁄', 'ℑ', '™', '↵', '∃', '∅', '∇', '∉', '−', '√', '∞', '≈', '≡', '⊕', '⌈', '⌉', '♣', '♦',
+    ]
+}
+
+/// Names of six letters and more.
+#[tactic(auto, unfolding(crate::specs::Names::names_of))]
+pub(crate) fn names_of_six() -> &'static [&'static str]
+    ensures { texts_of result.now ≡ spec.names_of 6 }
+{
+    &[
+        "curren", "brvbar", "plusmn", "middot", "frac14", "frac12", "frac34", "iquest", "Agrave",
+        "Aacute", "Atilde", "Ccedil", "Egrave", "Eacute", "Igrave", "Iacute", "Ntilde", "Ograve",
+        "Oacute", "Otilde", "Oslash", "Ugrave", "Uacute", "Yacute", "agrave", "aacute", "atilde",
+        "ccedil", "egrave", "eacute", "igrave", "iacute", "ntilde", "ograve", "oacute", "otilde",
+        "divide", "oslash", "ugrave", "uacute", "yacute", "Epsilon", "Lambda", "Omicron",
+        "Upsilon", "epsilon", "lambda", "omicron", "sigmaf", "upsilon", "thetasym", "Scaron",
+        "scaron", "thinsp", "dagger", "Dagger", "hellip", "permil", "lsaquo", "rsaquo", "weierp",
+        "alefsym", "forall", "lowast", "there4", "otimes", "lfloor", "rfloor", "spades", "hearts",
+    ]
+}
+
+/// What these names denote, in their order.
+#[tactic(auto, unfolding(crate::specs::Names::characters_of))]
+pub(crate) fn characters_of_six() -> &'static [char]
+    ensures { result.now ≡ spec.characters_of 6 }
+{
+    &[
+        '¤', '¦', '±', '·', '¼', '½', '¾', '¿', 'À', 'Á', 'Ã', 'Ç', 'È', 'É', 'Ì', 'Í', 'Ñ', 'Ò',
+        'Ó', 'Õ', 'Ø', 'Ù', 'Ú', 'Ý', 'à', 'á', 'ã', 'ç', 'è', 'é', 'ì', 'í', 'ñ', 'ò', 'ó', 'õ',
+        '÷', 'ø', 'ù', 'ú', 'ý', 'Ε', 'Λ', 'Ο', 'Υ', 'ε', 'λ', 'ο', 'ς', 'υ', 'ϑ', 'Š', 'š',
+        '\u{2009}', '†', '‡', '…', '‰', '‹', '›', '℘', 'ℵ', '∀', '∗', '∴', '⊗', '⌊', '⌋', '♠', '♥',
     ]
 }

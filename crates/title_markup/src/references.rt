@@ -63,7 +63,12 @@ fn is_digit(base: Base, byte: u8) -> bool
 fn are_digits(base: Base, text: &[u8]) -> bool
     ensures { result ≡ list_all (λ b. is_digit b (spec.radix base)) text.now }
 {
-    text.iter().all(|byte| is_digit(base, *byte))
+    for byte in text {
+        if !is_digit(base, *byte) {
+            return false;
+        }
+    }
+    true
 }
 
 /// The number that digits are; one past those of characters, if it is greater.
@@ -138,18 +143,22 @@ fn listed(names: &[&str], characters: &[char], name: &[u8]) -> Option<char>
     None
 }
 
-/// The character with this name.
-#[tactic(auto, unfolding(crate::specs::References::named))]
+/// The character with this name, looked up among the names that are as long.
 fn named(name: &[u8]) -> Option<char>
     ensures { result ≡ spec.named name.now }
 {
-    if let Some(character) = listed(names::latin_names(), names::latin_characters(), name) {
-        return Some(character);
+    let size = name.len();
+    if size <= 2 {
+        listed(names::names_of_two(), names::characters_of_two(), name)
+    } else if size == 3 {
+        listed(names::names_of_three(), names::characters_of_three(), name)
+    } else if size == 4 {
+        listed(names::names_of_four(), names::characters_of_four(), name)
+    } else if size == 5 {
+        listed(names::names_of_five(), names::characters_of_five(), name)
+    } else {
+        listed(names::names_of_six(), names::characters_of_six(), name)
     }
-    if let Some(character) = listed(names::greek_names(), names::greek_characters(), name) {
-        return Some(character);
-    }
-    listed(names::marks_names(), names::marks_characters(), name)
 }
 
 /// What a reference denotes, by what is between its `&` and `;`.

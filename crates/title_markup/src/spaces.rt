@@ -32,7 +32,7 @@ fn push_written(
 }
 
 /// The words of a text, with one space between two of them.
-#[tactic(auto, unfolding(crate::specs::Spaces::words), using(crate::proofs::Words::words_more))]
+#[tactic(auto, unfolding(crate::specs::Spaces::words))]
 fn words(alloc: Global, text: &[u8]) -> Result<Vec<u8>, AllocError>
     ensures { IfOk result (λ words. words.items ≡ spec.words text.now) }
 {

@@ -27,7 +27,12 @@ fn name_len(text: &[u8]) -> usize
     ensures value { result ≡ spec.name_length text.now }
     ensures within { result ≤ length text.now }
 {
-    text.iter().take_while(|byte| is_name_byte(**byte)).count()
+    for (at, byte) in text.iter().enumerate() {
+        if !is_name_byte(*byte) {
+            return at;
+        }
+    }
+    text.len()
 }
 
 fn begins_with_letter(text: &[u8]) -> bool
@@ -70,7 +75,12 @@ fn open_len(text: &[u8]) -> usize
     ensures value { result ≡ prefix_len (λ b. not (b == closing)) text.now }
     ensures within { result ≤ length text.now }
 {
-    text.iter().take_while(|byte| **byte != b'>').count()
+    for (at, byte) in text.iter().enumerate() {
+        if *byte == b'>' {
+            return at;
+        }
+    }
+    text.len()
 }
 
 /// Whether the first `>` is the last byte.

@@ -70,7 +70,12 @@ fn read(alloc: Global, title: &[u8]) -> Result<Vec<u8>, AllocError>
 pub(crate) fn is_blank(text: &[u8]) -> bool
     ensures { result ≡ spec.is_blank text.now }
 {
-    text.iter().all(|byte| *byte <= b' ')
+    for byte in text {
+        if *byte > b' ' {
+            return false;
+        }
+    }
+    true
 }
 
 /// The title without tags, and with the characters for references; one of which nothing would be left as it is.
