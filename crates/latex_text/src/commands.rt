@@ -1,6 +1,7 @@
 //! Commands for letters, fonts and signs.
 
 ghost use Rattle.std.specs.Prelude.{◌≡◌, ◌≤◌, drop, length, take};
+ghost use Rattle.std.specs.Option.{option_and_then};
 ghost use Rattle.text_model.specs.Texts.{texts_of};
 ghost use Rattle.latex_text.specs.Commands as spec;
 
@@ -100,6 +101,14 @@ fn of_letter(accent: u8, others: usize, base: Base) -> Option<Command>
     })
 }
 
+/// An accent with the letter that a text begins with.
+fn with_letter(accent: u8, others: usize, text: &[u8]) -> Option<Command>
+    requires { others ≤ 3 }
+    ensures { result ≡ option_and_then (spec.of_letter accent others) (spec.base_of text.now) }
+{
+    of_letter(accent, others, base_of(text)?)
+}
+
 /// An accent whose letter is in braces; the text is after the first one.
 fn braced_letter(accent: u8, text: &[u8], base: Base) -> Option<Command>
     requires { base.len ≤ 2 }
@@ -112,16 +121,22 @@ fn braced_letter(accent: u8, text: &[u8], base: Base) -> Option<Command>
     }
 }
 
+fn in_braces(accent: u8, text: &[u8]) -> Option<Command>
+    ensures { result ≡ option_and_then (spec.braced_letter accent text.now) (spec.base_of text.now) }
+{
+    braced_letter(accent, text, base_of(text)?)
+}
+
 /// An accent by what is after it.
 fn argument(accent: u8, text: &[u8]) -> Option<Command>
     ensures { result ≡ spec.argument accent text.now }
 {
     match text {
         [] => None,
-        [b'{', letter @ ..] => braced_letter(accent, letter, base_of(letter)?),
-        [b' ', letter @ ..] => of_letter(accent, 2, base_of(letter)?),
+        [b'{', letter @ ..] => in_braces(accent, letter),
+        [b' ', letter @ ..] => with_letter(accent, 2, letter),
         _ if accent.is_ascii_alphabetic() => None,
-        _ => of_letter(accent, 1, base_of(text)?),
+        _ => with_letter(accent, 1, text),
     }
 }
 
@@ -139,9 +154,12 @@ fn name_len(text: &[u8]) -> usize
     ensures value { result ≡ spec.name_length text.now }
     ensures within { result ≤ length text.now }
 {
-    text.iter()
-        .take_while(|byte| byte.is_ascii_alphabetic())
-        .count()
+    for (at, byte) in text.iter().enumerate() {
+        if !byte.is_ascii_alphabetic() {
+            return at;
+        }
+    }
+    text.len()
 }
 
 /// How many bytes are in the space that ends a name.
@@ -238,7 +256,12 @@ fn is_reserved(byte: u8) -> bool
 fn is_plain(text: &[u8]) -> bool
     ensures { result ≡ spec.is_plain text.now }
 {
-    text.iter().all(|byte| *byte != b'\\' && *byte != b'{')
+    for byte in text {
+        if *byte == b'\\' || *byte == b'{' {
+            return false;
+        }
+    }
+    true
 }
 
 fn reserved(text: &[u8]) -> Option<Command>

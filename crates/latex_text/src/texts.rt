@@ -79,13 +79,23 @@ fn read(alloc: Global, text: &[u8]) -> Result<Vec<u8>, AllocError>
 fn is_blank(text: &[u8]) -> bool
     ensures { result ≡ spec.is_blank text.now }
 {
-    text.iter().all(|byte| *byte <= b' ')
+    for byte in text {
+        if *byte > b' ' {
+            return false;
+        }
+    }
+    true
 }
 
 fn has(text: &[u8], mark: u8) -> bool
     ensures { result ≡ has mark text.now }
 {
-    text.iter().any(|byte| *byte == mark)
+    for byte in text {
+        if *byte == mark {
+            return true;
+        }
+    }
+    false
 }
 
 /// The text without the commands of LaTeX, and with the letters that they denote; one that is longer than 2,000 bytes,

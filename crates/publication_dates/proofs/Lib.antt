@@ -6,3 +6,4 @@ pub mod Read
 pub mod AsciiDates
 pub mod AsciiDays
 pub mod DaysOfDates
+pub mod Filtered

@@ -78,14 +78,19 @@ named_date t ps = option_map (λ year. dated year (option_map_or digits_of (firs
 
 -- ---- the date
 
+-- the first form that the text has, of those that do not begin with a year
+abbrev pub year_later : Text → List Text → Option Text
+year_later t ps =
+    if is_year_last t (nth ps 0) (nth ps 1) (nth ps 2) then Some (year_last_date (nth ps 0) (nth ps 1) (nth ps 2))
+    else (if is_month_and_year t (nth ps 0) (nth ps 1) then Some (dated (nth ps 1) (nth ps 0) [])
+    else named_date t ps)
+
 -- the first form that the text has
 abbrev pub date_of : Text → List Text → Option Text
 date_of t ps =
     if is_year_first t (nth ps 0) (nth ps 1) then Some (dated (nth ps 0) (nth ps 1) (day_after t (nth ps 1) (nth ps 2)))
     else (if is_compact t (nth ps 0) then Some (compact_date (nth ps 0))
-    else (if is_year_last t (nth ps 0) (nth ps 1) (nth ps 2) then Some (year_last_date (nth ps 0) (nth ps 1) (nth ps 2))
-    else (if is_month_and_year t (nth ps 0) (nth ps 1) then Some (dated (nth ps 1) (nth ps 0) [])
-    else named_date t ps)))
+    else year_later t ps)
 
 -- the date in a text
 abbrev pub date_in : Text → Option Text

@@ -36,13 +36,23 @@ fn trimmed(text: &[u8]) -> &[u8]
 fn date_of(alloc: Global, text: &[u8], parts: &[&[u8]]) -> Result<Option<Vec<u8>>, AllocError>
     ensures { IfOk result (λ date. option_map vec_items date ≡ spec.date_of text.now (texts_of parts.now)) }
 {
-    let (first, second, third) = (nth(parts, 0), nth(parts, 1), nth(parts, 2));
+    let (first, second) = (nth(parts, 0), nth(parts, 1));
     if is_year_first(text, first, second) {
-        some(dated(alloc, first, second, day_after(text, second, third))?)
+        some(dated(alloc, first, second, day_after(text, second, nth(parts, 2)))?)
     } else if is_compact(text, first) {
         some(compact_date(alloc, first)?)
-    } else if is_year_last(text, first, second, third) {
-        some(year_last_date(alloc, first, second, third)?)
+    } else {
+        year_later(alloc, text, parts)
+    }
+}
+
+/// The date in a text that does not begin with a year.
+fn year_later(alloc: Global, text: &[u8], parts: &[&[u8]]) -> Result<Option<Vec<u8>>, AllocError>
+    ensures { IfOk result (λ date. option_map vec_items date ≡ spec.year_later text.now (texts_of parts.now)) }
+{
+    let (first, second) = (nth(parts, 0), nth(parts, 1));
+    if is_year_last(text, first, second, nth(parts, 2)) {
+        some(year_last_date(alloc, first, second, nth(parts, 2))?)
     } else if is_month_and_year(text, first, second) {
         some(dated(alloc, second, first, b"")?)
     } else {

@@ -72,10 +72,13 @@ fn first_and_last(alloc: Global, date: &[u8]) -> Result<Days, AllocError>
 fn basic(alloc: Global, date: &[u8]) -> Result<Vec<u8>, AllocError>
     ensures { IfOk result (λ digits. digits.items ≡ spec.basic date.now) }
 {
-    date.iter()
-        .filter(|byte| **byte != b'-')
-        .copied()
-        .collect(alloc)
+    let mut digits = Vec::with_capacity(alloc, date.len())?;
+    for byte in date {
+        if *byte != b'-' {
+            digits.push(*byte)?;
+        }
+    }
+    Ok(digits)
 }
 
 /// Appends a part to that many digits, and none to others.

@@ -8,3 +8,4 @@ pub mod Groups
 pub mod Semicolons
 pub mod OnceRepaired
 pub mod Forms
+pub mod Steps

@@ -18,14 +18,24 @@ fn is_titled(pair: &[u8]) -> bool
 fn has_equals_sign(piece: &[u8]) -> bool
     ensures { result ≡ list_any (λ b. b == 0x3d) piece.now }
 {
-    piece.iter().any(|byte| *byte == b'=')
+    for byte in piece {
+        if *byte == b'=' {
+            return true;
+        }
+    }
+    false
 }
 
 /// Whether a space or an escape is in the piece.
 fn has_space(piece: &[u8]) -> bool
     ensures { result ≡ list_any (λ b. b == 0x2b || b == 0x25) piece.now }
 {
-    piece.iter().any(|byte| *byte == b'+' || *byte == b'%')
+    for byte in piece {
+        if *byte == b'+' || *byte == b'%' {
+            return true;
+        }
+    }
+    false
 }
 
 /// Whether the piece is text, and neither a pair nor a key alone.
@@ -46,10 +56,12 @@ fn entity_len(piece: &[u8]) -> usize
     ensures value { result ≡ prefix_len spec.is_entity_byte piece.now }
     ensures within { result ≤ length piece.now }
 {
-    piece
-        .iter()
-        .take_while(|byte| is_entity_byte(**byte))
-        .count()
+    for (at, byte) in piece.iter().enumerate() {
+        if !is_entity_byte(*byte) {
+            return at;
+        }
+    }
+    piece.len()
 }
 
 /// Whether the piece begins with the rest of an entity.

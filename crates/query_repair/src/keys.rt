@@ -18,7 +18,12 @@ fn key_len(piece: &[u8]) -> usize
     ensures value { result ≡ spec.key_length piece.now }
     ensures within { result ≤ length piece.now }
 {
-    piece.iter().take_while(|byte| is_key_byte(**byte)).count()
+    for (at, byte) in piece.iter().enumerate() {
+        if !is_key_byte(*byte) {
+            return at;
+        }
+    }
+    piece.len()
 }
 
 pub(crate) fn key_of(piece: &[u8]) -> &[u8]
@@ -53,7 +58,12 @@ fn is_named(key: &[u8], name: &[u8]) -> bool
 fn is_one_of(names: &[&str], key: &[u8]) -> bool
     ensures { result ≡ spec.is_one_of (texts_of names.now) key.now }
 {
-    names.iter().any(|name| is_named(key, name.as_bytes()))
+    for name in names {
+        if is_named(key, name.as_bytes()) {
+            return true;
+        }
+    }
+    false
 }
 
 /// The key without the `rft.` of OpenURL 1.0.

@@ -1,7 +1,7 @@
 //! The pieces of a query.
 
-ghost use Rattle.std.specs.Prelude.{◌≡◌, ◌≤◌, ◌++◌, length, IfOk, OnOk};
-ghost use Rattle.std.specs.List.{list_all};
+ghost use Rattle.std.specs.Prelude.{◌≡◌, ◌==◌, ◌≤◌, ◌++◌, length, IfOk, OnOk};
+ghost use Rattle.std.specs.List.{list_all, slice_split};
 ghost use Rattle.text_model.specs.Texts.{texts_of};
 ghost use Rattle.query_repair.specs.Pieces as spec;
 
@@ -9,11 +9,11 @@ use crate::keys::{begins_pair, is_key_byte, is_known, key_of};
 use std::alloc::{AllocError, Global};
 use uri_text::begins_in_any_case;
 
-/// What is between the `&`s.
-pub(crate) fn parts(alloc: Global, query: &[u8]) -> Result<Vec<&[u8]>, AllocError>
-    ensures { IfOk result (λ parts. texts_of parts.items ≡ spec.parts query.now) }
+/// What is between bytes of this kind.
+pub(crate) fn split_at_each(alloc: Global, mark: u8, query: &[u8]) -> Result<Vec<&[u8]>, AllocError>
+    ensures { IfOk result (λ parts. texts_of parts.items ≡ slice_split (λ b. b == mark) query.now) }
 {
-    query.split(|byte| *byte == b'&').collect(alloc)
+    query.split(|byte| *byte == mark).collect(alloc)
 }
 
 /// How many bytes the mark has with which a part begins, `amp;` or `?`.
@@ -63,7 +63,12 @@ fn base_len(part: &[u8]) -> usize
     ensures value { result ≡ spec.base_length part.now }
     ensures within { result ≤ length part.now }
 {
-    part.iter().take_while(|byte| **byte != b'?').count()
+    for (at, byte) in part.iter().enumerate() {
+        if *byte == b'?' {
+            return at;
+        }
+    }
+    part.len()
 }
 
 fn base_of(part: &[u8]) -> &[u8]
@@ -88,7 +93,12 @@ fn is_base_byte(byte: u8) -> bool
 fn are_base_bytes(base: &[u8]) -> bool
     ensures { result ≡ list_all spec.is_base_byte base.now }
 {
-    base.iter().all(|byte| is_base_byte(*byte))
+    for byte in base {
+        if !is_base_byte(*byte) {
+            return false;
+        }
+    }
+    true
 }
 
 /// Whether this is a pair as base URLs have them.
@@ -117,12 +127,12 @@ fn has_base(part: &[u8]) -> bool
 fn push_opened<'a>(pieces: &mut Vec<&'a [u8]>, part: &'a [u8]) -> Result<(), AllocError>
     ensures { OnOk result (texts_of pieces.new.items ≡ texts_of pieces.old.items ++ spec.opened part.now) }
 {
+    let mut rest = part;
     if has_base(part) {
         pieces.push(base_of(part))?;
-        pieces.push(after_base(part))?;
-    } else {
-        pieces.push(part)?;
+        rest = after_base(part);
     }
+    pieces.push(rest)?;
     Ok(())
 }
 
@@ -130,7 +140,7 @@ fn push_opened<'a>(pieces: &mut Vec<&'a [u8]>, part: &'a [u8]) -> Result<(), All
 pub(crate) fn pieces(alloc: Global, query: &[u8]) -> Result<Vec<&[u8]>, AllocError>
     ensures { IfOk result (λ pieces. texts_of pieces.items ≡ spec.pieces query.now) }
 {
-    let parts = parts(alloc, query)?;
+    let parts = split_at_each(alloc, b'&', query)?;
     let mut pieces = Vec::new(alloc);
     for part in &parts {
         push_opened(&mut pieces, cleaned(part))?;

@@ -1,7 +1,6 @@
 //! The whole query.
 
-ghost use Rattle.std.specs.Prelude.{◌≡◌, ◌++◌, ◌==◌, IfOk, OnOk};
-ghost use Rattle.std.specs.List.{slice_split};
+ghost use Rattle.std.specs.Prelude.{◌≡◌, ◌++◌, IfOk, OnOk};
 ghost use Rattle.text_model.specs.Texts.{texts_of};
 ghost use Rattle.query_repair.specs.Pieces.{pieces};
 ghost use Rattle.query_repair.specs.Joining.{joined};
@@ -9,7 +8,7 @@ ghost use Rattle.query_repair.specs.Repair as spec;
 
 use crate::joining::joined;
 use crate::keys::begins_pair;
-use crate::pieces::{cleaned, parts, pieces};
+use crate::pieces::{cleaned, pieces, split_at_each};
 use std::alloc::{AllocError, Global};
 
 /// The query in the key/encoded-value form.
@@ -19,7 +18,7 @@ use std::alloc::{AllocError, Global};
 pub fn repaired(alloc: Global, query: &[u8]) -> Result<Vec<u8>, AllocError>
     ensures { IfOk result (λ text. text.items ≡ spec.repaired query.now) }
 {
-    let parts = parts(alloc, query)?;
+    let parts = split_at_each(alloc, b'&', query)?;
     if has_no_second_pair(&parts) {
         let separated = separated(alloc, query)?;
         joined_pieces(alloc, &separated)
@@ -58,13 +57,6 @@ fn has_pair(parts: &[&[u8]]) -> bool
     false
 }
 
-/// What is between the `;`s.
-fn semicolon_parts(alloc: Global, query: &[u8]) -> Result<Vec<&[u8]>, AllocError>
-    ensures { IfOk result (λ parts. texts_of parts.items ≡ slice_split (λ b. b == spec.semicolon) query.now) }
-{
-    query.split(|byte| *byte == b';').collect(alloc)
-}
-
 /// What is before a part: `&` if a pair follows.
 fn between(part: &[u8]) -> u8
     ensures { result ≡ spec.between part.now }
@@ -77,7 +69,7 @@ fn between(part: &[u8]) -> u8
 fn separated(alloc: Global, query: &[u8]) -> Result<Vec<u8>, AllocError>
     ensures { IfOk result (λ text. text.items ≡ spec.separated query.now) }
 {
-    let parts = semicolon_parts(alloc, query)?;
+    let parts = split_at_each(alloc, b';', query)?;
     let text = separated_parts(alloc, &parts)?;
     Ok(text)
 }

@@ -102,9 +102,12 @@ fn utf8_endings() -> &'static [&'static str]
 fn has_ending(endings: &[&str], name: &[u8]) -> bool
     ensures { result ≡ spec.has_ending (texts_of endings.now) name.now }
 {
-    endings
-        .iter()
-        .any(|ending| ends_with(name, ending.as_bytes()))
+    for ending in endings {
+        if ends_with(name, ending.as_bytes()) {
+            return true;
+        }
+    }
+    false
 }
 
 fn ends_with(name: &[u8], ending: &[u8]) -> bool

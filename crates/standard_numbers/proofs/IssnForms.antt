@@ -1,13 +1,13 @@
 -- ISSNs by their halves.
 use Rattle.std.proofs.Common.{◌≡◌, ℕ, zero, suc, ◌+◌, ◌-◌, ◌≤◌, [], ◌∷◌, ◌++◌, Bool, true, false, cond, Some, None, length, get_or, take, drop, refl, ap}
-use Rattle.std.proofs.Common.{◌∙◌, sym, subst, arith}
+use Rattle.std.proofs.Common.{◌∙◌, ◌<◌, ◌&&◌, sym, subst, arith}
 use Rattle.std.specs.Char.{is_ascii_digit}
 use Rattle.std.specs.List.{list_all}
 use Rattle.std.proofs.lemmas.Bool.{and_parts, and_from, eqb-true, eq-eqb, cond_both}
 use Rattle.std.proofs.lemmas.List.{take_at, get_or_at, take-take, drop-take, length-take, length-take-le, length-drop, take-append-drop, drop_more}
 use Rattle.text_model.specs.Texts.{Text}
 use Rattle.standard_numbers.specs.Spellings.{hyphen, is_joint, are_digits}
-use Rattle.standard_numbers.specs.Issn.{is_issn, issn_length, issn_of}
+use Rattle.standard_numbers.specs.Issn.{is_issn, has_halves, issn_length, issn_of}
 use Rattle.standard_numbers.proofs.Forms.{length_of_digits}
 
 pub record IsInHalves (issn : Text) : Type 0 where
@@ -69,5 +69,19 @@ issn_begins before t n h =
     let far : 4 ≤ half = cond_both (is_joint (get_or t 4 0)) 5 4 (λ k. 4 ≤ k) (λ _. omega arith) (λ _. omega arith) in
     let is = some_if _ _ _ h in
     let a = and_parts _ _ is.0 in
-    let b = and_parts _ _ a.0 in
-    subst (λ k. is_issn (issn_of (take k t)) ≡ true) is.1 (in_text half t far b.1 a.1)
+    let b = and_parts _ _ a.1 in
+    subst (λ k. is_issn (issn_of (take k t)) ≡ true) is.1 (in_text half t far b.0 b.1)
+
+no_both : (a b : Bool) → b ≡ false → (a && b) ≡ false
+no_both true b h = h
+no_both false b h = refl
+
+-- a text that is too short has none
+pub short_halves : (half : ℕ) (t : Text) → length t < half + 4 → has_halves half t ≡ false
+short_halves half t short = no_both (list_all is_ascii_digit (take 4 t)) _ (by_end (are_digits 4 (take 4 (drop half t))) refl)
+  where
+    by_end : (b : Bool) → are_digits 4 (take 4 (drop half t)) ≡ b → b ≡ false
+    by_end true e =
+        let four : length (take 4 (drop half t)) ≡ 4 = length_of_digits (take 4 (drop half t)) 4 e in
+        absurd (omega (arith, four, length-take 4 (drop half t), length-drop half t, short))
+    by_end false e = refl

@@ -10,3 +10,4 @@ pub mod Ranking
 pub mod RightFirst
 pub mod Found
 pub mod Stay
+pub mod Filtered

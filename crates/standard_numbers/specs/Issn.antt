@@ -26,12 +26,15 @@ is_right_issn issn = (weighted 8 (take 4 issn) + weighted 4 (drop 5 issn)) % 11 
 abbrev pub touches : ℕ → Bool
 touches b = is_ascii_digit b || b == hyphen
 
+-- four digits at the beginning, and the other four from a place on
+abbrev pub has_halves : ℕ → Text → Bool
+has_halves half t = list_all is_ascii_digit (take 4 t) && are_digits 4 (take 4 (drop half t))
+
 -- the length of the ISSN that a text begins with, after the byte before: four digits, a hyphen or a space or neither, and the other four
 abbrev pub issn_length : ℕ → Text → Option ℕ
 issn_length before t =
     let half = if is_joint (slice_index t 4) then 5 else 4 in
-    if not (touches before) && not (touches (slice_index t (half + 4)))
-    && list_all is_ascii_digit (take 4 t) && are_digits 4 (take 4 (drop half t))
+    if not (touches before) && not (touches (slice_index t (half + 4))) && has_halves half t
     then Some (half + 4) else None
 
 -- the ISSN, as the standard writes it, of these eight or nine bytes

@@ -112,11 +112,13 @@ fn digits_end(tens: bool, count: usize, text: &[u8]) -> Option<usize>
 fn compact(alloc: Global, spelling: &[u8]) -> Result<Vec<u8>, AllocError>
     ensures { IfOk result (λ digits. digits.items ≡ spec.compact spelling.now) }
 {
-    spelling
-        .iter()
-        .filter(|byte| !is_joint(**byte))
-        .copied()
-        .collect(alloc)
+    let mut digits = Vec::with_capacity(alloc, spelling.len())?;
+    for byte in spelling {
+        if !is_joint(*byte) {
+            digits.push(*byte)?;
+        }
+    }
+    Ok(digits)
 }
 
 /// The ISBN of 13 digits of ten or 13.

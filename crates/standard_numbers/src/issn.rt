@@ -1,6 +1,6 @@
 //! ISSNs (ISO 3297).
 
-ghost use Rattle.std.specs.Prelude.{◌≡◌, ◌<◌, ◌≤◌, true, length, IfOk, IfSome};
+ghost use Rattle.std.specs.Prelude.{◌≡◌, ◌+◌, ◌<◌, ◌≤◌, true, length, IfOk, IfSome, IsTrue};
 ghost use Rattle.standard_numbers.specs.Issn as spec;
 
 use crate::check_digits::{value, weighted};
@@ -47,12 +47,23 @@ pub(crate) fn issn_length(before: u8, text: &[u8]) -> Option<usize>
     ensures within { IfSome result (λ n. (0 < n) × (n ≤ length text.now)) }
 {
     let half = if is_joint(byte_at(text, 4)) { 5 } else { 4 };
-    if touches(before) || text.len() < half + 4 || touches(byte_at(text, half + 4)) {
+    if touches(before) || touches(byte_at(text, half + 4)) {
         return None;
     }
-    let start = text.split_at(4).0;
-    let end = text.split_at(half).1.split_at(4).0;
-    (are_all_digits(start) && are_digits(4, end)).then_some(half + 4)
+    has_halves(half, text).then_some(half + 4)
+}
+
+/// Whether a text begins with four digits, and has the other four from a place on.
+#[tactic(auto, using(crate::proofs::IssnForms::short_halves))]
+fn has_halves(half: usize, text: &[u8]) -> bool
+    requires small { half ≤ 5 }
+    ensures value { result ≡ spec.has_halves half text.now }
+    ensures within { IsTrue result → half + 4 ≤ length text.now }
+{
+    if text.len() < half + 4 {
+        return false;
+    }
+    are_all_digits(text.split_at(4).0) && are_digits(4, text.split_at(half).1.split_at(4).0)
 }
 
 /// A digit or a hyphen.

@@ -62,7 +62,12 @@ pub(crate) fn is_joint(byte: u8) -> bool
 pub(crate) fn are_all_digits(bytes: &[u8]) -> bool
     ensures { result ≡ list_all is_ascii_digit bytes.now }
 {
-    bytes.iter().all(|byte| byte.is_ascii_digit())
+    for byte in bytes {
+        if !byte.is_ascii_digit() {
+            return false;
+        }
+    }
+    true
 }
 
 /// Whether a byte may be the first of that many digits, of which the last may be `X`.

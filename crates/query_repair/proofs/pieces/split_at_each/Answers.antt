@@ -1,10 +1,10 @@
 use Rattle.std.proofs.Common.{rules, tests, eqb}
 use Rattle.std.proofs.lemmas.Iterator.Consumers.{map_from_collect}
 use Rattle.std.proofs.lemmas.Iterator.Splits.{YieldsList-from_slice_split}
-use Rattle.query_repair.proofs.pieces.parts.Goals as goal
+use Rattle.query_repair.proofs.pieces.split_at_each.Goals as goal
 
 pub returns : goal.returns
 returns c =
     map_from_collect _ c.collect.ensures.ran
-    (YieldsList-from_slice_split _ (λ b. eqb b 0x26) c.args.query.now c.split.ensures.rest c.split.ensures.done c.split.ensures.closure
+    (YieldsList-from_slice_split _ (λ b. eqb b c.args.mark) c.args.query.now c.split.ensures.rest c.split.ensures.done c.split.ensures.closure
     (λ x b q k. search (rules, tests)))
