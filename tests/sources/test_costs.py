@@ -20,8 +20,9 @@ from schedule import Schedule
 # Seconds of a processor; by how much the time of a crate differs from its share; the part of it that more jobs do not
 # shorten.
 WHOLE = 3_000
-FACTORS = (0.8, 1.15, 1.0, 0.9, 1.2, 1.1, 0.9)
-ALONE = (0.2, 0.35, 0.25, 0.3)
+# From the program on, the last one that is proved, so that a further crate changes nothing for those after it.
+FACTORS = (0.9, 1.1, 1.2, 0.9, 1.0, 1.15, 0.8)
+ALONE = (0.3, 0.25, 0.35, 0.2)
 # What is printed is a number of minutes.
 HALF_A_MINUTE = 30
 INTERVAL = 10
@@ -33,7 +34,7 @@ class Run:
     def __init__(self, crates: Crates, slots: int, pace: float, seconds: dict[str, float]) -> None:
         self.now = 0.0
         self.schedule = Schedule(crates, slots, clock=lambda: self.now)
-        self.alone = dict(zip(crates.names, itertools.cycle(ALONE)))
+        self.alone = dict(zip(reversed(crates.names), itertools.cycle(ALONE)))
         self.seconds = {name: pace * it for name, it in seconds.items()}
         self.alone[crates.program] = 0.8
         self.said: list[tuple[float, float]] = []
@@ -79,7 +80,7 @@ class TimeLeft(Case):
 
     def runs(self, slots: int) -> list[Run]:
         names = self.crates.names
-        uneven = {name: self.record[name] * it for name, it in zip(names, itertools.cycle(FACTORS))}
+        uneven = {name: self.record[name] * it for name, it in zip(reversed(names), itertools.cycle(FACTORS))}
         return [Run(self.crates, slots, pace, seconds) for pace in (0.5, 1, 3) for seconds in (self.record, uneven)]
 
     def test_within_a_third(self) -> None:

@@ -10,7 +10,8 @@ use Rattle.std.proofs.lemmas.Bool.Decides.{nat_tests}
 use Rattle.std.proofs.lemmas.List.Elements.{All-take, All-map}
 use Rattle.text_model.specs.Texts.{Text}
 use Rattle.kev_read.specs.Pairs.{KeyValue, all_of, first_of}
-use Rattle.openurl_reading.specs.Counting.{is_void, is_blank, is_any, is_one_of, row_keys}
+use Rattle.openurl_reading.specs.Counting.{is_void, is_blank, is_any, row_keys}
+use Rattle.openurl_reading.specs.Keys.{is_one_of}
 use Rattle.work_identifiers.specs.declared.namespace.Namespace.{Namespace}
 use Rattle.work_identifiers.specs.declared.namespace.Namespace.TheVariants.{Doi, Pmid, Oclc, Pmc, Arxiv}
 use Rattle.work_identifiers.specs.Forms.{IsIdentifier}
@@ -40,7 +41,8 @@ use Rattle.openurl_reading.proofs.FieldsCopied.{fields_pass}
 use Rattle.openurl_reading.proofs.FoundAre.{AreFound}
 use Rattle.openurl_reading.proofs.Identified.{AreIdentified, first_is, nameable_is, of_is}
 use Rattle.openurl_reading.proofs.IdentifierForms.{BeginsWithDigit, doi_begins, number_begins}
-use Rattle.openurl_reading.proofs.PagesFound.{AreFoundPages, IsNotBlank, first_page_is, last_page_is}
+use Rattle.openurl_reading.proofs.ArticlesFound.{IsNotBlank}
+use Rattle.openurl_reading.proofs.PagesFound.{AreFoundPages, first_page_is, last_page_is}
 use Rattle.openurl_reading.proofs.Passing.{AreAccepted, allows, Passes, not_blank, under_pass, step_passes, versions_pass, copies_pass, old_keys_allow}
 use Rattle.openurl_reading.proofs.Stages.{kind_steps, led_steps, with_versions, with_fields, normal_form-led}
 use Rattle.openurl_reading.proofs.TextsPass.{AreFilled, texts_pass}

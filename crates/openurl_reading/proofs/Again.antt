@@ -1,23 +1,32 @@
 -- A reading is read as it is.
-use Rattle.std.proofs.Common.{◌≡◌, ◌≤◌, ◌-◌, List, [], ◌++◌, take, length, false, not, ◌&&◌, get_or, refl, ap, ◌∙◌, arith}
+use Rattle.std.proofs.Common.{◌≡◌, ◌≤◌, ◌-◌, List, [], ◌++◌, map, take, length, false, not, ◌&&◌, get_or, refl, ap, ◌∙◌, arith}
 use Rattle.std.proofs.lemmas.Bool.{not-true}
 use Rattle.std.proofs.lemmas.List.{take_all}
-use Rattle.std.proofs.lemmas.List.Elements.{filter-append}
+use Rattle.std.specs.List.{All}
+use Rattle.std.proofs.lemmas.List.Elements.{All-append, filter-append}
 use Rattle.std.proofs.lemmas.List.Sums.{AllPass-from_list_all}
 use Rattle.kev_read.specs.Pairs.{KeyValue}
 use Rattle.openurl_reading.specs.Counting.{is_free, is_void, accepted, is_accepted, counting, most_pairs}
+use Rattle.openurl_reading.specs.Keys.{named}
 use Rattle.openurl_reading.specs.Retractions.{is_retracted}
 use Rattle.openurl_reading.specs.Reading.{normal_form, derived, with_derived, reading_of}
 use Rattle.openurl_reading.proofs.Accepted.{normal_form_passes}
 use Rattle.openurl_reading.proofs.Additions.{additions, all_derived}
 use Rattle.openurl_reading.proofs.Each.{all_stay, none_stays}
 use Rattle.openurl_reading.proofs.FoundAre.{AreFound}
+use Rattle.openurl_reading.proofs.Free.{named-normal_form, named-counting, named-derived}
 use Rattle.openurl_reading.proofs.Identified.{AreIdentified}
 use Rattle.openurl_reading.proofs.IdentifierForms.{BeginsWithDigit}
 use Rattle.openurl_reading.proofs.VolumeLaws.{AreFoundNumbers}
-use Rattle.openurl_reading.proofs.PagesFound.{AreFoundPages, IsNotBlank}
+use Rattle.openurl_reading.proofs.ArticlesFound.{IsNotBlank}
+use Rattle.openurl_reading.proofs.PagesFound.{AreFoundPages}
 use Rattle.openurl_reading.proofs.Passing.{AreAccepted, counting_pass}
+use Rattle.openurl_reading.proofs.SmallKeys.{IsNamed, named_stay}
 use Rattle.openurl_reading.proofs.TextsPass.{AreFilled}
+
+-- pairs whose keys are written as they are read stay
+named_again : (pairs : List KeyValue) → All IsNamed pairs → map named (with_derived pairs) ≡ with_derived pairs
+named_again pairs are = named_stay (with_derived pairs) (All-append IsNamed (derived pairs) pairs (named-derived pairs) are)
 
 -- no pair that the resolver adds counts
 derived_out : (pairs : List KeyValue) → accepted (derived pairs) ≡ []
@@ -39,10 +48,12 @@ pub reading_again : AreFilled → AreIdentified → ((pairs : List KeyValue) →
     ≡ record { pairs = (reading_of pairs).pairs; left_out = 0; is_retracted = is_retracted (normal_form (counting pairs)) }
 reading_again filled identified once found numbers pages pairs few =
     let normal = normal_form (counting pairs) in
-    let same = accepted_again normal (normal_form_passes filled identified found numbers pages (counting pairs) (counting_pass pairs)) in
+    let keys = named_again normal (named-normal_form (counting pairs) (named-counting pairs)) in
+    let same : accepted (map named (with_derived normal)) ≡ normal =
+    ap accepted keys ∙ accepted_again normal (normal_form_passes filled identified found numbers pages (counting pairs) (counting_pass pairs)) in
     let counted : counting (with_derived normal) ≡ normal = ap (take most_pairs) same ∙ take_all most_pairs normal few in
     let read : with_derived (normal_form (counting (with_derived normal))) ≡ with_derived normal =
     ap (λ list. with_derived (normal_form list)) counted ∙ ap with_derived (once (counting pairs)) in
-    let none : length (accepted (with_derived normal)) - most_pairs ≡ 0 = ap (λ list. length list - most_pairs) same ∙ omega (arith, few) in
+    let none : length (accepted (map named (with_derived normal))) - most_pairs ≡ 0 = ap (λ list. length list - most_pairs) same ∙ omega (arith, few) in
     let noted : is_retracted (counting (with_derived normal)) ≡ is_retracted normal = ap is_retracted counted in
     λ i. record { pairs = read i; left_out = none i; is_retracted = noted i }

@@ -11,14 +11,14 @@ use Rattle.work_identifiers.specs.declared.namespace.Namespace.{Namespace}
 use Rattle.work_identifiers.specs.declared.namespace.Namespace.TheVariants.{Doi, Pmid, Oclc, Pmc, Arxiv}
 use Rattle.work_identifiers.specs.Forms.{IsIdentifier}
 use Rattle.work_identifiers.specs.Uris.{uri_of, registered, arxiv_doi}
-use Rattle.openurl_reading.specs.Counting.{is_one_of}
+use Rattle.openurl_reading.specs.Keys.{is_one_of}
 use Rattle.openurl_reading.specs.Steps.{unchanged}
 use Rattle.openurl_reading.specs.Identifiers.{identifier_of, source_keys, first_under, first_identifier, named}
 use Rattle.openurl_reading.specs.Canonical.{IsReferentUri, registered_uri, other_uri, HasNoIdentifier, Under}
 use Rattle.openurl_reading.proofs.Apart.{same_or_apart, apart}
 use Rattle.openurl_reading.proofs.FoundAre.{IsAll}
 use Rattle.openurl_reading.proofs.Identified.{first_found, found-cons, found_none}
-use Rattle.openurl_reading.proofs.Identified.{IsPlain, AreIdentified, referent-none, uri_has_none, preprint_has, some_same, none_given}
+use Rattle.openurl_reading.proofs.Identified.{IsPlain, AreIdentified, uri_has_none, preprint_has, some_same, none_given}
 use Rattle.openurl_reading.proofs.Others.{bytes_eq-same}
 use Rattle.openurl_reading.proofs.Settled.{IsNamed}
 use Rattle.openurl_reading.proofs.Named.{rest_of, among, IsFirstNamed, first-among, among_named}
@@ -32,10 +32,10 @@ own_same : AreIdentified → (namespace : Namespace) → IsPlain namespace → (
 own_same laws namespace plain n m is h =
     ap (uri_of namespace) (some_same (identifier_of namespace (codes "rft_id") (uri_of namespace m)) m n (plain_has laws namespace plain m is) h)
 
-none_same : AreIdentified → (namespace other : Namespace) → registered namespace ≢ registered other → (n m : Text)
+none_same : AreIdentified → (namespace other : Namespace) → registered namespace ≢ registered other → (n m : Text) → IsIdentifier other m
     → identifier_of namespace (codes "rft_id") (uri_of other m) ≡ Some n → uri_of other m ≡ uri_of namespace n
-none_same laws namespace other apart n m h =
-    absurd (none_given (identifier_of namespace (codes "rft_id") (uri_of other m)) n (uri_has_none laws other namespace m apart) h)
+none_same laws namespace other apart n m is h =
+    absurd (none_given (identifier_of namespace (codes "rft_id") (uri_of other m)) n (uri_has_none laws other namespace m is apart) h)
 
 own_or_doi : AreIdentified → (other : Namespace) (n m : Text) → IsIdentifier other m
     → identifier_of (registered other) (codes "rft_id") (uri_of other m) ≡ Some n → uri_of other m ≡ uri_of (registered other) n
@@ -55,7 +55,7 @@ uri_same laws namespace other plain n m is h =
       | inl e ↦
           subst (λ k. identifier_of k (codes "rft_id") (uri_of other m) ≡ Some n → uri_of other m ≡ uri_of k n) (sym e ∙ plain)
           (own_or_doi laws other n m is) h
-      | inr other_uris ↦ none_same laws namespace other other_uris n m h
+      | inr other_uris ↦ none_same laws namespace other other_uris n m is h
     ]
 
 referent_known : AreIdentified → (namespace : Namespace) → IsPlain namespace → (v n : Text) → IsReferentUri v
@@ -63,7 +63,7 @@ referent_known : AreIdentified → (namespace : Namespace) → IsPlain namespace
 referent_known laws namespace plain _ n (registered_uri other m is) h =
     ap (bytes_eq (uri_of other m)) (sym (uri_same laws namespace other plain n m is h)) ∙ bytes_eq-same (uri_of other m)
 referent_known laws namespace plain v n (other_uri _ none) h =
-    let no : identifier_of namespace (codes "rft_id") v ≡ None = referent-none namespace v (none namespace) in cc
+    let no : identifier_of namespace (codes "rft_id") v ≡ None = none namespace in cc
 
 referents_known : AreIdentified → (namespace : Namespace) → IsPlain namespace → (values : List Text) → All IsReferentUri values
     → IsAll (λ n. is_one_of values (uri_of namespace n) ≡ true) (first_found (identifier_of namespace (codes "rft_id")) values)
@@ -105,10 +105,10 @@ no_preprint laws _ (registered_uri Doi m is) h =
     absurd (none_given (identifier_of Doi (codes "rft_id") (uri_of Doi m)) m h (plain_has laws Doi refl m is))
 no_preprint laws _ (registered_uri Arxiv m is) h =
     absurd (none_given (identifier_of Doi (codes "rft_id") (uri_of Arxiv m)) (arxiv_doi m) h (preprint_has laws m is))
-no_preprint laws _ (registered_uri Pmid m is) h = uri_has_none laws Pmid Arxiv m (apart Doi Pmid refl)
-no_preprint laws _ (registered_uri Oclc m is) h = uri_has_none laws Oclc Arxiv m (apart Doi Oclc refl)
-no_preprint laws _ (registered_uri Pmc m is) h = uri_has_none laws Pmc Arxiv m (apart Doi Pmc refl)
-no_preprint laws v (other_uri _ none) h = referent-none Arxiv v (none Arxiv)
+no_preprint laws _ (registered_uri Pmid m is) h = uri_has_none laws Pmid Arxiv m is (apart Doi Pmid refl)
+no_preprint laws _ (registered_uri Oclc m is) h = uri_has_none laws Oclc Arxiv m is (apart Doi Oclc refl)
+no_preprint laws _ (registered_uri Pmc m is) h = uri_has_none laws Pmc Arxiv m is (apart Doi Pmc refl)
+no_preprint laws v (other_uri _ none) h = none Arxiv
 
 or_none : (a b : Option Text) → option_or a b ≡ None → (a ≡ None) × (b ≡ None)
 or_none None b h = (refl, h)

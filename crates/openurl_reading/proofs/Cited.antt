@@ -8,7 +8,8 @@ use Rattle.text_model.specs.Texts.{Text}
 use Rattle.kev_read.specs.Pairs.{KeyValue, all_of, first_of}
 use Rattle.journal_references.specs.References.{Reference}
 use Rattle.openurl_reading.specs.Citations.{citation, unless_blank, cited, without_date, citing_year, citing_steps}
-use Rattle.openurl_reading.specs.Counting.{is_blank, is_one_of}
+use Rattle.openurl_reading.specs.Counting.{is_blank}
+use Rattle.openurl_reading.specs.Keys.{is_one_of}
 use Rattle.openurl_reading.specs.Dates.{date_keys, first_date}
 use Rattle.openurl_reading.specs.Steps.{Step, taken, after}
 use Rattle.openurl_reading.specs.Values.{led}

@@ -22,7 +22,7 @@ use Rattle.openurl_reading.specs.Steps.{after}
 use Rattle.openurl_reading.proofs.CitingSteps.{name_of}
 use Rattle.openurl_reading.proofs.Cited.{IsCited, AreCitedLight, cited_keys, each_cited}
 use Rattle.openurl_reading.proofs.Each.{none_has}
-use Rattle.openurl_reading.proofs.PagesFound.{IsNotBlank}
+use Rattle.openurl_reading.proofs.ArticlesFound.{IsNotBlank}
 use Rattle.openurl_reading.proofs.Passing.{AreAccepted}
 use Rattle.openurl_reading.proofs.ReadValues.{HaveOrigin}
 use Rattle.openurl_reading.proofs.Sent.{IsSent, sent_under}

@@ -7,7 +7,7 @@ use Rattle.text_model.specs.Texts.{Text}
 use Rattle.kev_read.specs.Pairs.{KeyValue, has_key, all_of}
 use Rattle.work_identifiers.specs.declared.namespace.Namespace.{Namespace}
 use Rattle.work_identifiers.specs.Uris.{uri_of}
-use Rattle.openurl_reading.specs.Counting.{is_one_of}
+use Rattle.openurl_reading.specs.Keys.{is_one_of}
 use Rattle.openurl_reading.specs.Identifiers.{named}
 use Rattle.openurl_reading.specs.Steps.{Step, unchanged, leading, pairs_with, kept, taken}
 use Rattle.openurl_reading.specs.Values.{led}

@@ -12,7 +12,9 @@ use Rattle.work_identifiers.specs.Addresses.{doi_in_address}
 use Rattle.work_identifiers.specs.Forms.{IsIdentifier}
 use Rattle.work_identifiers.specs.Places.{identifier_in, identifier_alone}
 use Rattle.work_identifiers.specs.Uris.{uri_start, uri_end, uri_of, canonical, registered, arxiv_doi}
-use Rattle.openurl_reading.specs.Identifiers.{names, is_page, unnamed, identifier_of, identifier_keys, first_under, first_identifier, nameable}
+use Rattle.openurl_reading.specs.Identifiers.{as_identifier, names, is_page, unnamed, identifier_under, identifier_of, identifier_keys, first_under}
+use Rattle.openurl_reading.specs.Identifiers.{first_identifier, nameable}
+use Rattle.openurl_reading.proofs.AsIdentifiers.{found_as_it_is}
 use Rattle.openurl_reading.proofs.FoundAre.{IsAll, none_is, or_is}
 
 abbrev pub first_found : (Text → Option Text) → List Text → Option Text
@@ -105,8 +107,13 @@ unnamed_is laws namespace key value = by_name (names namespace key) (by_page nam
 
 pub of_is : AreIdentified → (namespace : Namespace) (key value : Text) → IsAll (IsIdentifier namespace) (identifier_of namespace key value)
 of_is laws namespace key value =
-    or_is (IsIdentifier namespace) (identifier_in namespace value) (unnamed namespace key value) (laws.are namespace value)
-    (unnamed_is laws namespace key value)
+    let text = as_identifier value in
+    or_is (IsIdentifier namespace) (identifier_in namespace text) (unnamed namespace key text) (laws.are namespace text)
+    (unnamed_is laws namespace key text)
+
+pub nameable_identifier : AreIdentified → (namespace : Namespace) (pairs : List KeyValue) → IsAll (IsIdentifier namespace) (nameable namespace pairs)
+nameable_identifier laws namespace pairs =
+    nameable_is (IsIdentifier namespace) namespace pairs (first_is (IsIdentifier namespace) namespace (of_is laws namespace) pairs)
 
 -- `rft_id` says of no value what it is
 unnamed_none : (namespace : Namespace) (value : Text) → unnamed namespace (codes "rft_id") value ≡ None
@@ -116,23 +123,30 @@ unnamed_none Oclc value = refl
 unnamed_none Pmc value = refl
 unnamed_none Arxiv value = refl
 
-pub referent-none : (namespace : Namespace) (value : Text) → identifier_in namespace value ≡ None → identifier_of namespace (codes "rft_id") value ≡ None
-referent-none namespace value h = ap (λ o. option_or o (unnamed namespace (codes "rft_id") value)) h ∙ unnamed_none namespace value
+referent-none : (namespace : Namespace) (text : Text) → identifier_in namespace text ≡ None → identifier_under namespace (codes "rft_id") text ≡ None
+referent-none namespace text h = ap (λ o. option_or o (unnamed namespace (codes "rft_id") text)) h ∙ unnamed_none namespace text
+
+-- the URI of an identifier is read as it is
+uri_stays : AreIdentified → (namespace : Namespace) (n : Text) → IsIdentifier namespace n → as_identifier (uri_of namespace n) ≡ uri_of namespace n
+uri_stays laws namespace n is = found_as_it_is namespace (uri_of namespace n) (canonical namespace n) (laws.stay namespace n is)
 
 -- the URI of an identifier has it
 pub uri_has : AreIdentified → (namespace : Namespace) (n : Text) → IsIdentifier namespace n
     → identifier_of namespace (codes "rft_id") (uri_of namespace n) ≡ Some (canonical namespace n)
-uri_has laws namespace n is = ap (λ o. option_or o (unnamed namespace (codes "rft_id") (uri_of namespace n))) (laws.stay namespace n is)
+uri_has laws namespace n is =
+    ap (identifier_under namespace (codes "rft_id")) (uri_stays laws namespace n is)
+    ∙ ap (λ o. option_or o (unnamed namespace (codes "rft_id") (uri_of namespace n))) (laws.stay namespace n is)
 
 -- an identifier of arXiv has the URI of its DOI
 pub preprint_has : AreIdentified → (n : Text) → IsIdentifier Arxiv n → identifier_of Doi (codes "rft_id") (uri_of Arxiv n) ≡ Some (arxiv_doi n)
 preprint_has laws n is =
     ap (identifier_of Doi (codes "rft_id")) (laws.preprint_uri n) ∙ uri_has laws Doi (arxiv_doi n) (laws.preprint n is)
 
-pub uri_has_none : AreIdentified → (namespace other : Namespace) (n : Text) → registered other ≢ registered namespace
+pub uri_has_none : AreIdentified → (namespace other : Namespace) (n : Text) → IsIdentifier namespace n → registered other ≢ registered namespace
     → identifier_of other (codes "rft_id") (uri_of namespace n) ≡ None
-uri_has_none laws namespace other n apart =
-    referent-none other (uri_of namespace n)
+uri_has_none laws namespace other n is apart =
+    ap (identifier_under other (codes "rft_id")) (uri_stays laws namespace n is)
+    ∙ referent-none other (uri_of namespace n)
     (ap (identifier_in other) (append_assoc (uri_start namespace) (canonical namespace n) (uri_end namespace))
     ∙ laws.others namespace other (canonical namespace n ++ uri_end namespace) apart)
 

@@ -12,7 +12,7 @@ use Rattle.work_identifiers.specs.declared.namespace.Namespace.{Namespace}
 use Rattle.work_identifiers.specs.declared.namespace.Namespace.TheVariants.{Doi}
 use Rattle.work_identifiers.specs.Forms.{IsIdentifier}
 use Rattle.work_identifiers.specs.Uris.{uri_of, registered}
-use Rattle.openurl_reading.specs.Counting.{is_one_of}
+use Rattle.openurl_reading.specs.Keys.{is_one_of}
 use Rattle.openurl_reading.specs.Steps.{taken, after}
 use Rattle.openurl_reading.specs.Texts.{text_steps}
 use Rattle.openurl_reading.specs.Referrers.{referrer_step}
@@ -25,7 +25,7 @@ use Rattle.openurl_reading.specs.Origins.{HasOrigin, identifier_in_value, uri_of
 use Rattle.openurl_reading.proofs.Apart.{same_or_apart, own_uris}
 use Rattle.openurl_reading.proofs.Each.{each_named}
 use Rattle.openurl_reading.proofs.FoundAre.{IsAll}
-use Rattle.openurl_reading.proofs.Identified.{IsPlain, AreIdentified, found_is, first_is, nameable_is, of_is, uri_has_none, some_same, none_given}
+use Rattle.openurl_reading.proofs.Identified.{IsPlain, AreIdentified, found_is, nameable_is, nameable_identifier, uri_has_none, some_same, none_given}
 use Rattle.openurl_reading.proofs.KeysSettle.{same_after}
 use Rattle.openurl_reading.proofs.Named.{sources_apart, plain_has}
 use Rattle.openurl_reading.proofs.NamedPreprints.{named-keeps}
@@ -93,10 +93,6 @@ pub nameable_read : (sent : List Text) (namespace : Namespace) (pairs : List Key
     → IsAll (IsRead sent namespace) (nameable namespace pairs)
 nameable_read sent namespace pairs all = nameable_is (IsRead sent namespace) namespace pairs (first_read sent namespace pairs all)
 
-pub nameable_identifier : AreIdentified → (namespace : Namespace) (pairs : List KeyValue) → IsAll (IsIdentifier namespace) (nameable namespace pairs)
-nameable_identifier laws namespace pairs =
-    nameable_is (IsIdentifier namespace) namespace pairs (first_is (IsIdentifier namespace) namespace (of_is laws namespace) pairs)
-
 -- ---- after a step
 
 -- the values of `rft_id`
@@ -129,10 +125,10 @@ pub own_gives : AreIdentified → (namespace : Namespace) → IsPlain namespace 
 own_gives laws namespace plain n m is h =
     (refl, some_same (identifier_of namespace (codes "rft_id") (uri_of namespace n)) n m (plain_has laws namespace plain n is) h)
 
-pub none_gives : AreIdentified → (namespace other : Namespace) → registered other ≢ registered namespace → (n m : Text)
+pub none_gives : AreIdentified → (namespace other : Namespace) → registered other ≢ registered namespace → (n m : Text) → IsIdentifier namespace n
     → identifier_of other (codes "rft_id") (uri_of namespace n) ≡ Some m → (namespace ≡ other) × (n ≡ m)
-none_gives laws namespace other apart n m h =
-    absurd (none_given (identifier_of other (codes "rft_id") (uri_of namespace n)) m (uri_has_none laws namespace other n apart) h)
+none_gives laws namespace other apart n m is h =
+    absurd (none_given (identifier_of other (codes "rft_id") (uri_of namespace n)) m (uri_has_none laws namespace other n is apart) h)
 
 pub apart_gives : AreIdentified → (namespace other : Namespace) → IsApart namespace → (n m : Text) → IsIdentifier namespace n
     → identifier_of other (codes "rft_id") (uri_of namespace n) ≡ Some m → (namespace ≡ other) × (n ≡ m)
@@ -142,7 +138,7 @@ apart_gives laws namespace other is_apart n m is h =
           let same : namespace ≡ other = sym is_apart.0 ∙ sym e ∙ own_uris other (λ doi. is_apart.1 (sym e ∙ doi)) in
           subst (λ k. identifier_of k (codes "rft_id") (uri_of namespace n) ≡ Some m → (namespace ≡ k) × (n ≡ m)) same
           (own_gives laws namespace is_apart.0 n m is) h
-      | inr other_uris ↦ none_gives laws namespace other other_uris n m h
+      | inr other_uris ↦ none_gives laws namespace other other_uris n m is h
     ]
 
 pub uri_read : AreIdentified → (sent : List Text) (namespace : Namespace) → IsApart namespace → (n : Text) → IsIdentifier namespace n

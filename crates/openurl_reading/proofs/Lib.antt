@@ -2,6 +2,8 @@ pub mod Accepted
 pub mod Additions
 pub mod Again
 pub mod Apart
+pub mod AsIdentifiers
+pub mod ArticlesFound
 pub mod CanonicalStays
 pub mod CitingSteps
 pub mod Cited
@@ -41,12 +43,14 @@ pub mod PagesFound
 pub mod PagesLed
 pub mod PagesStay
 pub mod Passing
+pub mod PlainNumbers
 pub mod ReadOnce
 pub mod ReadValues
 pub mod Sent
 pub mod Settled
 pub mod DerivedWeigh
 pub mod Sizes
+pub mod SmallKeys
 pub mod Stages
 pub mod TextOrigins
 pub mod TextsKept

@@ -23,6 +23,7 @@ use Rattle.openurl_reading.proofs.CanonicalStays.{IsKept, IsDateKept}
 use Rattle.openurl_reading.proofs.FoundAgain.{AreFoundAgain}
 use Rattle.openurl_reading.proofs.FoundAre.{AreFoundIn}
 use Rattle.openurl_reading.proofs.IdentifierForms.{BeginsWithDigit}
+use Rattle.openurl_reading.proofs.PlainNumbers.{AreWritten, IsWord, word_stays, issn_word, isbn_word, date_word}
 
 -- what the laws say
 abbrev pub IssnsAre : Type 0
@@ -70,17 +71,17 @@ date_short _ (with_month y m year month) = omega (arith, length-append y (hyphen
 date_short _ (with_day y m d year month day) =
     omega (arith, length-append (y ++ hyphen ∷ m) (hyphen ∷ d), length-append y (hyphen ∷ m), year_long y year, month.two, day.two)
 
-whole : (t : Text) → length t ≤ most_bytes → searched t ≡ t
-whole t h = take_all most_bytes t h
+whole : AreWritten → (t : Text) → IsWord t → length t ≤ most_bytes → searched t ≡ t
+whole laws t word h = ap (take most_bytes) (word_stays laws t word) ∙ take_all most_bytes t h
 
-issn_whole : (issn : Text) → IsIssn issn → searched issn ≡ issn
-issn_whole issn is = whole issn (omega (arith, issn_long issn is))
+issn_whole : AreWritten → (issn : Text) → IsIssn issn → searched issn ≡ issn
+issn_whole laws issn is = whole laws issn (issn_word issn is) (omega (arith, issn_long issn is))
 
-isbn_whole : (isbn : Text) → IsIsbn isbn → searched isbn ≡ isbn
-isbn_whole isbn is = whole isbn (omega (arith, isbn_long isbn is))
+isbn_whole : AreWritten → (isbn : Text) → IsIsbn isbn → searched isbn ≡ isbn
+isbn_whole laws isbn is = whole laws isbn (isbn_word isbn is) (omega (arith, isbn_long isbn is))
 
-date_whole : (date : Text) → IsDate date → searched date ≡ date
-date_whole date is = whole date (omega (arith, date_short date is))
+date_whole : AreWritten → (date : Text) → IsDate date → searched date ≡ date
+date_whole laws date is = whole laws date (date_word date is) (omega (arith, date_short date is))
 
 -- the days of a date have eight digits
 day_long : (day : Text) → IsDay day → length day ≡ 8
@@ -109,27 +110,27 @@ found_short issns isbns dates = record {
 
 -- ---- they are found again
 
-pub found_again : IssnsAre → IssnsAlone → IsbnsAre → IsbnsStay → DatesAre → DatesStay → AreFoundAgain
-found_again issns alone isbns isbns_stay dates dates_stay = record {
+pub found_again : AreWritten → IssnsAre → IssnsAlone → IsbnsAre → IsbnsStay → DatesAre → DatesStay → AreFoundAgain
+found_again laws issns alone isbns isbns_stay dates dates_stay = record {
   issns = λ value k d h.
       let issn = get_or (issns_in value) k d in
       let is = issns value k d h in
-      subst (λ t. (issns_in t ≡ issn ∷ []) ⊎ (issns_in t ≡ [])) (sym (issn_whole issn is)) (alone issn is);
+      subst (λ t. (issns_in t ≡ issn ∷ []) ⊎ (issns_in t ≡ [])) (sym (issn_whole laws issn is)) (alone issn is);
   isbns = λ value k d h.
       let isbn = get_or (isbns_in value) k d in
       let is = isbns value k d h in
-      ap isbns_in (isbn_whole isbn is) ∙ isbns_stay isbn is;
-  dates = λ value date e. let is = dates value date e in ap date_in (date_whole date is) ∙ dates_stay date is;
+      ap isbns_in (isbn_whole laws isbn is) ∙ isbns_stay isbn is;
+  dates = λ value date e. let is = dates value date e in ap date_in (date_whole laws date is) ∙ dates_stay date is;
 }
 
-pub issn_kept : IssnsStay → (issn : Text) → IsIssn issn → is_doubtful issn ≡ false → IsKept issns_in issn
-issn_kept stay issn is sure = ap issns_in (issn_whole issn is) ∙ stay issn is sure
+pub issn_kept : AreWritten → IssnsStay → (issn : Text) → IsIssn issn → is_doubtful issn ≡ false → IsKept issns_in issn
+issn_kept laws stay issn is sure = ap issns_in (issn_whole laws issn is) ∙ stay issn is sure
 
-pub isbn_kept : IsbnsStay → (isbn : Text) → IsIsbn isbn → IsKept isbns_in isbn
-isbn_kept stay isbn is = ap isbns_in (isbn_whole isbn is) ∙ stay isbn is
+pub isbn_kept : AreWritten → IsbnsStay → (isbn : Text) → IsIsbn isbn → IsKept isbns_in isbn
+isbn_kept laws stay isbn is = ap isbns_in (isbn_whole laws isbn is) ∙ stay isbn is
 
-pub date_kept : DatesStay → (date : Text) → IsDate date → IsDateKept date
-date_kept stay date is = ap date_in (date_whole date is) ∙ stay date is
+pub date_kept : AreWritten → DatesStay → (date : Text) → IsDate date → IsDateKept date
+date_kept laws stay date is = ap date_in (date_whole laws date is) ∙ stay date is
 
 -- ---- they begin with a digit
 

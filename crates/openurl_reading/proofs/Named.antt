@@ -12,12 +12,12 @@ use Rattle.work_identifiers.specs.declared.namespace.Namespace.{Namespace}
 use Rattle.work_identifiers.specs.declared.namespace.Namespace.TheVariants.{Doi, Pmid, Oclc, Pmc, Arxiv}
 use Rattle.work_identifiers.specs.Forms.{IsIdentifier}
 use Rattle.work_identifiers.specs.Uris.{uri_of, canonical, registered}
-use Rattle.openurl_reading.specs.Counting.{is_one_of}
+use Rattle.openurl_reading.specs.Keys.{is_one_of}
 use Rattle.openurl_reading.specs.Steps.{unchanged, leading, taken}
 use Rattle.openurl_reading.specs.Identifiers.{identifier_of, source_keys, first_under, first_identifier, nameable, named, naming}
 use Rattle.openurl_reading.proofs.FoundAre.{IsAll}
 use Rattle.openurl_reading.proofs.Identified.{first_found, found-cons, found_same, first_is}
-use Rattle.openurl_reading.proofs.Identified.{IsPlain, AreIdentified, of_is, uri_has, uri_has_none}
+use Rattle.openurl_reading.proofs.Identified.{IsPlain, AreIdentified, of_is, nameable_identifier, uri_has, uri_has_none}
 use Rattle.openurl_reading.proofs.Others.{bytes_eq-same}
 use Rattle.openurl_reading.proofs.Values.{values_after, all_of-taken, all_of-taken-own}
 
@@ -111,12 +111,12 @@ named_settles laws namespace plain rest values is = by_found (among namespace re
             ∙ known_named namespace n values' (ap (λ b. b || is_one_of values (uri_of namespace n)) (bytes_eq-same (uri_of namespace n)))
 
 -- a URI of another namespace changes nothing
-pub other_among : AreIdentified → (namespace other : Namespace) (text : Text) → registered namespace ≢ registered other → (rest : Option Text)
-    (values : List Text) → among namespace rest (uri_of other text ∷ values) ≡ among namespace rest values
-other_among laws namespace other text apart rest values =
+pub other_among : AreIdentified → (namespace other : Namespace) (n : Text) → IsIdentifier other n → registered namespace ≢ registered other
+    → (rest : Option Text) (values : List Text) → among namespace rest (uri_of other n ∷ values) ≡ among namespace rest values
+other_among laws namespace other n is apart rest values =
     let find = identifier_of namespace (codes "rft_id") in
     ap (λ o. option_or o rest)
-    (found-cons find (uri_of other text) values ∙ ap (λ o. option_or o (first_found find values)) (uri_has_none laws other namespace text apart))
+    (found-cons find (uri_of other n) values ∙ ap (λ o. option_or o (first_found find values)) (uri_has_none laws other namespace n is apart))
 
 pub still_named : (namespace : Namespace) (found : Option Text) (v : Text) (values : List Text) → named namespace found values ≡ unchanged
     → named namespace found (v ∷ values) ≡ unchanged
@@ -125,15 +125,16 @@ still_named namespace (Some n) v values h =
     known_named namespace n (v ∷ values) (more_known v values (uri_of namespace n) (named_known namespace n values h))
 
 pub named_keeps : AreIdentified → (namespace other : Namespace) → registered namespace ≢ registered other → (rest found : Option Text) (values : List Text)
-    → IsNamedAmong namespace rest values → IsNamedAmong namespace rest (values_after (named other found values) values)
-named_keeps laws namespace other apart rest None values h = h
-named_keeps laws namespace other apart rest (Some m) values h = by_test (is_one_of values (uri_of other m))
+    → IsAll (IsIdentifier other) found → IsNamedAmong namespace rest values
+    → IsNamedAmong namespace rest (values_after (named other found values) values)
+named_keeps laws namespace other apart rest None values are h = h
+named_keeps laws namespace other apart rest (Some m) values are h = by_test (is_one_of values (uri_of other m))
   where
     by_test : (b : Bool) → IsNamedAmong namespace rest (values_after (cond b unchanged (leading (uri_of other m ∷ []))) values)
     by_test true = h
     by_test false =
         let values' = uri_of other m ∷ values in
-        ap (λ o. named namespace o values') (other_among laws namespace other m apart rest values)
+        ap (λ o. named namespace o values') (other_among laws namespace other m (are m refl) apart rest values)
         ∙ still_named namespace (among namespace rest values) (uri_of other m) values h
 
 -- ---- one step, on pairs
@@ -171,4 +172,5 @@ still laws namespace other apart pairs h =
     let values = all_of pairs (codes "rft_id") in
     among_named (taken pairs (naming other)) namespace (rest_of namespace pairs) _ (rest-same namespace other pairs)
     (now_values other pairs (nameable other pairs) refl)
-    (named_keeps laws namespace other apart (rest_of namespace pairs) (nameable other pairs) values (named_among pairs namespace h))
+    (named_keeps laws namespace other apart (rest_of namespace pairs) (nameable other pairs) values (nameable_identifier laws other pairs)
+    (named_among pairs namespace h))

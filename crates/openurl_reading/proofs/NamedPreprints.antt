@@ -8,7 +8,7 @@ use Rattle.work_identifiers.specs.declared.namespace.Namespace.{Namespace}
 use Rattle.work_identifiers.specs.declared.namespace.Namespace.TheVariants.{Doi, Pmid, Oclc, Pmc, Arxiv}
 use Rattle.work_identifiers.specs.Forms.{IsIdentifier}
 use Rattle.work_identifiers.specs.Uris.{uri_of, arxiv_doi}
-use Rattle.openurl_reading.specs.Counting.{is_one_of}
+use Rattle.openurl_reading.specs.Keys.{is_one_of}
 use Rattle.openurl_reading.specs.Steps.{unchanged, leading, taken, after}
 use Rattle.openurl_reading.specs.Identifiers.{identifier_of, first_identifier, nameable, named, naming, namings}
 use Rattle.openurl_reading.proofs.Apart.{apart}

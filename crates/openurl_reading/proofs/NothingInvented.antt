@@ -8,7 +8,8 @@ use Rattle.std.proofs.lemmas.List.Sums.{AllPass-from_list_all}
 use Rattle.std.proofs.lemmas.List.Elements.{All-append}
 use Rattle.text_model.specs.Texts.{Text}
 use Rattle.kev_read.specs.Pairs.{KeyValue, all_of, first_of}
-use Rattle.openurl_reading.specs.Counting.{is_one_of, counting}
+use Rattle.openurl_reading.specs.Counting.{counting}
+use Rattle.openurl_reading.specs.Keys.{is_one_of}
 use Rattle.openurl_reading.specs.Steps.{taken, after}
 use Rattle.openurl_reading.specs.OldKeys.{old_keys, copies}
 use Rattle.openurl_reading.specs.DublinCore.{core_steps}

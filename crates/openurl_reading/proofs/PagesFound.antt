@@ -1,6 +1,6 @@
 -- What holds of all pages that are found in values holds of those of a request.
 use Rattle.std.proofs.Common.{◌≡◌, ◌≤◌, ◌+◌, ◌⊎◌, ℕ, zero, suc, List, [], ◌∷◌, Bool, true, false, cond, ◌&&◌, Option, Some, None, length}
-use Rattle.std.proofs.Common.{take, drop, refl, ap, ◌∙◌, subst, inl, inr, arith}
+use Rattle.std.proofs.Common.{take, drop, refl, sym, ap, ◌∙◌, subst, inl, inr, arith}
 use Rattle.std.specs.Prelude.{codes, nat_le}
 use Rattle.std.specs.Char.{is_ascii_digit}
 use Rattle.std.specs.List.{list_all, list_any, prefix_len}
@@ -12,13 +12,15 @@ use Rattle.text_model.specs.Texts.{Text}
 use Rattle.kev_read.specs.Pairs.{KeyValue, all_of, first_of}
 use Rattle.article_places.specs.Pages.{Range, only, pages_in, page_words, is_between, is_no_hyphen, first_page as page_of_words, from_page}
 use Rattle.article_places.specs.Parts.{IsPartOf, IsFromFirst}
-use Rattle.openurl_reading.specs.ArticleNumbers.{article_in, is_article, is_article_number, is_number_byte}
+use Rattle.openurl_reading.specs.ArticleNumbers.{article_in, is_article}
 use Rattle.openurl_reading.specs.Counting.{is_blank}
-use Rattle.openurl_reading.specs.Values.{most_bytes}
-use Rattle.openurl_reading.specs.Pages.{read_pages, first_in, last_in, end_among, first_page, last_page, last_among}
+use Rattle.openurl_reading.specs.Values.{most_bytes, in_ascii}
+use Rattle.openurl_reading.specs.Pages.{pages_of, read_pages, first_in, last_in, end_among, first_page, last_page, last_among}
+use Rattle.openurl_reading.proofs.ArticlesFound.{IsNotBlank, article_not_blank}
 use Rattle.openurl_reading.proofs.Firsts.{of_first}
 use Rattle.openurl_reading.proofs.FoundAre.{IsAll, none_is, or_is}
 use Rattle.openurl_reading.proofs.PagesLed.{ArePagesAgain}
+use Rattle.openurl_reading.proofs.PlainNumbers.{AreWritten, IsWord, word_stays}
 
 -- of each page that one value gives
 pub record AreFoundPages (P : Text → Type 0) : Type 0 where
@@ -89,6 +91,12 @@ FirstPagesStay = (text : Text) (pages : Range) → pages_in text ≡ Some pages 
 abbrev pub LastPagesStay : Type 0
 LastPagesStay = (text last : Text) (pages : Range) → pages_in text ≡ Some pages → pages.last ≡ Some last → pages_in last ≡ Some (only last)
 
+abbrev pub FirstPagesAreWords : Type 0
+FirstPagesAreWords = (text : Text) (pages : Range) → pages_in text ≡ Some pages → IsWord pages.first
+
+abbrev pub LastPagesAreWords : Type 0
+LastPagesAreWords = (text last : Text) (pages : Range) → pages_in text ≡ Some pages → pages.last ≡ Some last → IsWord last
+
 abbrev pub PartsAreShort : Type 0
 PartsAreShort = (text part : Text) → IsPartOf text part → length part ≤ length text
 
@@ -97,22 +105,22 @@ LastPagesAreShort = (text first last : Text) → IsFromFirst text first last →
 
 -- ---- a value that is read
 
--- it is short, and has the pages
-record IsRead (value : Text) (pages : Range) : Type 0 where
-  short : length value ≤ most_bytes
-  is : pages_in value ≡ Some pages
+-- its text is short, and has the pages
+record IsRead (text : Text) (pages : Range) : Type 0 where
+  short : length text ≤ most_bytes
+  is : pages_in text ≡ Some pages
 
-is_read : (value : Text) (pages : Range) → read_pages value ≡ Some pages → IsRead value pages
-is_read value pages e = by_test (nat_le (length value) most_bytes) refl e
+is_read : (text : Text) (pages : Range) → pages_of text ≡ Some pages → IsRead text pages
+is_read text pages e = by_test (nat_le (length text) most_bytes) refl e
   where
-    by_test : (b : Bool) → nat_le (length value) most_bytes ≡ b → cond b (pages_in value) None ≡ Some pages → IsRead value pages
-    by_test true h g = record { short = leb-true (length value) most_bytes h; is = g }
+    by_test : (b : Bool) → nat_le (length text) most_bytes ≡ b → cond b (pages_in text) None ≡ Some pages → IsRead text pages
+    by_test true h g = record { short = leb-true (length text) most_bytes h; is = g }
     by_test false h g = cc
 
 -- the pages of which a part was found
 record HasFirst (value page : Text) : Type 0 where
   pages : Range
-  read : IsRead value pages
+  read : IsRead (in_ascii value) pages
   first : pages.first ≡ page
 
 has_first : (value page : Text) → first_in value ≡ Some page → HasFirst value page
@@ -120,11 +128,11 @@ has_first value page e = by_found (read_pages value) refl e
   where
     by_found : (found : Option Range) → read_pages value ≡ found → option_map (λ (p : Range). p.first) found ≡ Some page → HasFirst value page
     by_found None h g = cc
-    by_found (Some pages) h g = record { pages = pages; read = is_read value pages h; first = cc }
+    by_found (Some pages) h g = record { pages = pages; read = is_read (in_ascii value) pages h; first = cc }
 
 record HasLast (value page : Text) : Type 0 where
   pages : Range
-  read : IsRead value pages
+  read : IsRead (in_ascii value) pages
   last : pages.last ≡ Some page
 
 has_last : (value page : Text) → last_in value ≡ Some page → HasLast value page
@@ -132,14 +140,14 @@ has_last value page e = by_found (read_pages value) refl e
   where
     by_found : (found : Option Range) → read_pages value ≡ found → option_and_then (λ (p : Range). p.last) found ≡ Some page → HasLast value page
     by_found None h g = cc
-    by_found (Some pages) h g = record { pages = pages; read = is_read value pages h; last = g }
+    by_found (Some pages) h g = record { pages = pages; read = is_read (in_ascii value) pages h; last = g }
 
 -- ---- lengths
 
 first_short : FirstPagesAre → PartsAreShort → (value page : Text) → first_in value ≡ Some page → length page ≤ 200
 first_short are short value page e =
     let has = has_first value page e in
-    omega (arith, has.read.short, ap length has.first, short value has.pages.first (are value has.pages has.read.is))
+    omega (arith, has.read.short, ap length has.first, short (in_ascii value) has.pages.first (are (in_ascii value) has.pages has.read.is))
 
 last_short : FirstPagesAre → LastPagesAre → PartsAreShort → LastPagesAreShort → (value page : Text) → last_in value ≡ Some page → length page ≤ 400
 last_short firsts lasts short both value page e =
@@ -147,8 +155,8 @@ last_short firsts lasts short both value page e =
     omega (
       arith,
       has.read.short,
-      short value has.pages.first (firsts value has.pages has.read.is),
-      both value has.pages.first page (lasts value page has.pages has.read.is has.last),
+      short (in_ascii value) has.pages.first (firsts (in_ascii value) has.pages has.read.is),
+      both (in_ascii value) has.pages.first page (lasts (in_ascii value) page has.pages has.read.is has.last),
     )
 
 pub record ArePagesShort : Type 0 where
@@ -160,29 +168,43 @@ pages_short firsts lasts short last = record { first = first_short firsts short;
 
 -- ---- they are read again
 
-read_short : (value : Text) → length value ≤ most_bytes → read_pages value ≡ pages_in value
-read_short value h = let test : nat_le (length value) most_bytes ≡ true = grind (arith, nat_tests, h) in ap (λ b. cond b (pages_in value) None) test
+read_short : (text : Text) → length text ≤ most_bytes → pages_of text ≡ pages_in text
+read_short text h = let test : nat_le (length text) most_bytes ≡ true = grind (arith, nat_tests, h) in ap (λ b. cond b (pages_in text) None) test
 
-read_or_none : (value : Text) (pages : Range) → pages_in value ≡ Some pages → (read_pages value ≡ Some pages) ⊎ (read_pages value ≡ None)
-read_or_none value pages e = by_test (nat_le (length value) most_bytes)
+-- of a text that is written as it is
+read_or_none : (text : Text) (pages : Range) → in_ascii text ≡ text → pages_in text ≡ Some pages
+    → (read_pages text ≡ Some pages) ⊎ (read_pages text ≡ None)
+read_or_none text pages stays e =
+    subst (λ t. (pages_of t ≡ Some pages) ⊎ (pages_of t ≡ None)) (sym stays) (by_test (nat_le (length text) most_bytes))
   where
-    by_test : (b : Bool) → (cond b (pages_in value) None ≡ Some pages) ⊎ (cond b (pages_in value) None ≡ None)
+    by_test : (b : Bool) → (cond b (pages_in text) None ≡ Some pages) ⊎ (cond b (pages_in text) None ≡ None)
     by_test true = inl e
     by_test false = inr refl
 
-pub pages_again : FirstPagesAre → PartsAreShort → FirstPagesStay → LastPagesStay → ArePagesAgain
-pages_again are short firsts lasts = record {
+-- what the laws say of pages that are found
+pub record PageLaws : Type 0 where
+  pub are : FirstPagesAre
+  pub short : PartsAreShort
+  pub firsts : FirstPagesStay
+  pub lasts : LastPagesStay
+  pub first_words : FirstPagesAreWords
+  pub last_words : LastPagesAreWords
+  pub written : AreWritten
+
+pub pages_again : PageLaws → ArePagesAgain
+pages_again laws = record {
   first = λ value page e.
       let has = has_first value page e in
-      read_short page (first_short are short value page e)
-      ∙ subst (λ t. pages_in t ≡ Some (only t)) has.first (firsts value has.pages has.read.is);
-  last = λ value page e. let has = has_last value page e in read_or_none page (only page) (lasts value page has.pages has.read.is has.last);
+      let word = subst IsWord has.first (laws.first_words (in_ascii value) has.pages has.read.is) in
+      ap pages_of (word_stays laws.written page word) ∙ read_short page (first_short laws.are laws.short value page e)
+      ∙ subst (λ t. pages_in t ≡ Some (only t)) has.first (laws.firsts (in_ascii value) has.pages has.read.is);
+  last = λ value page e.
+      let has = has_last value page e in
+      let word = laws.last_words (in_ascii value) page has.pages has.read.is has.last in
+      read_or_none page (only page) (word_stays laws.written page word) (laws.lasts (in_ascii value) page has.pages has.read.is has.last);
 }
 
 -- ---- they are not blank
-
-abbrev pub IsNotBlank : Text → Type 0
-IsNotBlank text = is_blank text ≡ false
 
 blank_between : (b : ℕ) → nat_le b 0x20 ≡ true → is_between b ≡ true
 blank_between b h = grind (arith, nat_tests)
@@ -211,38 +233,11 @@ page_not_blank page e = by_test (is_blank page) refl
     by_test true h = let none = no_pages page h in cc
     by_test false h = refl
 
--- ---- the number of an article
-
-article_is : (value n : Text) → article_in value ≡ Some n → is_article_number n ≡ true
-article_is value n e = by_test (is_article_number (trim value)) refl e
-  where
-    by_test : (b : Bool) → is_article_number (trim value) ≡ b → cond b (Some (trim value)) None ≡ Some n → is_article_number n ≡ true
-    by_test true h g = cc
-    by_test false h g = cc
-
-pub article_short : (value n : Text) → article_in value ≡ Some n → length n ≤ 40
-article_short value n e =
-    let parts = and_parts _ (list_any is_ascii_digit n) (article_is value n e) in
-    leb-true (length n) 40 (and_parts (nat_le (length n) 40) (list_all is_number_byte n) parts.0).0
-
-number_byte_shows : (b : ℕ) → is_number_byte b ≡ true → nat_le b 0x20 ≡ false
-number_byte_shows b h = grind (arith, nat_tests)
-
-number_not_blank : (n : Text) → list_all is_number_byte n ≡ true → list_any is_ascii_digit n ≡ true → IsNotBlank n
-number_not_blank [] all any = cc
-number_not_blank (b ∷ n) all any =
-    ap (λ t. t && is_blank n) (number_byte_shows b (and_parts (is_number_byte b) (list_all is_number_byte n) all).0)
-
-article_not_blank : (value n : Text) → article_in value ≡ Some n → IsNotBlank n
-article_not_blank value n e =
-    let parts = and_parts _ (list_any is_ascii_digit n) (article_is value n e) in
-    number_not_blank n (and_parts (nat_le (length n) 40) (list_all is_number_byte n) parts.0).1 parts.1
-
 pub pages_not_blank : FirstPagesStay → LastPagesStay → AreFoundPages IsNotBlank
 pages_not_blank firsts lasts = record {
   first = λ value page e.
       let has = has_first value page e in
-      subst IsNotBlank has.first (page_not_blank has.pages.first (firsts value has.pages has.read.is));
-  last = λ value page e. let has = has_last value page e in page_not_blank page (lasts value page has.pages has.read.is has.last);
+      subst IsNotBlank has.first (page_not_blank has.pages.first (firsts (in_ascii value) has.pages has.read.is));
+  last = λ value page e. let has = has_last value page e in page_not_blank page (lasts (in_ascii value) page has.pages has.read.is has.last);
   article = article_not_blank;
 }

@@ -9,7 +9,9 @@ use Rattle.std.proofs.lemmas.List.Sums.{AllPass-from_list_all}
 use Rattle.std.proofs.lemmas.List.Elements.{All-cons, All-head, All-tail, All-take}
 use Rattle.text_model.specs.Texts.{Text}
 use Rattle.kev_read.specs.Pairs.{KeyValue, all_of, first_of}
-use Rattle.openurl_reading.specs.Counting.{is_free, is_void, is_blank, is_any, is_prefix, is_one_of, row_keys, is_accepted, accepted, counting, most_pairs}
+use Rattle.openurl_reading.specs.Counting.{is_free, is_void, is_blank, is_any, is_prefix, row_keys, is_accepted, accepted, counting, most_pairs}
+use Rattle.openurl_reading.specs.Keys.{is_one_of}
+use Rattle.openurl_reading.specs.Keys.{named}
 use Rattle.openurl_reading.specs.Steps.{Step, unchanged, replacing, taken, after}
 use Rattle.openurl_reading.specs.Values.{most_values}
 use Rattle.openurl_reading.specs.Versions.{version, encoding, is_other, correction, versions}
@@ -29,7 +31,7 @@ accepted_pass (pair ∷ pairs) = by_test (is_accepted pair) refl (accepted_pass 
     by_test false h rest = rest
 
 pub counting_pass : (pairs : List KeyValue) → AreAccepted (counting pairs)
-counting_pass pairs = All-take (λ p. is_accepted p ≡ true) most_pairs (accepted pairs) (accepted_pass pairs)
+counting_pass pairs = All-take (λ p. is_accepted p ≡ true) most_pairs (accepted (map named pairs)) (accepted_pass (map named pairs))
 
 -- ---- a value that counts under a key counts under another one
 

@@ -15,10 +15,10 @@ use Rattle.openurl_reading.specs.Origins.{HasOrigin, doi_of_preprint}
 use Rattle.openurl_reading.proofs.Apart.{same_or_apart}
 use Rattle.openurl_reading.proofs.Each.{each_named}
 use Rattle.openurl_reading.proofs.FoundAre.{IsAll}
-use Rattle.openurl_reading.proofs.Identified.{IsPlain, AreIdentified, found_is, uri_has_none, some_same, none_given}
+use Rattle.openurl_reading.proofs.Identified.{IsPlain, AreIdentified, found_is, nameable_identifier, uri_has_none, some_same, none_given}
 use Rattle.openurl_reading.proofs.Named.{plain_has}
 use Rattle.openurl_reading.proofs.IdentifierOrigins.{identifier_has_origin, uri_has_origin, GivesRead, AreRead}
-use Rattle.openurl_reading.proofs.IdentifierOrigins.{nameable_read, nameable_identifier, named_values, with_values}
+use Rattle.openurl_reading.proofs.IdentifierOrigins.{nameable_read, named_values, with_values}
 
 -- ---- what has its origin in the request, also after the steps of DOIs and of arXiv
 
@@ -46,11 +46,12 @@ under_origin : (sent : List Text) (namespace : Namespace) (pairs : List KeyValue
 under_origin sent namespace pairs key plain all =
     found_is (HasBoth sent namespace) (identifier_of namespace key) (all_of pairs key) (λ k d h. all k d h namespace plain)
 
-other_origin : AreIdentified → (sent : List Text) (uri d : Text) → uri ≡ uri_of Doi d → (namespace : Namespace) → registered namespace ≢ registered Doi
+other_origin : AreIdentified → (sent : List Text) (uri d : Text) → uri ≡ uri_of Doi d → IsIdentifier Doi d → (namespace : Namespace)
+    → registered namespace ≢ registered Doi
     → IsAll (HasBoth sent namespace) (identifier_of namespace (codes "rft_id") uri)
-other_origin laws sent uri d same namespace apart n e =
+other_origin laws sent uri d same is namespace apart n e =
     let none : identifier_of namespace (codes "rft_id") uri ≡ None =
-    ap (identifier_of namespace (codes "rft_id")) same ∙ uri_has_none laws Doi namespace d apart in
+    ap (identifier_of namespace (codes "rft_id")) same ∙ uri_has_none laws Doi namespace d is apart in
     absurd (none_given (identifier_of namespace (codes "rft_id") uri) n none e)
 
 doi_alone : AreIdentified → (sent : List Text) (uri d : Text) → uri ≡ uri_of Doi d → IsIdentifier Doi d → HasOrigin sent d → HasOrigin sent uri
@@ -67,7 +68,7 @@ doi_origin laws sent uri d same is has has_uri namespace plain =
     elim (same_or_apart namespace Doi) [
       | inl doi ↦
           subst (λ k. IsAll (HasBoth sent k) (identifier_of k (codes "rft_id") uri)) (sym doi) (doi_alone laws sent uri d same is has has_uri)
-      | inr other ↦ other_origin laws sent uri d same namespace (λ doi. other (sym plain ∙ doi))
+      | inr other ↦ other_origin laws sent uri d same is namespace (λ doi. other (sym plain ∙ doi))
     ]
 
 preprint_gives : AreIdentified → (sent : List Text) (pairs : List KeyValue) → AreRead sent pairs

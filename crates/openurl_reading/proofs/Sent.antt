@@ -9,7 +9,10 @@ use Rattle.std.proofs.lemmas.List.{get_or-map, length-map}
 use Rattle.std.proofs.lemmas.List.Elements.{All-take, All-filter, All-head, All-tail, Contains-get_or}
 use Rattle.text_model.specs.Texts.{Text}
 use Rattle.kev_read.specs.Pairs.{KeyValue, all_of, first_of}
-use Rattle.openurl_reading.specs.Counting.{is_one_of, is_accepted, most_pairs, accepted, counting}
+use Rattle.openurl_reading.specs.Counting.{is_accepted, most_pairs, accepted, counting}
+use Rattle.openurl_reading.specs.Keys.{is_one_of}
+use Rattle.openurl_reading.specs.Keys.{named}
+use Rattle.openurl_reading.proofs.SmallKeys.{values_named}
 use Rattle.openurl_reading.specs.Steps.{unchanged, replacing, taken, after}
 use Rattle.openurl_reading.specs.Values.{most_values}
 use Rattle.openurl_reading.specs.Versions.{version, encoding, is_other, correction}
@@ -61,7 +64,9 @@ AreValuesOf request pairs = All (λ pair. Contains (all_values request) pair.val
 pub counting_values : (request : List KeyValue) → AreValuesOf request (counting request)
 counting_values request =
     let P : KeyValue → Type 0 = λ pair. Contains (all_values request) pair.value in
-    All-take P most_pairs (accepted request) (All-filter is_accepted P request (contains_values request))
+    let values : All P (map named request) =
+    subst (λ values. All (λ pair. Contains values pair.value) (map named request)) (values_named request) (contains_values (map named request)) in
+    All-take P most_pairs (accepted (map named request)) (All-filter is_accepted P (map named request) values)
 
 -- ---- after versions, old keys, and what the kind gives
 

@@ -1,12 +1,14 @@
 -- How large a reading is.
 use Rattle.std.proofs.Common.{◌≡◌, ℕ, ◌+◌, ◌≤◌, ◌*◌, List, [], ◌∷◌, ◌++◌, Bool, true, false, cond}
-use Rattle.std.proofs.Common.{Option, Some, None, refl, subst, sym, length, arith}
+use Rattle.std.proofs.Common.{map, Option, Some, None, refl, subst, sym, length, arith}
 use Rattle.std.specs.Prelude.{codes}
 use Rattle.std.specs.List.{sum_by}
 use Rattle.std.proofs.lemmas.List.Sums.{sum_by-take-le, sum_by-cons, sum_by-append}
 use Rattle.text_model.specs.Texts.{Text}
 use Rattle.kev_read.specs.Pairs.{KeyValue, all_of, first_of}
 use Rattle.openurl_reading.specs.Counting.{is_accepted, most_pairs, accepted, counting}
+use Rattle.openurl_reading.specs.Keys.{named}
+use Rattle.openurl_reading.proofs.SmallKeys.{total_named}
 use Rattle.openurl_reading.specs.Steps.{taken, after}
 use Rattle.openurl_reading.specs.Versions.{version, encoding, correction}
 use Rattle.openurl_reading.specs.Fields.{fields}
@@ -28,7 +30,8 @@ use Rattle.openurl_reading.proofs.DerivedWeigh.{AreEncodedLight, derived_weigh}
 use Rattle.openurl_reading.proofs.Identified.{first_is, nameable_is, of_is}
 use Rattle.openurl_reading.proofs.KeysWeigh.{AreLight, AreFormatsLight, all_three, both_others, correction_weighs, keys_weigh}
 use Rattle.openurl_reading.proofs.VolumeLaws.{AreFoundNumbers, added_issue_is, found_volume_is, found_issue_is}
-use Rattle.openurl_reading.proofs.PagesFound.{ArePagesShort, first_page_is, last_page_is, article_short}
+use Rattle.openurl_reading.proofs.ArticlesFound.{article_short}
+use Rattle.openurl_reading.proofs.PagesFound.{ArePagesShort, first_page_is, last_page_is}
 use Rattle.openurl_reading.proofs.Stages.{after_dates, kind_steps, led_steps, with_versions, normal_form-led}
 use Rattle.openurl_reading.proofs.Totals.{total, total_taken, led_weighs, named_weighs}
 
@@ -172,7 +175,13 @@ accepted_weigh g (pair ∷ pairs) = by_test (is_accepted pair) (accepted_weigh g
     by_test false rest = omega (arith, sum_by-cons (λ (p : KeyValue). g p.value) pair pairs, rest)
 
 pub counting_weighs : (g : Text → ℕ) (pairs : List KeyValue) → total g (counting pairs) ≤ total g pairs
-counting_weighs g pairs = omega (arith, sum_by-take-le (λ (p : KeyValue). g p.value) (accepted pairs) most_pairs, accepted_weigh g pairs)
+counting_weighs g pairs =
+    omega (
+      arith,
+      sum_by-take-le (λ (p : KeyValue). g p.value) (accepted (map named pairs)) most_pairs,
+      accepted_weigh g (map named pairs),
+      total_named g pairs,
+    )
 
 pub total-one : (pairs : List KeyValue) → total (λ n. 1) pairs ≡ length pairs
 total-one [] = refl

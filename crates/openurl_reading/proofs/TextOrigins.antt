@@ -11,7 +11,7 @@ use Rattle.kev_read.specs.Pairs.{KeyValue, all_of}
 use Rattle.written_texts.specs.declared.readings.Role.{Role}
 use Rattle.written_texts.specs.declared.readings.Role.TheVariants.{Title, Other}
 use Rattle.written_texts.specs.Readings.{written}
-use Rattle.openurl_reading.specs.Counting.{is_one_of}
+use Rattle.openurl_reading.specs.Keys.{is_one_of}
 use Rattle.openurl_reading.specs.Steps.{Step, unchanged, replacing, taken, after}
 use Rattle.openurl_reading.specs.Values.{most_values, values_of}
 use Rattle.openurl_reading.specs.Origins.{HasOrigin, text_in, page_in, page_in_text}

@@ -11,7 +11,8 @@ use Rattle.kev_read.specs.Pairs.{KeyValue, all_of}
 use Rattle.written_texts.specs.declared.readings.Role.{Role}
 use Rattle.written_texts.specs.declared.readings.Role.TheVariants.{Title, Other}
 use Rattle.written_texts.specs.Readings.{written}
-use Rattle.openurl_reading.specs.Counting.{is_free, is_void, is_blank, is_one_of, row_keys}
+use Rattle.openurl_reading.specs.Counting.{is_free, is_void, is_blank, row_keys}
+use Rattle.openurl_reading.specs.Keys.{is_one_of}
 use Rattle.openurl_reading.specs.Steps.{unchanged, replacing, taken, after}
 use Rattle.openurl_reading.specs.Values.{most_values, values_of}
 use Rattle.openurl_reading.specs.Texts.{are_read, texting, title_texts, other_texts, text_steps}

@@ -9,7 +9,7 @@ use Rattle.text_model.specs.Texts.{Text}
 use Rattle.kev_read.specs.Pairs.{KeyValue, all_of}
 use Rattle.openurl_reading.specs.declared.kinds.Kind.{Kind}
 use Rattle.openurl_reading.specs.declared.kinds.Kind.TheVariants.{Book, Dissertation, Journal}
-use Rattle.openurl_reading.specs.Counting.{is_one_of}
+use Rattle.openurl_reading.specs.Keys.{is_one_of}
 use Rattle.openurl_reading.specs.Kinds.{has, kind_of}
 use Rattle.openurl_reading.specs.Steps.{Change, unchanged, changed, taken, after}
 use Rattle.openurl_reading.specs.Values.{most_values}

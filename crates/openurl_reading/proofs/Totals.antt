@@ -10,7 +10,7 @@ use Rattle.text_model.specs.Texts.{Text}
 use Rattle.kev_read.specs.Pairs.{KeyValue, has_key, all_of}
 use Rattle.work_identifiers.specs.declared.namespace.Namespace.{Namespace}
 use Rattle.work_identifiers.specs.Uris.{uri_of}
-use Rattle.openurl_reading.specs.Counting.{is_one_of}
+use Rattle.openurl_reading.specs.Keys.{is_one_of}
 use Rattle.openurl_reading.specs.Identifiers.{named}
 use Rattle.openurl_reading.specs.Steps.{Step, unchanged, leading, replacing, pairs_with, others, kept, changed, taken, after}
 use Rattle.openurl_reading.specs.Values.{most_values, led}

@@ -12,9 +12,9 @@ use Rattle.article_places.specs.Enumerations.{Numbers, numbers_in, alone, short_
 use Rattle.article_places.specs.Words.{is_gap, is_not_open, words, words_in, bracketed}
 use Rattle.openurl_reading.specs.Counting.{is_blank}
 use Rattle.openurl_reading.specs.Volumes.{read_numbers}
-use Rattle.openurl_reading.proofs.PagesFound.{IsNotBlank}
+use Rattle.openurl_reading.proofs.ArticlesFound.{IsNotBlank}
 use Rattle.openurl_reading.proofs.VolumesFound.{IsIn}
-use Rattle.openurl_reading.proofs.VolumeLaws.{in_short, mark_short, supplement_long, number_again, NumberLaws, AreFoundNumbers, is_read}
+use Rattle.openurl_reading.proofs.VolumeLaws.{in_short, mark_short, supplement_long, number_alone, NumberLaws, AreFoundNumbers}
 
 -- ---- they are short
 
@@ -80,7 +80,7 @@ longer_not_blank (b ∷ text) more h = by_test (nat_le b 0x20) (longer_not_blank
 pub numbers_not_blank : NumberLaws → AreFoundNumbers IsNotBlank
 numbers_not_blank laws value =
     let number : (number : Text) (n : Numbers) → read_numbers value ≡ Some n → IsIn n number → IsNotBlank number =
-    λ number n e is. number_not_blank number (is_read number (alone number) (number_again laws value number n e is)).is in
+    λ number n e is. number_not_blank number (number_alone laws value number n e is) in
     record {
       number = number;
       supplement = λ mark n e f. supplement_not_blank mark;

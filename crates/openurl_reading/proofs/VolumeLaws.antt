@@ -1,7 +1,8 @@
 -- What follows for volumes and issues from the laws of numbers: they are found again, short and not blank.
-use Rattle.std.proofs.Common.{◌≡◌, ◌≤◌, ◌+◌, ◌⊎◌, List, [], ◌∷◌, ◌++◌, Bool, true, false, cond, Option, Some, None, length, refl, ap, ◌∙◌, subst, inl}
+use Rattle.std.proofs.Common.{◌≡◌, ◌≤◌, ◌+◌, ◌⊎◌, List, [], ◌∷◌, ◌++◌, Bool, true, false, cond, Option, Some, None, length, refl, sym, ap, ◌∙◌, subst, inl}
 use Rattle.std.proofs.Common.{inr, arith}
-use Rattle.std.specs.Prelude.{codes, nat_le}
+use Rattle.std.specs.Prelude.{◌≢◌, codes, nat_le}
+use Rattle.std.specs.Option.{option_and_then}
 use Rattle.std.specs.Str.{bytes_eq}
 use Rattle.std.proofs.lemmas.Bool.{leb-true}
 use Rattle.std.proofs.lemmas.Bool.Decides.{nat_tests}
@@ -10,12 +11,13 @@ use Rattle.text_model.specs.Texts.{Text}
 use Rattle.kev_read.specs.Pairs.{KeyValue, all_of, first_of}
 use Rattle.article_places.specs.Enumerations.{Numbers, numbers_in, alone, short_supplement}
 use Rattle.article_places.specs.Parts.{IsPartOf}
-use Rattle.openurl_reading.specs.Values.{most_bytes}
-use Rattle.openurl_reading.specs.Volumes.{read_numbers, issue_text, volume_of, volume_in, issue_after, issue_after_volume, number_before}
+use Rattle.openurl_reading.specs.Values.{most_bytes, in_ascii}
+use Rattle.openurl_reading.specs.Volumes.{numbers_of, read_numbers, issue_text, volume_of, volume_in, issue_after, issue_after_volume, number_before}
 use Rattle.openurl_reading.specs.Volumes.{volume_before_issue, is_volume, issue_by, issue_in, added_issue, volume, issue, without_own, volume_among}
 use Rattle.openurl_reading.proofs.Firsts.{of_first}
 use Rattle.openurl_reading.proofs.FoundAre.{IsAll, none_is}
 use Rattle.openurl_reading.proofs.PagesFound.{PartsAreShort}
+use Rattle.openurl_reading.proofs.PlainNumbers.{AreWritten, IsWord, word_stays, supplement_stays, both_stays}
 use Rattle.openurl_reading.proofs.VolumesFound.{AreNumbersAgain, IsReadOr, IsIn, supplement_alone, supplement_of, of_numbers}
 
 -- ---- what the laws say
@@ -34,6 +36,9 @@ abbrev pub SupplementsStayAfter : Type 0
 SupplementsStayAfter = (text mark number : Text) (n : Numbers) → numbers_in text ≡ Some n → n.supplement ≡ Some mark
     → numbers_in number ≡ Some (alone number) → numbers_in (number ++ 0x20 ∷ short_supplement mark) ≡ Some (supplement_of number mark)
 
+abbrev pub AreWords : (Numbers → Option Text) → Type 0
+AreWords find = (text number : Text) (n : Numbers) → numbers_in text ≡ Some n → find n ≡ Some number → IsWord number
+
 pub record NumberLaws : Type 0 where
   pub short : PartsAreShort
   pub first_part : ArePart (λ n. n.first)
@@ -43,27 +48,32 @@ pub record NumberLaws : Type 0 where
   pub issue_alone : AreAlone (λ n. n.issue)
   pub supplement_alone : SupplementsStay
   pub after_number : SupplementsStayAfter
+  pub first_word : AreWords (λ n. n.first)
+  pub issue_word : AreWords (λ n. n.issue)
+  pub supplement_word : AreWords (λ n. n.supplement)
+  pub written : AreWritten
 
 -- ---- a value that is read
 
-pub record IsRead (value : Text) (n : Numbers) : Type 0 where
-  pub short : length value ≤ most_bytes
-  pub is : numbers_in value ≡ Some n
+record IsRead (text : Text) (n : Numbers) : Type 0 where
+  short : length text ≤ most_bytes
+  is : numbers_in text ≡ Some n
 
-pub is_read : (value : Text) (n : Numbers) → read_numbers value ≡ Some n → IsRead value n
-is_read value n e = by_test (nat_le (length value) most_bytes) refl e
+is_read : (text : Text) (n : Numbers) → numbers_of text ≡ Some n → IsRead text n
+is_read text n e = by_test (nat_le (length text) most_bytes) refl e
   where
-    by_test : (b : Bool) → nat_le (length value) most_bytes ≡ b → cond b (numbers_in value) None ≡ Some n → IsRead value n
-    by_test true h g = record { short = leb-true (length value) most_bytes h; is = g }
+    by_test : (b : Bool) → nat_le (length text) most_bytes ≡ b → cond b (numbers_in text) None ≡ Some n → IsRead text n
+    by_test true h g = record { short = leb-true (length text) most_bytes h; is = g }
     by_test false h g = cc
 
-read_short : (value : Text) → length value ≤ most_bytes → read_numbers value ≡ numbers_in value
-read_short value h = let test : nat_le (length value) most_bytes ≡ true = grind (arith, nat_tests, h) in ap (λ b. cond b (numbers_in value) None) test
+read_short : (text : Text) → length text ≤ most_bytes → numbers_of text ≡ numbers_in text
+read_short text h = let test : nat_le (length text) most_bytes ≡ true = grind (arith, nat_tests, h) in ap (λ b. cond b (numbers_in text) None) test
 
-read_or_none : (value : Text) (n : Numbers) → numbers_in value ≡ Some n → IsReadOr value n
-read_or_none value n e = by_test (nat_le (length value) most_bytes)
+-- of a text that is written as it is
+read_or_none : (text : Text) (n : Numbers) → in_ascii text ≡ text → numbers_in text ≡ Some n → IsReadOr text n
+read_or_none text n stays e = subst (λ t. (numbers_of t ≡ Some n) ⊎ (numbers_of t ≡ None)) (sym stays) (by_test (nat_le (length text) most_bytes))
   where
-    by_test : (b : Bool) → (cond b (numbers_in value) None ≡ Some n) ⊎ (cond b (numbers_in value) None ≡ None)
+    by_test : (b : Bool) → (cond b (numbers_in text) None ≡ Some n) ⊎ (cond b (numbers_in text) None ≡ None)
     by_test true = inl e
     by_test false = inr refl
 
@@ -71,13 +81,16 @@ read_or_none value n e = by_test (nat_le (length value) most_bytes)
 
 pub in_short : NumberLaws → (value number : Text) (n : Numbers) → read_numbers value ≡ Some n → IsIn n number → length number ≤ 200
 in_short laws value number n e (inl f) =
-    let read = is_read value n e in omega (arith, read.short, laws.short value number (laws.first_part value number n read.is f))
+    let text = in_ascii value in
+    let read = is_read text n e in omega (arith, read.short, laws.short text number (laws.first_part text number n read.is f))
 in_short laws value number n e (inr f) =
-    let read = is_read value n e in omega (arith, read.short, laws.short value number (laws.issue_part value number n read.is f))
+    let text = in_ascii value in
+    let read = is_read text n e in omega (arith, read.short, laws.short text number (laws.issue_part text number n read.is f))
 
 pub mark_short : NumberLaws → (value mark : Text) (n : Numbers) → read_numbers value ≡ Some n → n.supplement ≡ Some mark → length mark ≤ 200
 mark_short laws value mark n e f =
-    let read = is_read value n e in omega (arith, read.short, laws.short value mark (laws.supplement_part value mark n read.is f))
+    let text = in_ascii value in
+    let read = is_read text n e in omega (arith, read.short, laws.short text mark (laws.supplement_part text mark n read.is f))
 
 pub supplement_long : (mark : Text) → length (short_supplement mark) ≤ 6 + length mark
 supplement_long [] = omega arith
@@ -85,22 +98,38 @@ supplement_long (b ∷ t) = omega (arith, length-append (codes "Suppl ") (b ∷ 
 
 -- ---- found again
 
+pub number_alone : NumberLaws → (value number : Text) (n : Numbers) → read_numbers value ≡ Some n → IsIn n number → numbers_in number ≡ Some (alone number)
+number_alone laws value number n e (inl f) = laws.first_alone (in_ascii value) number n (is_read (in_ascii value) n e).is f
+number_alone laws value number n e (inr f) = laws.issue_alone (in_ascii value) number n (is_read (in_ascii value) n e).is f
+
+number_word : NumberLaws → (value number : Text) (n : Numbers) → read_numbers value ≡ Some n → IsIn n number → IsWord number
+number_word laws value number n e (inl f) = laws.first_word (in_ascii value) number n (is_read (in_ascii value) n e).is f
+number_word laws value number n e (inr f) = laws.issue_word (in_ascii value) number n (is_read (in_ascii value) n e).is f
+
+mark_word : NumberLaws → (value mark : Text) (n : Numbers) → read_numbers value ≡ Some n → n.supplement ≡ Some mark → IsWord mark
+mark_word laws value mark n e f = laws.supplement_word (in_ascii value) mark n (is_read (in_ascii value) n e).is f
+
+alone_some : (number : Text) → numbers_in number ≡ Some (alone number) → number ≢ []
+alone_some number e none =
+    let first : Option Numbers → Option Text = option_and_then (λ (n : Numbers). n.first) in
+    let no : None ≡ Some number = sym (ap (λ t. first (numbers_in t)) none) ∙ ap first e in cc
+
 pub number_again : NumberLaws → (value number : Text) (n : Numbers) → read_numbers value ≡ Some n → IsIn n number → read_numbers number ≡ Some (alone number)
 number_again laws value number n e is =
-    read_short number (in_short laws value number n e is) ∙ by_place is
-  where
-    by_place : IsIn n number → numbers_in number ≡ Some (alone number)
-    by_place (inl f) = laws.first_alone value number n (is_read value n e).is f
-    by_place (inr f) = laws.issue_alone value number n (is_read value n e).is f
+    ap numbers_of (word_stays laws.written number (number_word laws value number n e is))
+    ∙ read_short number (in_short laws value number n e is) ∙ number_alone laws value number n e is
 
 pub numbers_again : NumberLaws → AreNumbersAgain
 numbers_again laws = record {
   number = number_again laws;
   supplement = λ value mark n e f.
-      read_or_none (short_supplement mark) (supplement_alone mark) (laws.supplement_alone value mark n (is_read value n e).is f);
-  both = λ value mark number n e f one.
+      read_or_none (short_supplement mark) (supplement_alone mark) (supplement_stays laws.written mark (mark_word laws value mark n e f))
+      (laws.supplement_alone (in_ascii value) mark n (is_read (in_ascii value) n e).is f);
+  both = λ value mark number n e f is.
+      let one = number_alone laws value number n e is in
       read_or_none (number ++ 0x20 ∷ short_supplement mark) (supplement_of number mark)
-      (laws.after_number value mark number n (is_read value n e).is f (is_read number (alone number) one).is);
+      (both_stays laws.written number mark (alone_some number one) (number_word laws value number n e is) (mark_word laws value mark n e f))
+      (laws.after_number (in_ascii value) mark number n (is_read (in_ascii value) n e).is f one);
 }
 
 -- ---- what holds of all that is found

@@ -13,16 +13,16 @@ use Rattle.openurl_reading.specs.Origins.{HasOrigin, number_in, supplement_in, s
 use Rattle.openurl_reading.proofs.Each.{each_after}
 use Rattle.openurl_reading.proofs.Firsts.{of_first}
 use Rattle.openurl_reading.proofs.FoundAre.{IsAll, none_is}
-use Rattle.openurl_reading.proofs.VolumeLaws.{AreFoundNumbersIn, is_read, issue_is, volume_is, issue_after_is, volume_before_is}
+use Rattle.openurl_reading.proofs.VolumeLaws.{AreFoundNumbersIn, issue_is, volume_is, issue_after_is, volume_before_is}
 use Rattle.openurl_reading.proofs.VolumesFound.{AreNumbersAgain, IsReadOr, IsSame, supplement_of, of_numbers, designation_of, none_before, issue_same}
 use Rattle.openurl_reading.proofs.VolumesLed.{with_added}
 
 -- what is found in a value of the request
 found_in : (sent : List Text) (value : Text) → Contains sent value → AreFoundNumbersIn (HasOrigin sent) value
 found_in sent value h = record {
-  number = λ number n e is. number_in value number n h (is_read value n e).is is;
-  supplement = λ mark n e f. supplement_in value mark n h (is_read value n e).is f;
-  both = λ number mark n e is f. supplement_of_issue value number mark n h (is_read value n e).is is f;
+  number = λ number n e is. number_in value number n h e is;
+  supplement = λ mark n e f. supplement_in value mark n h e f;
+  both = λ number mark n e is f. supplement_of_issue value number mark n h e is f;
 }
 
 -- what is found in a value under the key of issues has an origin
@@ -94,7 +94,7 @@ added_gives laws sent value w h e =
     by_numbers (Some f) (Some x) (Some s) n read b c g =
         let same : x ++ 0x20 ∷ short_supplement s ≡ w = cc in
         subst (GivesIssues sent) same
-        (both_gives sent x s (laws.both value s x n read c (laws.number value x n read (inr b))) (found.number x n read (inr b))
+        (both_gives sent x s (laws.both value s x n read c (inr b)) (found.number x n read (inr b))
         (found.supplement s n read c) (found.both x s n read (inr b) c))
 
 -- ---- the values of keys

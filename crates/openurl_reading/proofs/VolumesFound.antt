@@ -30,7 +30,7 @@ pub record AreNumbersAgain : Type 0 where
   pub supplement : (value mark : Text) (n : Numbers) → read_numbers value ≡ Some n → n.supplement ≡ Some mark
       → IsReadOr (short_supplement mark) (supplement_alone mark)
   pub both : (value mark number : Text) (n : Numbers) → read_numbers value ≡ Some n → n.supplement ≡ Some mark
-      → read_numbers number ≡ Some (alone number) → IsReadOr (number ++ 0x20 ∷ short_supplement mark) (supplement_of number mark)
+      → IsIn n number → IsReadOr (number ++ 0x20 ∷ short_supplement mark) (supplement_of number mark)
 
 -- ---- by cases on the numbers that are read
 
@@ -125,7 +125,7 @@ beside_of : AreNumbersAgain → (volume : Option Text) (value number mark first 
     → number_before numbers.first (issue_text numbers.issue numbers.supplement) ≡ Some first
     → number ++ 0x20 ∷ short_supplement mark ≡ n → IsIssueOf volume value n
 beside_of laws volume value number mark first n numbers read has supplement other before whole =
-    let known = laws.both value mark number numbers read supplement (laws.number value number numbers read has) in
+    let known = laws.both value mark number numbers read supplement has in
     beside first (record {
       number = number;
       mark = mark;

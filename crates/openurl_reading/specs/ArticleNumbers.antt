@@ -4,6 +4,7 @@ use Rattle.std.specs.Char.{is_ascii_alphanumeric, is_ascii_digit}
 use Rattle.std.specs.List.{list_all, list_any}
 use Rattle.std.specs.Str.{trim, bytes_eq}
 use Rattle.text_model.specs.Texts.{Text}
+use Rattle.openurl_reading.specs.Values.{in_ascii}
 
 -- how many bytes it has at most
 abbrev pub most_bytes : ℕ
@@ -17,9 +18,13 @@ is_number_byte b = is_ascii_alphanumeric b || b == 0x5f || b == 0x2e || b == 0x2
 abbrev pub is_article_number : Text → Bool
 is_article_number text = nat_le (length text) most_bytes && list_all is_number_byte text && list_any is_ascii_digit text
 
--- a value that is one, without the spaces around it
+-- a text that is one, without the spaces around it
+abbrev pub article_of : Text → Option Text
+article_of text = if is_article_number (trim text) then Some (trim text) else None
+
+-- a value that is one
 abbrev pub article_in : Text → Option Text
-article_in value = if is_article_number (trim value) then Some (trim value) else None
+article_in value = article_of (in_ascii value)
 
 -- a value is the number of the article
 abbrev pub is_article : Option Text → Option Text → Bool

@@ -7,7 +7,6 @@ use Rattle.standard_numbers.specs.Isbn.{IsIsbn}
 use Rattle.publication_dates.specs.Forms.{IsDate}
 use Rattle.work_identifiers.specs.declared.namespace.Namespace.{Namespace}
 use Rattle.work_identifiers.specs.Forms.{IsIdentifier}
-use Rattle.work_identifiers.specs.Places.{identifier_in}
 use Rattle.work_identifiers.specs.Uris.{uri_of}
 use Rattle.article_places.specs.Enumerations.{alone, short_supplement}
 use Rattle.article_places.specs.Pages.{only}
@@ -53,7 +52,7 @@ IsSureIssn issn = IsIssn issn × (is_doubtful issn ≡ false)
 -- an identifier of the referent: the URI of an identifier of a work, or another URI, which has none of them
 pub data IsReferentUri : Text → Type 0 where
   registered_uri : (namespace : Namespace) (identifier : Text) → IsIdentifier namespace identifier → IsReferentUri (uri_of namespace identifier)
-  other_uri : (value : Text) → ((namespace : Namespace) → identifier_in namespace value ≡ None) → IsReferentUri value
+  other_uri : (value : Text) → ((namespace : Namespace) → identifier_of namespace (codes "rft_id") value ≡ None) → IsReferentUri value
 
 -- no identifier, under a key other than `rft_id`
 abbrev pub HasNoIdentifier : Text → Text → Type 0

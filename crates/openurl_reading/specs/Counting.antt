@@ -6,13 +6,11 @@ use Rattle.std.specs.Str.{bytes_eq, str_eq_ignore_ascii_case}
 use Rattle.text_model.specs.Texts.{Text}
 use Rattle.standard_names.specs.Columns.{known_columns}
 use Rattle.kev_read.specs.Pairs.{KeyValue}
+use Rattle.openurl_reading.specs.Keys.{is_one_of, named}
 
 -- how many pairs of a source count
 abbrev pub most_pairs : ℕ
 most_pairs = 300
-
-abbrev pub is_one_of : List Text → Text → Bool
-is_one_of texts text = list_any (λ one. bytes_eq one text) texts
 
 -- in small or capital letters
 abbrev pub is_one_in_any_case : List Text → Text → Bool
@@ -55,9 +53,13 @@ is_any value = bytes_eq (plain value) (codes "ANY")
 -- what identifiers begin with, in URIs (`info:` of RFC 4452, `urn:` of RFC 8141), addresses and other forms
 abbrev pub prefixes : List Text
 prefixes =
-    codes "info:doi/" ∷ codes "info:pmid/" ∷ codes "info:oclcnum/" ∷ codes "info:lccn/" ∷ codes "info:bibcode/" ∷ codes "info:arxiv/" ∷
-    codes "info:hdl/" ∷ codes "info:eric/" ∷ codes "urn:issn:" ∷ codes "urn:isbn:" ∷ codes "doi:" ∷ codes "pmid:" ∷ codes "oclc:" ∷
-    codes "info:doi/doi:" ∷ codes "http://doi.org/" ∷ codes "https://doi.org/" ∷ codes "http://dx.doi.org/" ∷ codes "https://dx.doi.org/" ∷ []
+    codes "info:doi/" ∷ codes "info:doi:" ∷ codes "info:doi/doi:" ∷ codes "info:pmid/" ∷ codes "info:pmid:" ∷ codes "info:pmcid/" ∷
+    codes "info:pmc/" ∷ codes "info:oclcnum/" ∷ codes "info:lccn/" ∷ codes "info:bibcode/" ∷ codes "info:arxiv/" ∷ codes "info:hdl/" ∷
+    codes "info:eric/" ∷ codes "info:oai/" ∷ codes "info:sici/" ∷ codes "urn:issn:" ∷ codes "urn:isbn:" ∷ codes "urn:doi:" ∷
+    codes "urn:nbn:" ∷ codes "doi:" ∷ codes "pmid:" ∷ codes "pmcid:" ∷ codes "oclc:" ∷ codes "issn:" ∷ codes "isbn:" ∷ codes "arxiv:" ∷
+    codes "oai:arxiv.org:" ∷ codes "doi.org/" ∷ codes "dx.doi.org/" ∷ codes "www.doi.org/" ∷ codes "http://doi.org/" ∷
+    codes "https://doi.org/" ∷ codes "http://dx.doi.org/" ∷ codes "https://dx.doi.org/" ∷ codes "http://www.doi.org/" ∷
+    codes "https://www.doi.org/" ∷ []
 
 -- a prefix alone
 abbrev pub is_prefix : Text → Bool
@@ -76,9 +78,9 @@ is_accepted pair = is_free pair.key && not (is_void pair)
 abbrev pub accepted : List KeyValue → List KeyValue
 accepted pairs = filter is_accepted pairs
 
--- the pairs that count, and how many are left out beyond them
+-- the pairs that count, with their keys in small letters if they are known, and how many are left out beyond them
 abbrev pub counting : List KeyValue → List KeyValue
-counting pairs = take most_pairs (accepted pairs)
+counting pairs = take most_pairs (accepted (map named pairs))
 
 abbrev pub left_out : List KeyValue → ℕ
-left_out pairs = length (accepted pairs) - most_pairs
+left_out pairs = length (accepted (map named pairs)) - most_pairs

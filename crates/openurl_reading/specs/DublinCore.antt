@@ -49,9 +49,12 @@ is_typed pairs = is_core pairs && option_map_or is_genre (first_of pairs (codes 
 abbrev pub core_source : OldKey
 core_source = record { old = codes "rft.source"; new = codes "rft.jtitle" }
 
--- what texts begin with that are no names
+-- what texts begin with that are no names: addresses, numbers and identifiers
 abbrev pub no_names : List Text
-no_names = codes "http:" ∷ codes "https:" ∷ codes "issn" ∷ []
+no_names =
+    codes "http:" ∷ codes "https:" ∷ codes "issn" ∷ codes "isbn" ∷ codes "arxiv:" ∷ codes "doi:" ∷ codes "doi " ∷ codes "doi.org/" ∷
+    codes "dx.doi.org/" ∷ codes "10." ∷ codes "info:" ∷ codes "urn:" ∷ codes "pmid" ∷ codes "pmcid" ∷ codes "pmc:" ∷ codes "hdl:" ∷
+    codes "oai:" ∷ []
 
 -- a text with two letters, and none of these
 abbrev pub is_journal : Text → Bool

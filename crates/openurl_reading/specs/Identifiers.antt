@@ -1,7 +1,7 @@
 -- The identifiers of a request (DOIs: ISO 26324; numbers of PubMed, PubMed Central and OCLC; those of arXiv): the first of each namespace is in
 -- `rft_id`, as its URI.
 use Rattle.std.specs.Prelude.{Bool, false, List, [], ◌∷◌, codes, slice_get, Option, Some, None, if◌then◌else◌}
-use Rattle.std.specs.List.{filter_map}
+use Rattle.std.specs.List.{filter_map, list_any}
 use Rattle.std.specs.Option.{option_or, is_some}
 use Rattle.std.specs.Str.{bytes_eq}
 use Rattle.text_model.specs.Texts.{Text}
@@ -11,10 +11,23 @@ use Rattle.work_identifiers.specs.declared.namespace.Namespace.TheVariants.{Doi,
 use Rattle.work_identifiers.specs.Addresses.{doi_in_address}
 use Rattle.work_identifiers.specs.Places.{identifier_in, identifier_alone}
 use Rattle.work_identifiers.specs.Uris.{uri_of}
-use Rattle.openurl_reading.specs.Counting.{is_one_of}
+use Rattle.written_texts.specs.declared.readings.Role.TheVariants.{Identifier}
+use Rattle.written_texts.specs.Readings.{written}
+use Rattle.openurl_reading.specs.Keys.{is_one_of}
 use Rattle.openurl_reading.specs.Steps.{Change, Step, unchanged, leading}
 
 -- ---- the identifier in a value
+
+-- one of these is found
+abbrev pub has_one_of : List Namespace → Text → Bool
+has_one_of namespaces text = list_any (λ namespace. is_some (identifier_in namespace text)) namespaces
+
+abbrev pub all_namespaces : List Namespace
+all_namespaces = Doi ∷ Pmid ∷ Oclc ∷ Pmc ∷ Arxiv ∷ []
+
+-- a value in which an identifier is found as it is; any other one without what a layout has put into it, and decoded again
+unfoldable pub as_identifier : Text → Text
+as_identifier value = if has_one_of all_namespaces value then value else written Identifier value
 
 -- under these keys a number alone is one of PubMed
 abbrev pub pubmed_keys : List Text
@@ -40,13 +53,17 @@ is_page Oclc key = false
 is_page Pmc key = false
 is_page Arxiv key = false
 
--- an identifier that nothing in the value names
+-- an identifier that nothing in the text names
 abbrev pub unnamed : Namespace → Text → Text → Option Text
-unnamed namespace key value =
-    if names namespace key then identifier_alone namespace value else (if is_page namespace key then doi_in_address value else None)
+unnamed namespace key text =
+    if names namespace key then identifier_alone namespace text else (if is_page namespace key then doi_in_address text else None)
+
+-- the identifier in a text under a key, and that in a value
+abbrev pub identifier_under : Namespace → Text → Text → Option Text
+identifier_under namespace key text = option_or (identifier_in namespace text) (unnamed namespace key text)
 
 abbrev pub identifier_of : Namespace → Text → Text → Option Text
-identifier_of namespace key value = option_or (identifier_in namespace value) (unnamed namespace key value)
+identifier_of namespace key value = identifier_under namespace key (as_identifier value)
 
 -- ---- the first identifier of a request
 

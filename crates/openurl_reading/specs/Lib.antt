@@ -1,3 +1,4 @@
+pub mod Keys
 pub mod Counting
 pub mod Steps
 pub mod Values

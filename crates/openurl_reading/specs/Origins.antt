@@ -8,7 +8,7 @@ use Rattle.standard_numbers.specs.Isbn.{isbns_in}
 use Rattle.publication_dates.specs.Dates.{date_in}
 use Rattle.publication_dates.specs.Days.{first_day, last_day}
 use Rattle.journal_references.specs.References.{Reference}
-use Rattle.article_places.specs.Enumerations.{Numbers, numbers_in, short_supplement}
+use Rattle.article_places.specs.Enumerations.{Numbers, short_supplement}
 use Rattle.work_identifiers.specs.declared.namespace.Namespace.{Namespace}
 use Rattle.work_identifiers.specs.declared.namespace.Namespace.TheVariants.{Arxiv}
 use Rattle.work_identifiers.specs.Uris.{uri_of, arxiv_doi}
@@ -22,6 +22,7 @@ use Rattle.openurl_reading.specs.Identifiers.{identifier_of}
 use Rattle.openurl_reading.specs.Pages.{first_in, last_in}
 use Rattle.openurl_reading.specs.Values.{searched}
 use Rattle.openurl_reading.specs.Versions.{version, encoding}
+use Rattle.openurl_reading.specs.Volumes.{read_numbers}
 use Rattle.openurl_reading.specs.declared.kinds.Kind.{Kind}
 use Rattle.openurl_reading.specs.Formats.{format_of}
 use Rattle.openurl_reading.specs.Referrers.{referrer_of}
@@ -59,10 +60,10 @@ pub data HasOrigin (sent : List Text) : Text → Type 0 where
   date_of : (value date : Text) → Contains sent value → date_in (searched value) ≡ Some date → HasOrigin sent date
   first_day_of : (value date : Text) → Contains sent value → date_in (searched value) ≡ Some date → HasOrigin sent (first_day date)
   last_day_of : (value date : Text) → Contains sent value → date_in (searched value) ≡ Some date → HasOrigin sent (last_day date)
-  number_in : (value number : Text) (n : Numbers) → Contains sent value → numbers_in value ≡ Some n → IsNumberOf n number → HasOrigin sent number
-  supplement_in : (value mark : Text) (n : Numbers) → Contains sent value → numbers_in value ≡ Some n → n.supplement ≡ Some mark
+  number_in : (value number : Text) (n : Numbers) → Contains sent value → read_numbers value ≡ Some n → IsNumberOf n number → HasOrigin sent number
+  supplement_in : (value mark : Text) (n : Numbers) → Contains sent value → read_numbers value ≡ Some n → n.supplement ≡ Some mark
       → HasOrigin sent (short_supplement mark)
-  supplement_of_issue : (value number mark : Text) (n : Numbers) → Contains sent value → numbers_in value ≡ Some n → IsNumberOf n number
+  supplement_of_issue : (value number mark : Text) (n : Numbers) → Contains sent value → read_numbers value ≡ Some n → IsNumberOf n number
       → n.supplement ≡ Some mark → HasOrigin sent (number ++ 0x20 ∷ short_supplement mark)
   page_in : (value page : Text) → Contains sent value → first_in value ≡ Some page → HasOrigin sent page
   page_in_text : (value page : Text) → Contains sent value → first_in (written Other value) ≡ Some page → HasOrigin sent page

@@ -6,11 +6,15 @@ use Rattle.kev_read.specs.Pairs.{KeyValue, all_of, first_of}
 use Rattle.article_places.specs.Pages.{Range, pages_in}
 use Rattle.openurl_reading.specs.ArticleNumbers.{article_in, is_article}
 use Rattle.openurl_reading.specs.Steps.{Step}
-use Rattle.openurl_reading.specs.Values.{most_bytes, led}
+use Rattle.openurl_reading.specs.Values.{most_bytes, in_ascii, led}
 
--- the pages in a value; a longer one is not read, since a part of it might end within a page
+-- the pages in a text; a longer one is not read, since a part of it might end within a page
+abbrev pub pages_of : Text → Option Range
+pages_of text = if nat_le (length text) most_bytes then pages_in text else None
+
+-- the pages in a value
 abbrev pub read_pages : Text → Option Range
-read_pages value = if nat_le (length value) most_bytes then pages_in value else None
+read_pages value = pages_of (in_ascii value)
 
 -- the first page, the last page of a range, and where the pages end
 abbrev pub first_in : Text → Option Text

@@ -7,7 +7,7 @@ use Rattle.kev_read.specs.Pairs.{KeyValue}
 use Rattle.retraction_remarks.specs.Titles.{without_remarks}
 use Rattle.written_texts.specs.declared.readings.Role.TheVariants.{Other}
 use Rattle.written_texts.specs.Readings.{written}
-use Rattle.openurl_reading.specs.Counting.{is_one_of}
+use Rattle.openurl_reading.specs.Keys.{is_one_of}
 use Rattle.openurl_reading.specs.Texts.{title_texts}
 
 -- the keys of titles in OpenURL 1.0, and in OpenURL 0.1

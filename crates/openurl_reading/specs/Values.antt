@@ -3,6 +3,8 @@ use Rattle.std.specs.Prelude.{ℕ, List, ◌∷◌, [], take, Option, Some, None
 use Rattle.std.specs.Str.{bytes_eq}
 use Rattle.text_model.specs.Texts.{Text}
 use Rattle.kev_read.specs.Pairs.{KeyValue, all_of}
+use Rattle.written_texts.specs.declared.readings.Role.TheVariants.{Number}
+use Rattle.written_texts.specs.Readings.{written}
 use Rattle.openurl_reading.specs.Steps.{Change, unchanged, leading}
 
 -- how many values of a key are read, and how many bytes of a value are searched for a number or a date
@@ -16,9 +18,13 @@ most_bytes = 200
 abbrev pub values_of : List KeyValue → Text → List Text
 values_of pairs key = take most_values (all_of pairs key)
 
--- the part of a value that is searched
+-- a value as a number, a date, a volume or a page is written in ASCII
+abbrev pub in_ascii : Text → Text
+in_ascii value = written Number value
+
+-- the part of it that is searched
 abbrev pub searched : Text → Text
-searched value = take most_bytes value
+searched value = take most_bytes (in_ascii value)
 
 -- what was found leads the values of its key, unless it does already
 abbrev pub led : Option Text → Option Text → Change

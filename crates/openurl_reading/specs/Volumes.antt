@@ -6,11 +6,15 @@ use Rattle.text_model.specs.Texts.{Text}
 use Rattle.kev_read.specs.Pairs.{KeyValue, all_of, first_of}
 use Rattle.article_places.specs.Enumerations.{Numbers, numbers_in, short_supplement}
 use Rattle.openurl_reading.specs.Steps.{Step}
-use Rattle.openurl_reading.specs.Values.{most_bytes, led}
+use Rattle.openurl_reading.specs.Values.{most_bytes, in_ascii, led}
 
--- the numbers in a value; a longer one is not read, since a part of it might end within a number
+-- the numbers in a text; a longer one is not read, since a part of it might end within a number
+abbrev pub numbers_of : Text → Option Numbers
+numbers_of text = if nat_le (length text) most_bytes then numbers_in text else None
+
+-- the numbers in a value
 abbrev pub read_numbers : Text → Option Numbers
-read_numbers value = if nat_le (length value) most_bytes then numbers_in value else None
+read_numbers value = numbers_of (in_ascii value)
 
 -- an issue, a supplement, or both, as one text: `3`, `Suppl 1`, `3 Suppl 1`
 abbrev pub issue_text : Option Text → Option Text → Option Text

@@ -6,6 +6,7 @@ ghost use Rattle.std.specs.List.{list_all, list_any};
 ghost use Rattle.openurl_reading.specs.ArticleNumbers as spec;
 
 use crate::pairs::copy;
+use crate::searched::in_ascii;
 use std::alloc::{AllocError, Global};
 use uri_text::Text;
 
@@ -16,7 +17,8 @@ const MOST_BYTES: usize = 40;
 pub(crate) fn article_in(alloc: Global, value: &str) -> Result<Option<Text>, AllocError>
     ensures { IfOk result (λ number. number ≡ spec.article_in value.now) }
 {
-    let number = value.trim();
+    let text = in_ascii(alloc, value)?;
+    let number = text.as_str().trim();
     if is_article_number(number.as_bytes()) {
         return Ok(Some(copy(alloc, number)?));
     }

@@ -4,7 +4,9 @@ ghost use Rattle.std.specs.Prelude.{◌≡◌, ◌-◌, ◌==◌, ◌&&◌, ◌|
 ghost use Rattle.std.specs.Str.{str_eq_ignore_ascii_case};
 ghost use Rattle.text_model.specs.Texts.{texts_of};
 ghost use Rattle.openurl_reading.specs.Counting as spec;
+ghost use Rattle.openurl_reading.specs.Keys.{is_one_of};
 
+use crate::keys::{is_one_of, key_of};
 use crate::pairs::{Pairs, push_text};
 use kev_read::QueryPairs;
 use standard_names::known_columns;
@@ -21,7 +23,9 @@ pub(crate) fn counting(alloc: Global, query: &QueryPairs) -> Result<(Pairs, usiz
     let mut list = Vec::new(alloc);
     let mut left_out = 0;
     for index in 0..query.len() {
-        let (key, value) = query.pair(index);
+        let (sent, value) = query.pair(index);
+        let name = key_of(alloc, sent)?;
+        let key = name.as_str();
         if is_accepted(alloc, key, value)? {
             if list.len() < MOST_PAIRS {
                 push_text(alloc, &mut list, key, value)?;
@@ -56,17 +60,6 @@ fn is_column(key: &str) -> bool
     is_one_of(known_columns(), key) || key == "title_page"
 }
 
-pub(crate) fn is_one_of(texts: &[&str], text: &str) -> bool
-    ensures { result ≡ spec.is_one_of (texts_of texts.now) text.now }
-{
-    for one in texts {
-        if *one == text {
-            return true;
-        }
-    }
-    false
-}
-
 /// Whether a text is one of these, in small or capital letters.
 pub(crate) fn is_one_in_any_case(texts: &[&str], text: &str) -> bool
     ensures { result ≡ spec.is_one_in_any_case (texts_of texts.now) text.now }
@@ -94,7 +87,7 @@ fn is_void(alloc: Global, key: &str, value: &str) -> Result<bool, AllocError>
 
 /// Whether the value finds the rows of targets that answer every request.
 fn is_any_row(alloc: Global, key: &str, value: &[u8]) -> Result<bool, AllocError>
-    ensures { IfOk result (λ is. is ≡ (spec.is_one_of spec.row_keys key.now && spec.is_any value.now)) }
+    ensures { IfOk result (λ is. is ≡ (is_one_of spec.row_keys key.now && spec.is_any value.now)) }
 {
     if is_one_of(row_keys(), key) {
         is_any(alloc, value)
@@ -172,22 +165,40 @@ fn prefixes() -> &'static [&'static str]
 {
     &[
         "info:doi/",
+        "info:doi:",
+        "info:doi/doi:",
         "info:pmid/",
+        "info:pmid:",
+        "info:pmcid/",
+        "info:pmc/",
         "info:oclcnum/",
         "info:lccn/",
         "info:bibcode/",
         "info:arxiv/",
         "info:hdl/",
         "info:eric/",
+        "info:oai/",
+        "info:sici/",
         "urn:issn:",
         "urn:isbn:",
+        "urn:doi:",
+        "urn:nbn:",
         "doi:",
         "pmid:",
+        "pmcid:",
         "oclc:",
-        "info:doi/doi:",
+        "issn:",
+        "isbn:",
+        "arxiv:",
+        "oai:arxiv.org:",
+        "doi.org/",
+        "dx.doi.org/",
+        "www.doi.org/",
         "http://doi.org/",
         "https://doi.org/",
         "http://dx.doi.org/",
         "https://dx.doi.org/",
+        "http://www.doi.org/",
+        "https://www.doi.org/",
     ]
 }

@@ -1,12 +1,14 @@
 //! The date of a request.
 
-ghost use Rattle.std.specs.Prelude.{◌≡◌, IfOk, min, take};
+ghost use Rattle.std.specs.Prelude.{◌≡◌, IfOk};
+ghost use Rattle.publication_dates.specs.Dates.{date_in};
 ghost use Rattle.openurl_reading.specs.Steps.{taken};
 ghost use Rattle.openurl_reading.specs.Dates as spec;
+ghost use Rattle.openurl_reading.specs.Values.{searched};
 
 use crate::change::{lead, without};
 use crate::pairs::Pairs;
-use crate::searched::searched;
+use crate::searched::{in_ascii, searched};
 use publication_dates::date_in;
 use std::alloc::{AllocError, Global};
 use uri_text::Text;
@@ -44,7 +46,15 @@ fn date_under(alloc: Global, pairs: &Pairs, key: &str) -> Result<Option<Text>, A
     ensures { IfOk result (λ date. date ≡ spec.date_under pairs.now key.now) }
 {
     match pairs.first(key) {
-        Some(value) => date_in(alloc, searched(value)),
+        Some(value) => date_of(alloc, value),
         None => Ok(None),
     }
+}
+
+/// The date in a value.
+fn date_of(alloc: Global, value: &str) -> Result<Option<Text>, AllocError>
+    ensures { IfOk result (λ date. date ≡ date_in (searched value.now)) }
+{
+    let text = in_ascii(alloc, value)?;
+    date_in(alloc, searched(&text))
 }

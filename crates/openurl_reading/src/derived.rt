@@ -4,12 +4,15 @@ ghost use Rattle.std.specs.Prelude.{◌≡◌, ◌++◌, IfOk, OnOk, Some, codes
 ghost use Rattle.std.specs.Option.{option_map};
 ghost use Rattle.openurl_reading.specs.Identifiers.{first_under};
 ghost use Rattle.openurl_reading.specs.Reading as spec;
+ghost use Rattle.openurl_reading.specs.Values.{searched};
+ghost use Rattle.publication_dates.specs.Dates.{date_in};
+ghost use Rattle.publication_dates.specs.Days.{first_and_last};
 
 use crate::encoded_dois::encoded_doi;
 use crate::identifiers::first_under;
 use crate::numbers::{first, first_isbn, issns_under, other_than, push_all};
 use crate::pairs::{Pair, Pairs, push_pair, push_text};
-use crate::searched::searched;
+use crate::searched::{in_ascii, searched};
 use publication_dates::{Days, days_in};
 use std::alloc::{AllocError, Global};
 use uri_text::Text;
@@ -94,9 +97,16 @@ fn days_of(alloc: Global, pairs: &Pairs) -> Result<Option<Days>, AllocError>
     ensures { IfOk result (λ days. days ≡ spec.days_of pairs.now) }
 {
     match pairs.first("rft.date") {
-        Some(date) => days_in(alloc, searched(date)),
+        Some(value) => days_of_value(alloc, value),
         None => Ok(None),
     }
+}
+
+fn days_of_value(alloc: Global, value: &str) -> Result<Option<Days>, AllocError>
+    ensures { IfOk result (λ days. days ≡ option_map first_and_last (date_in (searched value.now))) }
+{
+    let date = in_ascii(alloc, value)?;
+    days_in(alloc, searched(&date))
 }
 
 /// Appends the pairs of the first and the last day of the date, if there is one.

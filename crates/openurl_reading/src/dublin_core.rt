@@ -3,6 +3,7 @@
 ghost use Rattle.std.specs.Prelude.{◌≡◌, IfOk, codes, count_by, false};
 ghost use Rattle.std.specs.List.{list_any};
 ghost use Rattle.std.specs.Option.{option_map_or};
+ghost use Rattle.text_model.specs.Texts.{texts_of};
 ghost use Rattle.uri_text.specs.AnyCase.{begins_in_any_case};
 ghost use Rattle.kev_read.specs.Pairs.{first_of};
 ghost use Rattle.openurl_reading.specs.Citations.{is_letter};
@@ -128,7 +129,7 @@ fn has_journal_as_source(pairs: &Pairs) -> bool
     }
 }
 
-/// Whether a text has two letters, and is neither an address nor an ISSN.
+/// Whether a text has two letters, and is neither an address nor a number or an identifier.
 fn is_journal(source: &[u8]) -> bool
     ensures { result ≡ spec.is_journal source.now }
 {
@@ -145,9 +146,37 @@ fn count_of_letters(source: &[u8]) -> usize
 fn begins_otherwise(source: &[u8]) -> bool
     ensures { result ≡ list_any (begins_in_any_case source.now) spec.no_names }
 {
-    begins_in_any_case(source, b"http:")
-        || begins_in_any_case(source, b"https:")
-        || begins_in_any_case(source, b"issn")
+    for beginning in no_names() {
+        if begins_in_any_case(source, beginning.as_bytes()) {
+            return true;
+        }
+    }
+    false
+}
+
+/// What addresses, numbers and identifiers begin with.
+fn no_names() -> &'static [&'static str]
+    ensures { texts_of result.now ≡ spec.no_names }
+{
+    &[
+        "http:",
+        "https:",
+        "issn",
+        "isbn",
+        "arxiv:",
+        "doi:",
+        "doi ",
+        "doi.org/",
+        "dx.doi.org/",
+        "10.",
+        "info:",
+        "urn:",
+        "pmid",
+        "pmcid",
+        "pmc:",
+        "hdl:",
+        "oai:",
+    ]
 }
 
 /// Whether the type is a genre of one kind.

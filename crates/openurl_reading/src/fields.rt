@@ -7,11 +7,9 @@ ghost use Rattle.work_identifiers.specs.Forms.{is_between, is_number};
 ghost use Rattle.openurl_reading.specs.Steps.{after};
 ghost use Rattle.openurl_reading.specs.Fields as spec;
 
-use crate::numbers::first;
+use crate::numbers::{first, isbns_of};
 use crate::old_keys::copy_key;
 use crate::pairs::Pairs;
-use crate::searched::searched;
-use standard_numbers::isbns_in;
 use std::alloc::{AllocError, Global};
 
 /// The maximum number of digits of a number of PubMed.
@@ -64,7 +62,7 @@ fn is_of_book(alloc: Global, pairs: &Pairs) -> Result<bool, AllocError>
 fn has_isbn(alloc: Global, value: &str) -> Result<bool, AllocError>
     ensures { IfOk result (λ has. has ≡ spec.has_isbn value.now) }
 {
-    let isbns = isbns_in(alloc, searched(value))?;
+    let isbns = isbns_of(alloc, value)?;
     Ok(first(isbns).is_some())
 }
 

@@ -1,22 +1,24 @@
 //! The identifiers of a request: DOIs, the numbers of PubMed, PubMed Central and OCLC, and those of arXiv.
 
 ghost use Rattle.std.specs.Prelude.{◌≡◌, IfOk, IfSome, codes};
-ghost use Rattle.std.specs.Option.{option_copied, option_map};
+ghost use Rattle.std.specs.Option.{is_some, option_copied, option_map};
 ghost use Rattle.std.specs.Str.{IsAscii};
 ghost use Rattle.text_model.specs.Texts.{texts_of};
 ghost use Rattle.kev_read.specs.Pairs.{all_of};
-ghost use Rattle.openurl_reading.specs.Counting as counted;
+ghost use Rattle.openurl_reading.specs.Keys as keys;
 ghost use Rattle.openurl_reading.specs.Steps.{after, taken};
 ghost use Rattle.work_identifiers.specs.declared.namespace.Namespace.TheVariants.{Arxiv};
+ghost use Rattle.work_identifiers.specs.Places.{identifier_in};
 ghost use Rattle.work_identifiers.specs.Uris.{uri_of};
 ghost use Rattle.openurl_reading.specs.Identifiers as spec;
 
 use crate::change::put_first;
-use crate::counting::is_one_of;
-use crate::pairs::{Pairs, ascii_text};
+use crate::keys::is_one_of;
+use crate::pairs::{Pairs, ascii_text, copy};
 use std::alloc::{AllocError, Global};
 use uri_text::Text;
 use work_identifiers::{Namespace, doi_in_address, identifier_alone, identifier_in, uri_of};
+use written_texts::{Role, read};
 
 /// The first identifier of each namespace is in `rft_id` as its URI.
 pub(crate) fn name_works(alloc: Global, pairs: Pairs) -> Result<Pairs, AllocError>
@@ -46,7 +48,7 @@ fn name_work(alloc: Global, namespace: Namespace, pairs: Pairs) -> Result<Pairs,
 
 /// Whether the URI is in `rft_id`.
 fn is_known(alloc: Global, uri: &str, pairs: &Pairs) -> Result<bool, AllocError>
-    ensures { IfOk result (λ is. is ≡ counted.is_one_of (all_of pairs.now (codes "rft_id")) uri.now) }
+    ensures { IfOk result (λ is. is ≡ keys.is_one_of (all_of pairs.now (codes "rft_id")) uri.now) }
 {
     let known = pairs.all(alloc, "rft_id")?;
     Ok(is_one_of(&known, uri))
@@ -138,38 +140,99 @@ fn identifier_of(
     ensures value { IfOk result (λ found. found ≡ spec.identifier_of namespace key.now value.now) }
     ensures ascii { IfOk result (λ found. IfSome found (λ identifier. IsAscii identifier)) }
 {
-    match part_of(alloc, namespace, key, value.as_bytes())? {
+    let text = as_identifier(alloc, value)?;
+    identifier_under(alloc, namespace, key, text.as_str())
+}
+
+/// The identifier in a text under a key, as a text of its own.
+fn identifier_under(
+    alloc: Global,
+    namespace: Namespace,
+    key: &str,
+    text: &str,
+) -> Result<Option<Text>, AllocError>
+    ensures value { IfOk result (λ found. found ≡ spec.identifier_under namespace key.now text.now) }
+    ensures ascii { IfOk result (λ found. IfSome found (λ identifier. IsAscii identifier)) }
+{
+    match part_of(alloc, namespace, key, text.as_bytes())? {
         Some(identifier) => Ok(Some(ascii_text(alloc, identifier)?)),
         None => Ok(None),
     }
 }
 
-/// The identifier in a value of a key.
+/// A value in which an identifier is found as it is; any other one without what a layout has put into it, and decoded
+/// again.
+fn as_identifier(alloc: Global, value: &str) -> Result<Text, AllocError>
+    ensures { IfOk result (λ text. text ≡ spec.as_identifier value.now) }
+{
+    let text = read(alloc, Role::Identifier, value)?;
+    if text.as_str() == value {
+        return Ok(text);
+    }
+    let is_found = has_identifier(alloc, value.as_bytes())?;
+    if is_found {
+        return copy(alloc, value);
+    }
+    Ok(text)
+}
+
+/// Whether a text has an identifier of any namespace.
+fn has_identifier(alloc: Global, text: &[u8]) -> Result<bool, AllocError>
+    ensures { IfOk result (λ has. has ≡ spec.has_one_of spec.all_namespaces text.now) }
+{
+    for namespace in all_namespaces() {
+        if has(alloc, *namespace, text)? {
+            return Ok(true);
+        }
+    }
+    Ok(false)
+}
+
+fn has(alloc: Global, namespace: Namespace, text: &[u8]) -> Result<bool, AllocError>
+    ensures { IfOk result (λ has. has ≡ is_some (identifier_in namespace text.now)) }
+{
+    let found = identifier_in(alloc, namespace, text)?;
+    Ok(found.is_some())
+}
+
+fn all_namespaces() -> &'static [Namespace]
+    ensures { result.now ≡ spec.all_namespaces }
+{
+    &[
+        Namespace::Doi,
+        Namespace::Pmid,
+        Namespace::Oclc,
+        Namespace::Pmc,
+        Namespace::Arxiv,
+    ]
+}
+
+/// The part of a text that is its identifier under a key.
 fn part_of<'a>(
     alloc: Global,
     namespace: Namespace,
     key: &str,
-    value: &'a [u8],
+    text: &'a [u8],
 ) -> Result<Option<&'a [u8]>, AllocError>
-    ensures value { IfOk result (λ found. option_copied found ≡ spec.identifier_of namespace key.now value.now) }
+    ensures value { IfOk result (λ found. option_copied found ≡ spec.identifier_under namespace key.now text.now) }
     ensures ascii { IfOk result (λ found. IfSome found (λ identifier. IsAscii identifier.now)) }
 {
-    match identifier_in(alloc, namespace, value)? {
+    match identifier_in(alloc, namespace, text)? {
         Some(identifier) => Ok(Some(identifier)),
-        None => Ok(unnamed(namespace, key, value)),
+        None => Ok(unnamed(namespace, key, text)),
     }
 }
 
-/// An identifier that nothing in the value names: a number alone under a key that names it, or a DOI in the address of
+/// An identifier that nothing in the text names: a number alone under a key that names it, or a DOI in the address of
 /// a page.
-fn unnamed<'a>(namespace: Namespace, key: &str, value: &'a [u8]) -> Option<&'a [u8]>
-    ensures value { option_copied result ≡ spec.unnamed namespace key.now value.now }
+fn unnamed<'a>(namespace: Namespace, key: &str, text: &'a [u8]) -> Option<&'a [u8]>
+    ensures value { option_copied result ≡ spec.unnamed namespace key.now text.now }
     ensures ascii { IfSome result (λ identifier. IsAscii identifier.now) }
 {
     if names(namespace, key) {
-        identifier_alone(namespace, value)
+        identifier_alone(namespace, text)
     } else if is_page(namespace, key) {
-        doi_in_address(value)
+        doi_in_address(text)
     } else {
         None
     }

@@ -13,7 +13,8 @@ ghost use Rattle.openurl_reading.specs.Steps.{Step, others, taken};
 ghost use Rattle.openurl_reading.specs.Versions.{encoding, is_other};
 
 use article_places::laws::{
-    numbers_are_parts, numbers_stay, pages_are_parts, pages_stay, parts_are_short, supplements_stay,
+    numbers_are_parts, numbers_stay, pages_are_parts, pages_stay, parts_are_plain, parts_are_short,
+    supplements_stay,
 };
 use journal_references::laws::references_are_parts;
 use publication_dates::laws::{dates_are_read, dates_stay, days_are_days};
@@ -25,7 +26,9 @@ use work_identifiers::laws::{
     dois_in_addresses_are_dois, identifiers_are_identifiers, identifiers_stay, preprints_have_dois,
     uris_are_short, uris_have_one_namespace,
 };
-use written_texts::laws::{texts_are_bounded, texts_are_not_blank, texts_are_read_once};
+use written_texts::laws::{
+    plain_texts_stay, texts_are_bounded, texts_are_not_blank, texts_are_read_once,
+};
 
 /// A step leaves the pairs of all other keys as they are, in their order.
 pub fn steps_touch_their_key()
@@ -65,6 +68,8 @@ pub fn canonical_requests_stay()
     uris_have_one_namespace();
     preprints_have_dois();
     dois_in_addresses_are_dois();
+    plain_texts_stay();
+    texts_are_bounded();
 }
 
 /// Reading twice is reading once. A reading is read as it is if its pairs, without the derived ones, are few enough;
@@ -90,6 +95,9 @@ pub fn readings_are_read_as_they_are()
     pages_are_parts();
     pages_stay();
     parts_are_short();
+    parts_are_plain();
+    plain_texts_stay();
+    texts_are_bounded();
     identifiers_are_identifiers();
     identifiers_stay();
     uris_have_one_namespace();
@@ -118,6 +126,9 @@ pub fn nothing_is_invented()
     pages_are_parts();
     pages_stay();
     parts_are_short();
+    parts_are_plain();
+    plain_texts_stay();
+    texts_are_bounded();
     identifiers_are_identifiers();
     identifiers_stay();
     uris_have_one_namespace();
@@ -142,6 +153,8 @@ pub fn readings_are_bounded()
     supplements_stay();
     pages_are_parts();
     parts_are_short();
+    parts_are_plain();
+    plain_texts_stay();
     identifiers_are_identifiers();
     identifiers_stay();
     uris_have_one_namespace();

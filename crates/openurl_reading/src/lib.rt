@@ -3,7 +3,8 @@
 //! Sources send OpenURL 0.1, other versions, Dublin Core, the fields of forms, identifiers, numbers and dates in free
 //! forms, and titles and names in HTML, in LaTeX or encoded twice. A reading has
 //!
-//! 1. the pairs that count: not those without a value, and none that names a column of holdings tables;
+//! 1. the pairs that count: not those without a value, and none that names a column of holdings tables; keys that are
+//!    known in small letters are written so;
 //! 2. after steps, each of which changes the values of one key;
 //! 3. and before them keys that begin with `x.`, for the rules of targets.
 //!
@@ -28,6 +29,7 @@ mod encoded_dois;
 mod fields;
 mod formats;
 mod identifiers;
+mod keys;
 mod kinds;
 pub mod laws;
 mod normal_form;

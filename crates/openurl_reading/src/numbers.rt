@@ -5,10 +5,13 @@ ghost use Rattle.std.specs.Option.{option_copied};
 ghost use Rattle.text_model.specs.Texts.{texts_of};
 ghost use Rattle.openurl_reading.specs.Steps.{taken};
 ghost use Rattle.openurl_reading.specs.Numbers as spec;
+ghost use Rattle.openurl_reading.specs.Values.{searched};
+ghost use Rattle.standard_numbers.specs.Isbn.{isbns_in};
+ghost use Rattle.standard_numbers.specs.Issn.{issns_in};
 
 use crate::change::lead;
 use crate::pairs::Pairs;
-use crate::searched::searched;
+use crate::searched::{in_ascii, searched};
 use standard_numbers::{isbns_in, issns_in};
 use std::alloc::{AllocError, Global};
 use uri_text::Text;
@@ -61,13 +64,29 @@ pub(crate) fn first_isbn(alloc: Global, pairs: &Pairs) -> Result<Option<Text>, A
     Ok(first(isbns))
 }
 
+/// The ISSNs in a value.
+fn issns_of(alloc: Global, value: &str) -> Result<Vec<Text>, AllocError>
+    ensures { IfOk result (λ issns. issns.items ≡ issns_in (searched value.now)) }
+{
+    let text = in_ascii(alloc, value)?;
+    issns_in(alloc, searched(&text))
+}
+
+/// The ISBNs in a value.
+pub(crate) fn isbns_of(alloc: Global, value: &str) -> Result<Vec<Text>, AllocError>
+    ensures { IfOk result (λ isbns. isbns.items ≡ isbns_in (searched value.now)) }
+{
+    let text = in_ascii(alloc, value)?;
+    isbns_in(alloc, searched(&text))
+}
+
 /// The ISSNs in the values of a key.
 pub(crate) fn issns_under(alloc: Global, pairs: &Pairs, key: &str) -> Result<Vec<Text>, AllocError>
     ensures { IfOk result (λ issns. issns.items ≡ spec.issns_under pairs.now key.now) }
 {
     let mut issns = Vec::new(alloc);
     for value in &pairs.values(alloc, key)? {
-        push_all(&mut issns, issns_in(alloc, searched(value))?)?;
+        push_all(&mut issns, issns_of(alloc, value)?)?;
     }
     Ok(issns)
 }
@@ -78,7 +97,7 @@ fn further_issns(alloc: Global, pairs: &Pairs, key: &str) -> Result<Vec<Text>, A
 {
     let mut issns = Vec::new(alloc);
     for value in &pairs.values(alloc, key)? {
-        push_rest(&mut issns, issns_in(alloc, searched(value))?)?;
+        push_rest(&mut issns, issns_of(alloc, value)?)?;
     }
     Ok(issns)
 }
@@ -89,7 +108,7 @@ fn isbns_under(alloc: Global, pairs: &Pairs, key: &str) -> Result<Vec<Text>, All
 {
     let mut isbns = Vec::new(alloc);
     for value in &pairs.values(alloc, key)? {
-        push_all(&mut isbns, isbns_in(alloc, searched(value))?)?;
+        push_all(&mut isbns, isbns_of(alloc, value)?)?;
     }
     Ok(isbns)
 }

@@ -12,7 +12,7 @@ ghost use Rattle.openurl_reading.specs.Pages as spec;
 use crate::article_numbers::article_in;
 use crate::change::lead;
 use crate::pairs::{Pairs, ascii_text};
-use crate::searched::is_short;
+use crate::searched::{in_ascii, is_short};
 use article_places::{LastPage, Pages, pages_in};
 use std::alloc::{AllocError, Global};
 use uri_text::Text;
@@ -136,7 +136,8 @@ fn end_in(alloc: Global, value: &str) -> Result<Option<Text>, AllocError>
 fn first_in(alloc: Global, value: &str) -> Result<Option<Text>, AllocError>
     ensures { IfOk result (λ page. page ≡ spec.first_in value.now) }
 {
-    match read_pages(alloc, value.as_bytes())? {
+    let text = in_ascii(alloc, value)?;
+    match pages_of(alloc, text.as_str().as_bytes())? {
         Some(pages) => Ok(Some(ascii_text(alloc, pages.first)?)),
         None => Ok(None),
     }
@@ -146,7 +147,8 @@ fn first_in(alloc: Global, value: &str) -> Result<Option<Text>, AllocError>
 fn last_in(alloc: Global, value: &str) -> Result<Option<Text>, AllocError>
     ensures { IfOk result (λ page. page ≡ spec.last_in value.now) }
 {
-    match read_pages(alloc, value.as_bytes())? {
+    let text = in_ascii(alloc, value)?;
+    match pages_of(alloc, text.as_str().as_bytes())? {
         Some(pages) => match pages.last {
             Some(last) => Ok(Some(whole_page(alloc, last)?)),
             None => Ok(None),
@@ -167,15 +169,15 @@ fn whole_page(alloc: Global, page: LastPage<'_>) -> Result<Text, AllocError>
     Ok(text)
 }
 
-/// The pages in a value, unless it is long.
-fn read_pages(alloc: Global, value: &[u8]) -> Result<Option<Pages<'_>>, AllocError>
-    ensures value { IfOk result (λ found. option_map range found ≡ spec.read_pages value.now) }
+/// The pages in a text, unless it is long.
+fn pages_of(alloc: Global, text: &[u8]) -> Result<Option<Pages<'_>>, AllocError>
+    ensures value { IfOk result (λ found. option_map range found ≡ spec.pages_of text.now) }
     ensures first_ascii { IfOk result (λ found. IfSome found (λ pages. IsAscii pages.first.now)) }
     ensures last_ascii { IfOk result (λ found. IfSome found (λ pages.
         IfSome pages.last (λ last. IsAscii (in_full last)))) }
 {
-    if is_short(value) {
-        pages_in(alloc, value)
+    if is_short(text) {
+        pages_in(alloc, text)
     } else {
         Ok(None)
     }

@@ -4,7 +4,7 @@ ghost use Rattle.std.specs.Prelude.{◌≡◌, IfOk};
 ghost use Rattle.text_model.specs.Texts.{texts_of};
 ghost use Rattle.openurl_reading.specs.Retractions as spec;
 
-use crate::counting::is_one_of;
+use crate::keys::is_one_of;
 use crate::pairs::{Pair, Pairs};
 use retraction_remarks::without_remarks;
 use std::alloc::{AllocError, Global};

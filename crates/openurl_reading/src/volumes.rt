@@ -10,7 +10,7 @@ ghost use Rattle.openurl_reading.specs.Volumes as spec;
 
 use crate::change::lead;
 use crate::pairs::{Pairs, ascii_text};
-use crate::searched::is_short;
+use crate::searched::{in_ascii, is_short};
 use article_places::{Enumeration, enumeration_in};
 use std::alloc::{AllocError, Global};
 use uri_text::Text;
@@ -95,7 +95,8 @@ fn issue(alloc: Global, pairs: &Pairs) -> Result<Option<Text>, AllocError>
 fn volume_in(alloc: Global, value: &str) -> Result<Option<Text>, AllocError>
     ensures { IfOk result (λ volume. volume ≡ spec.volume_in value.now) }
 {
-    match read_numbers(alloc, value.as_bytes())? {
+    let text = in_ascii(alloc, value)?;
+    match numbers_of(alloc, text.as_str().as_bytes())? {
         Some(numbers) => match numbers.first {
             Some(first) => Ok(Some(ascii_text(alloc, first)?)),
             None => issue_text(alloc, None, numbers.supplement),
@@ -108,7 +109,8 @@ fn volume_in(alloc: Global, value: &str) -> Result<Option<Text>, AllocError>
 fn issue_after_volume(alloc: Global, value: &str) -> Result<Option<Text>, AllocError>
     ensures { IfOk result (λ issue. issue ≡ spec.issue_after_volume value.now) }
 {
-    match read_numbers(alloc, value.as_bytes())? {
+    let text = in_ascii(alloc, value)?;
+    match numbers_of(alloc, text.as_str().as_bytes())? {
         Some(numbers) => match numbers.first {
             Some(_) => issue_text(alloc, numbers.issue, numbers.supplement),
             None => Ok(None),
@@ -121,7 +123,8 @@ fn issue_after_volume(alloc: Global, value: &str) -> Result<Option<Text>, AllocE
 fn volume_before_issue(alloc: Global, value: &str) -> Result<Option<Text>, AllocError>
     ensures { IfOk result (λ volume. volume ≡ spec.volume_before_issue value.now) }
 {
-    match read_numbers(alloc, value.as_bytes())? {
+    let text = in_ascii(alloc, value)?;
+    match numbers_of(alloc, text.as_str().as_bytes())? {
         Some(numbers) => number_before(alloc, numbers.first, numbers.issue, numbers.supplement),
         None => Ok(None),
     }
@@ -150,7 +153,8 @@ fn number_before(
 fn issue_in(alloc: Global, volume: Option<&str>, value: &str) -> Result<Option<Text>, AllocError>
     ensures { IfOk result (λ issue. issue ≡ spec.issue_in (option_copied volume.entry) value.now) }
 {
-    match read_numbers(alloc, value.as_bytes())? {
+    let text = in_ascii(alloc, value)?;
+    match numbers_of(alloc, text.as_str().as_bytes())? {
         Some(numbers) => issue_by(alloc, volume, numbers),
         None => Ok(None),
     }
@@ -242,15 +246,15 @@ fn supplement_text(alloc: Global, mark: &[u8]) -> Result<Text, AllocError>
     Ok(Text::new(text))
 }
 
-/// The numbers in a value, unless it is long.
-fn read_numbers(alloc: Global, value: &[u8]) -> Result<Option<Enumeration<'_>>, AllocError>
-    ensures value { IfOk result (λ found. option_map numbers found ≡ spec.read_numbers value.now) }
+/// The numbers in a text, unless it is long.
+fn numbers_of(alloc: Global, text: &[u8]) -> Result<Option<Enumeration<'_>>, AllocError>
+    ensures value { IfOk result (λ found. option_map numbers found ≡ spec.numbers_of text.now) }
     ensures first_ascii { IfOk result (λ found. IfSome found (λ e. IfSome e.first (λ number. IsAscii number.now))) }
     ensures issue_ascii { IfOk result (λ found. IfSome found (λ e. IfSome e.issue (λ number. IsAscii number.now))) }
     ensures mark_ascii { IfOk result (λ found. IfSome found (λ e. IfSome e.supplement (λ mark. IsAscii mark.now))) }
 {
-    if is_short(value) {
-        enumeration_in(alloc, value)
+    if is_short(text) {
+        enumeration_in(alloc, text)
     } else {
         Ok(None)
     }

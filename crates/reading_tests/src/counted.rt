@@ -34,7 +34,7 @@ const DROPPED: [Case; 5] = [
         ],
     ),
     (
-        "rft_id=info:doi/&rft_id=INFO:PMID/&rft_id=info:doi/10.1/x",
+        "rft_id=info:doi/&rft_id=INFO:PMID/&rft_id=info:oai/&rft_id=doi.org/&rft_id=info:doi/10.1/x",
         &[("rft_id", "info:doi/10.1/x")],
     ),
     (

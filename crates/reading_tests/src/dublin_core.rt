@@ -49,7 +49,7 @@ const FORMATS: [Case; 9] = [
     ),
 ];
 
-const ELEMENTS: [Case; 17] = [
+const ELEMENTS: [Case; 21] = [
     (
         "rft.source=Tides+2012;12(3):45-67&rft.title=Silt",
         &[
@@ -83,6 +83,13 @@ const ELEMENTS: [Case; 17] = [
         &[("rft.jtitle", "")],
     ),
     ("rft.source=ISSN+2901-0012", &[("rft.jtitle", "")]),
+    ("rft.source=arXiv:2101.00001", &[("rft.jtitle", "")]),
+    ("rft.source=DOI:10.1000/182", &[("rft.jtitle", "")]),
+    ("rft.source=urn:isbn:9781234560102", &[("rft.jtitle", "")]),
+    (
+        "rft.source=PMC+Biophysics",
+        &[("rft.jtitle", "PMC Biophysics")],
+    ),
     (
         "rft_val_fmt=info:ofi/fmt:kev:mtx:dcx&rft.source=Tides",
         &[("rft.jtitle", "")],

@@ -39,6 +39,8 @@ mod request_texts;
 #[cfg(test)]
 mod request_volumes;
 #[cfg(test)]
+mod request_writing;
+#[cfg(test)]
 mod requests;
 #[cfg(test)]
 mod retractions;

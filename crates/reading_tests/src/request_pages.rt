@@ -68,7 +68,7 @@ const FIRST_PAGES: [Case; 17] = [
     ("rft.spage=CD004567", &[("rft.spage", "CD004567")]),
     (
         "rft.spage=12%E2%80%9315",
-        &[("rft.spage", "12"), ("rft.epage", "")],
+        &[("rft.spage", "12"), ("rft.epage", "15")],
     ),
     ("rft.spage=C-12", &[("rft.spage", "C-12")]),
     ("rft.spage=xiiz", &[("rft.spage", "xiiz")]),
@@ -158,11 +158,11 @@ fn pages_lead_their_keys(rt: HostRuntime) -> Result<(), Fail> {
     Ok(())
 }
 
-/// How long the first page of a request is whose value for it is `45-67` and spaces.
-fn page_of_long_value(alloc: Global, spaces: usize) -> Result<usize, Fail> {
+/// How long the first page of a request is whose value for it is `45-67` and commas.
+fn page_of_long_value(alloc: Global, commas: usize) -> Result<usize, Fail> {
     let mut query = String::from_str(alloc, "rft.spage=45-67")?;
-    for _ in 0..spaces {
-        query.push_str("+")?;
+    for _ in 0..commas {
+        query.push_str(",")?;
     }
     let reading = read_openurl(alloc, query.as_bytes())?;
     Ok(reading.pairs().first("rft.spage").unwrap_or("").len())

@@ -244,11 +244,11 @@ fn volumes_and_issues_lead_their_keys(rt: HostRuntime) -> Result<(), Fail> {
     Ok(())
 }
 
-/// How long the volume of a request is whose value for it is `12(3)` and spaces.
-fn volume_of_long_value(alloc: Global, spaces: usize) -> Result<usize, Fail> {
+/// How long the volume of a request is whose value for it is `12(3)` and commas.
+fn volume_of_long_value(alloc: Global, commas: usize) -> Result<usize, Fail> {
     let mut query = String::from_str(alloc, "rft.volume=12(3)")?;
-    for _ in 0..spaces {
-        query.push_str("+")?;
+    for _ in 0..commas {
+        query.push_str(",")?;
     }
     let reading = read_openurl(alloc, query.as_bytes())?;
     Ok(reading.pairs().first("rft.volume").unwrap_or("").len())

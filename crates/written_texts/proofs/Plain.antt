@@ -14,10 +14,15 @@ use Rattle.request_encodings.specs.Texts.{text_in, value_in}
 use Rattle.retraction_remarks.specs.Titles.{has_word, without_remarks}
 use Rattle.title_markup.specs.Endings as markup
 use Rattle.title_markup.specs.Spaces.{has_single_spaces, plain_title}
+use Rattle.written_numbers.specs.Numbers as numbers
+use Rattle.written_numbers.specs.Numbers.{number_text}
+use Rattle.written_numbers.specs.Identifiers as identifiers
+use Rattle.written_numbers.specs.Identifiers.{identifier_text}
 use Rattle.written_texts.specs.declared.readings.Role.{Role}
-use Rattle.written_texts.specs.declared.readings.Role.TheVariants.{Title, Other}
+use Rattle.written_texts.specs.declared.readings.Role.TheVariants.{Title, Other, Number, Identifier}
 use Rattle.written_texts.specs.Encoded.{decoded_again, ends_as_word, has, has_space, has_three_words, has_whole_escapes, is_encoded, plus}
-use Rattle.written_texts.specs.Readings.{IsPlain, read_once, titled}
+use Rattle.written_texts.specs.Encoded.{is_escaped, unescaped}
+use Rattle.written_texts.specs.Readings.{IsPlain, IsPlainNumber, IsPlainIdentifier, plain_text, read_once}
 
 -- ---- UTF-8
 
@@ -31,24 +36,40 @@ AreTexts = (encoding : Encoding) (bytes : Text) → IsUtf8 (text_in encoding byt
 decoded_utf8 : AreTexts → IsUtf8Kept decoded_again
 decoded_utf8 texts t utf8 = cond_both (is_encoded t) (value_in Utf8 t) t IsUtf8 (λ e. texts Utf8 _) (λ e. utf8)
 
-titled_utf8 : IsUtf8Kept without_remarks → (role : Role) → IsUtf8Kept (titled role)
-titled_utf8 remarks Title t utf8 = remarks t utf8
-titled_utf8 remarks Other t utf8 = utf8
+unescaped_utf8 : AreTexts → IsUtf8Kept unescaped
+unescaped_utf8 texts t utf8 = cond_both (is_escaped t) (value_in Utf8 t) t IsUtf8 (λ e. texts Utf8 _) (λ e. utf8)
 
-pub once_utf8 : AreTexts → IsUtf8Kept without_latex → IsUtf8Kept plain_title → IsUtf8Kept without_remarks → (role : Role) → IsUtf8Kept (read_once role)
-unfolding read_once
-once_utf8 texts latex markup remarks role t utf8 =
-    titled_utf8 remarks role (plain_title (without_latex (decoded_again t)))
-    (markup (without_latex (decoded_again t)) (latex (decoded_again t) (decoded_utf8 texts t utf8)))
+-- what each part of a reading keeps
+pub record AreKept : Type 0 where
+  pub texts : AreTexts
+  pub latex : IsUtf8Kept without_latex
+  pub markup : IsUtf8Kept plain_title
+  pub remarks : IsUtf8Kept without_remarks
+  pub numbers : IsUtf8Kept number_text
+  pub identifiers : IsUtf8Kept identifier_text
 
--- by the steps of the code
-pub once_read : (role : Role) (t decoded plain title once : Text) → decoded ≡ decoded_again t → plain ≡ plain_title (without_latex decoded)
-    → title ≡ titled role plain → (IsUtf8 title → once ≡ title) → IsUtf8Kept (read_once role) → IsUtf8 t → once ≡ read_once role t
+plain_utf8 : AreKept → IsUtf8Kept plain_text
+plain_utf8 kept t utf8 = kept.markup _ (kept.latex _ (decoded_utf8 kept.texts t utf8))
+
+pub once_utf8 : AreKept → (role : Role) → IsUtf8Kept (read_once role)
 unfolding read_once
-once_read role t decoded plain title once a b c same reads utf8 =
-    let is : title ≡ titled role (plain_title (without_latex (decoded_again t))) =
-    c ∙ ap (titled role) (b ∙ ap (λ u. plain_title (without_latex u)) a) in
-    same (subst IsUtf8 (sym is) (reads t utf8)) ∙ is
+once_utf8 kept Title t utf8 = kept.remarks _ (plain_utf8 kept t utf8)
+once_utf8 kept Other t utf8 = plain_utf8 kept t utf8
+once_utf8 kept Number t utf8 = kept.numbers _ (decoded_utf8 kept.texts t utf8)
+once_utf8 kept Identifier t utf8 = kept.identifiers _ (unescaped_utf8 kept.texts t utf8)
+
+-- what bytes are read as, if they are a reading of a text in UTF-8
+pub text_read : (role : Role) (t bytes once : Text) → bytes ≡ read_once role t → (IsUtf8 bytes → once ≡ bytes) → IsUtf8Kept (read_once role) → IsUtf8 t
+    → once ≡ read_once role t
+text_read role t bytes once e same reads utf8 = same (subst IsUtf8 (sym e) (reads t utf8)) ∙ e
+
+pub title_once : (t plain : Text) → plain ≡ plain_text t → without_remarks plain ≡ read_once Title t
+unfolding read_once
+title_once t plain e = ap without_remarks e
+
+pub name_once : (t plain : Text) → plain ≡ plain_text t → plain ≡ read_once Other t
+unfolding read_once
+name_once t plain e = e
 
 -- ---- texts in which there is nothing to read
 
@@ -99,3 +120,23 @@ pub title_stays : LatexStays → MarkupStays → ((t : Text) → has_word t ≡ 
     → read_once Title t ≡ t
 unfolding read_once
 title_stays latex markup remarks t plain wordless = ap without_remarks (plain_stays latex markup t plain) ∙ remarks t wordless
+
+-- ---- numbers and identifiers
+
+pub number_stays : ((t : Text) → numbers.is_plain t ≡ true → number_text t ≡ t) → (t : Text) → IsPlainNumber t → read_once Number t ≡ t
+unfolding read_once
+number_stays stays t plain = ap (λ u. number_text u) (decoded_stays t plain.no_percent plain.no_plus) ∙ stays t plain.ascii
+
+unescaped_stays : (t : Text) → has percent t ≡ false → unescaped t ≡ t
+unescaped_stays t none =
+    cond-false (is_escaped t) (value_in Utf8 t) t (not_escaped (has_whole_escapes t) _ (not (has plus t)) none)
+  where
+    not_escaped : (a b c : Bool) → b ≡ false → (a && b && c) ≡ false
+    not_escaped true false c h = refl
+    not_escaped false false c h = refl
+    not_escaped a true c h = cc
+
+pub identifier_stays : ((t : Text) → identifiers.is_plain t ≡ true → identifier_text t ≡ t) → (t : Text) → IsPlainIdentifier t
+    → read_once Identifier t ≡ t
+unfolding read_once
+identifier_stays stays t plain = ap (λ u. identifier_text u) (unescaped_stays t plain.no_percent) ∙ stays t plain.ascii

@@ -66,3 +66,12 @@ is_encoded text =
 
 abbrev pub decoded_again : Text → Text
 decoded_again text = if is_encoded text then value_in Utf8 text else text
+
+-- ---- encoded identifiers
+
+-- with escapes, but with no `%` that begins no escape; a `+` may be a part of an identifier
+abbrev pub is_escaped : Text → Bool
+is_escaped text = has_whole_escapes text && has percent text && not (has plus text)
+
+abbrev pub unescaped : Text → Text
+unescaped text = if is_escaped text then value_in Utf8 text else text

@@ -1,4 +1,4 @@
--- Titles and names as sources write them, read as text.
+-- Titles, names, numbers and identifiers as sources write them, read as text.
 use Rattle.std.specs.Prelude.{◌≡◌, ◌&&◌, not, nat_le, Bool, true, false, length, if◌then◌else◌}
 use Rattle.std.specs.List.{list_all}
 use Rattle.std.specs.Str.{bytes_eq}
@@ -8,18 +8,24 @@ use Rattle.latex_text.specs.Texts.{without_latex}
 use Rattle.title_markup.specs.Endings as markup
 use Rattle.title_markup.specs.Spaces.{has_single_spaces, plain_title}
 use Rattle.retraction_remarks.specs.Titles.{without_remarks}
+use Rattle.written_numbers.specs.Numbers as numbers
+use Rattle.written_numbers.specs.Numbers.{number_text}
+use Rattle.written_numbers.specs.Identifiers as identifiers
+use Rattle.written_numbers.specs.Identifiers.{identifier_text}
 use Rattle.written_texts.specs.declared.readings.Role.{Role}
-use Rattle.written_texts.specs.declared.readings.Role.TheVariants.{Title, Other}
-use Rattle.written_texts.specs.Encoded.{decoded_again, has, plus}
+use Rattle.written_texts.specs.declared.readings.Role.TheVariants.{Title, Other, Number, Identifier}
+use Rattle.written_texts.specs.Encoded.{decoded_again, unescaped, has, plus}
 
--- what a source says of a retraction is no part of a title
-abbrev pub titled : Role → Text → Text
-titled Title text = without_remarks text
-titled Other text = text
+-- decoded again, and then without commands and markup
+abbrev pub plain_text : Text → Text
+plain_text text = plain_title (without_latex (decoded_again text))
 
--- decoded again, and then without commands, markup and remarks
+-- what a source says of a retraction is no part of a title; numbers and identifiers are decoded again, and written in ASCII
 unfoldable pub read_once : Role → Text → Text
-read_once role text = titled role (plain_title (without_latex (decoded_again text)))
+read_once Title text = without_remarks (plain_text text)
+read_once Other text = plain_text text
+read_once Number text = number_text (decoded_again text)
+read_once Identifier text = identifier_text (unescaped text)
 
 -- spaces and control characters alone
 abbrev pub is_blank : Text → Bool
@@ -48,3 +54,14 @@ pub record IsPlain (text : Text) : Type 0 where
   pub no_command : latex.has latex.backslash text ≡ false
   pub no_group : latex.has latex.opening text ≡ false
   pub single_spaces : has_single_spaces text ≡ true
+
+-- a number in ASCII, with no `%` and no `+`
+pub record IsPlainNumber (text : Text) : Type 0 where
+  pub no_percent : has percent text ≡ false
+  pub no_plus : has plus text ≡ false
+  pub ascii : numbers.is_plain text ≡ true
+
+-- an identifier in ASCII on one line, with no `%`
+pub record IsPlainIdentifier (text : Text) : Type 0 where
+  pub no_percent : has percent text ≡ false
+  pub ascii : identifiers.is_plain text ≡ true

@@ -18,6 +18,24 @@ pub(crate) fn decoded_again(alloc: Global, text: &str) -> Result<String, AllocEr
     String::from_str(alloc, text)
 }
 
+/// The identifier that an encoded one stands for; any other text as it is.
+pub(crate) fn unescaped(alloc: Global, text: &str) -> Result<String, AllocError>
+    ensures { IfOk result (λ unescaped. string_bytes unescaped ≡ spec.unescaped text.now) }
+{
+    let bytes = text.as_bytes();
+    if is_escaped(bytes) {
+        return value_in(alloc, Encoding::Utf8, bytes);
+    }
+    String::from_str(alloc, text)
+}
+
+/// Whether an identifier has escapes, and neither another `%` nor `+`.
+fn is_escaped(text: &[u8]) -> bool
+    ensures { result ≡ spec.is_escaped text.now }
+{
+    has_whole_escapes(text) && has_percent(text) && !has_plus(text)
+}
+
 /// Whether a text is a value as queries have them.
 fn is_encoded(alloc: Global, text: &[u8]) -> Result<bool, AllocError>
     ensures { IfOk result (λ is. is ≡ spec.is_encoded text.now) }
@@ -42,6 +60,12 @@ fn has_percent(text: &[u8]) -> bool
     ensures { result ≡ spec.has percent text.now }
 {
     text.iter().any(|byte| *byte == b'%')
+}
+
+fn has_plus(text: &[u8]) -> bool
+    ensures { result ≡ spec.has spec.plus text.now }
+{
+    text.iter().any(|byte| *byte == b'+')
 }
 
 /// Whether each `%` begins an escape.

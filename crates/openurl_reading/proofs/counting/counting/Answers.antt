@@ -1,20 +1,29 @@
-use Rattle.std.proofs.Common.{◌≡◌, ◌+◌, ◌-◌, ◌<◌, ◌≤◌, ◌++◌, ◌∷◌, [], true, false, length, take, get_or, sym, ap, subst, ◌∙◌, arith}
-use Rattle.std.proofs.lemmas.List.{length-append, take_all}
+use Rattle.std.proofs.Common.{◌≡◌, ℕ, ◌+◌, ◌-◌, ◌<◌, ◌≤◌, List, ◌++◌, ◌∷◌, [], true, false, length, map, take, get_or, sym, ap, subst, ◌∙◌, arith}
+use Rattle.std.proofs.lemmas.List.{length-append, length-map, get_or-map, take_all}
 use Rattle.std.proofs.lemmas.Option.{get_or_from_slice_get}
 use Rattle.kev_read.specs.Pairs.{KeyValue}
 use Rattle.openurl_reading.specs.Counting.{accepted, is_accepted, most_pairs}
+use Rattle.openurl_reading.specs.Keys.{named}
 use Rattle.openurl_reading.proofs.CountedPairs.{accepted_same, accepted_one, counting_one, none_left_out, counting_full, one_left_out}
 use Rattle.openurl_reading.proofs.counting.counting.Goals as goal
 use Rattle.openurl_reading.proofs.counting.counting.Goals.{then-branch+then-len-lt-MOST_PAIRS+in_ok-push_text}
 use Rattle.openurl_reading.proofs.counting.counting.Goals.{then-branch+else-len-lt-MOST_PAIRS, else-branch}
 
+all_named : (query : List KeyValue) (index : ℕ) → length query ≤ index → take index (map named query) ≡ map named query
+all_named query index past = take_all index (map named query) (simp length-map past)
+
 pub loop-index-preserved : goal.loop-index-preserved
 loop-index-preserved c =
-    let pairs = c.args.query.now in
+    let query = c.args.query.now in
+    let pairs = map named query in
     let index = c.loop-index.index in
-    let item : KeyValue = record { key = c.pair.result.0.now; value = c.pair.result.1.now } in
-    let within : index < length pairs = omega (arith, c.len-index-end.ensures) in
-    let is : get_or pairs index item ≡ item = get_or_from_slice_get pairs index item item c.pair.ensures in
+    let sent : KeyValue = record { key = c.pair.result.0.now; value = c.pair.result.1.now } in
+    let item : KeyValue = record { key = c.as_str-key.result.now; value = c.pair.result.1.now } in
+    let known : index < length query = omega (arith, c.len-index-end.ensures) in
+    let within : index < length pairs = simp length-map known in
+    let keyed : named sent ≡ item = ap (λ k. record { key = k; value = c.pair.result.1.now }) (sym (c.as_str-key.ensures ∙ c.in_ok-name.ensures)) in
+    let is : get_or pairs index item ≡ item =
+    get_or-map named query index sent item known ∙ ap named (get_or_from_slice_get query index sent sent c.pair.ensures) ∙ keyed in
     let so_far = c.loop-index.invariant in
     let list = accepted (take index pairs) in
     let test = c.in_ok-is_accepted.ensures in
@@ -53,11 +62,11 @@ returns-clause-counting c =
     let query = c.args.query.now in
     let index = c.loop-index.index in
     let past : length query ≤ index = omega (arith, c.len-index-end.ensures, c.loop-index-test.false) in
-    c.new.ensures ∙ c.loop-index.invariant.list ∙ ap (λ l. take most_pairs (accepted l)) (take_all index query past)
+    c.new.ensures ∙ c.loop-index.invariant.list ∙ ap (λ l. take most_pairs (accepted l)) (all_named query index past)
 
 pub returns-clause-left_out : goal.returns-clause-left_out
 returns-clause-left_out c =
     let query = c.args.query.now in
     let index = c.loop-index.index in
     let past : length query ≤ index = omega (arith, c.len-index-end.ensures, c.loop-index-test.false) in
-    c.loop-index.invariant.left_out ∙ ap (λ l. length (accepted l) - most_pairs) (take_all index query past)
+    c.loop-index.invariant.left_out ∙ ap (λ l. length (accepted l) - most_pairs) (all_named query index past)

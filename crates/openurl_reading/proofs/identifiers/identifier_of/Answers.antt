@@ -1,14 +1,9 @@
-use Rattle.std.proofs.Common.{Some, ap, sym, ◌∙◌}
-use Rattle.std.specs.Option.{option_copied}
+use Rattle.std.proofs.Common.{◌≡◌, ◌∙◌, subst}
+use Rattle.std.specs.Prelude.{IfOk}
 use Rattle.openurl_reading.specs.Identifiers as spec
 use Rattle.openurl_reading.proofs.identifiers.identifier_of.Goals as goal
 
-pub returns-in_ok-ascii_text-in-Some-clause-value : goal.returns-in_ok-ascii_text-in-Some-clause-value
-returns-in_ok-ascii_text-in-Some-clause-value c =
-    ap Some c.in_ok-ascii_text-in-Some.ensures ∙ sym (ap option_copied c.in-Some.is) ∙ c.in_ok-identifier.ensures.value
-    ∙ ap (spec.identifier_of c.args.namespace c.args.key.now) c.as_bytes.ensures.value
-
-pub returns-in-None-clause-value : goal.returns-in-None-clause-value
-returns-in-None-clause-value c =
-    sym (ap option_copied c.in-None.is) ∙ c.in_ok-identifier.ensures.value
-    ∙ ap (spec.identifier_of c.args.namespace c.args.key.now) c.as_bytes.ensures.value
+pub returns-clause-value : goal.returns-clause-value
+returns-clause-value c =
+    subst (λ text. IfOk c.identifier_under.result (λ found. found ≡ spec.identifier_under c.args.namespace c.args.key.now text))
+    (c.as_str.ensures ∙ c.in_ok-text.ensures) c.identifier_under.ensures.value

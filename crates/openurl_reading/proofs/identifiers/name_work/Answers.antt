@@ -4,7 +4,7 @@ use Rattle.text_model.specs.Texts.{Text}
 use Rattle.kev_read.specs.Pairs.{KeyValue, all_of}
 use Rattle.work_identifiers.specs.declared.namespace.Namespace.{Namespace}
 use Rattle.work_identifiers.specs.Uris.{uri_of}
-use Rattle.openurl_reading.specs.Counting.{is_one_of}
+use Rattle.openurl_reading.specs.Keys.{is_one_of}
 use Rattle.openurl_reading.specs.Identifiers.{named, nameable, naming}
 use Rattle.openurl_reading.specs.Steps.{Change, unchanged, leading, changed, taken}
 use Rattle.openurl_reading.proofs.identifiers.name_work.Goals as goal

@@ -4,12 +4,14 @@ use Rattle.openurl_reading.proofs.CanonicalStays.{kept_settled}
 use Rattle.openurl_reading.proofs.Identified.{identified}
 use Rattle.openurl_reading.proofs.CanonicalNames.{canonical_named}
 use Rattle.openurl_reading.proofs.LowerLaws.{issn_kept, isbn_kept, date_kept}
+use Rattle.openurl_reading.proofs.PlainNumbers.{AreWritten}
 use Rattle.openurl_reading.proofs.Settled.{settled_stays}
 use Rattle.openurl_reading.proofs.laws.canonical_requests_stay.Goals as goal
 
 pub returns-clause-steps : goal.returns-clause-steps
 returns-clause-steps c pairs is =
     let missing = is.no_other_keys in
+    let written : AreWritten = record { stay = c.plain_texts_stay.ensures.number; short = c.texts_are_bounded.ensures } in
     settled_stays pairs (kept_settled pairs record {
       context = is.context;
       transport = is.transport;
@@ -28,10 +30,10 @@ returns-clause-steps c pairs is =
       titles = is.titles;
       journals = is.journals;
       other_texts = is.other_texts;
-      issns = λ k d h. let one = is.issns k d h in issn_kept c.issns_stay.ensures _ one.0 one.1;
-      eissns = λ k d h. let one = is.eissns k d h in issn_kept c.issns_stay.ensures _ one.0 one.1;
-      isbns = λ k d h. isbn_kept c.isbns_stay.ensures _ (is.isbns k d h);
-      dates = λ k d h. date_kept c.dates_stay.ensures _ (is.dates k d h);
+      issns = λ k d h. let one = is.issns k d h in issn_kept written c.issns_stay.ensures _ one.0 one.1;
+      eissns = λ k d h. let one = is.eissns k d h in issn_kept written c.issns_stay.ensures _ one.0 one.1;
+      isbns = λ k d h. isbn_kept written c.isbns_stay.ensures _ (is.isbns k d h);
+      dates = λ k d h. date_kept written c.dates_stay.ensures _ (is.dates k d h);
       volumes = is.volumes;
       issues = is.issues;
       spages = is.spages;

@@ -7,7 +7,8 @@ use Rattle.openurl_reading.proofs.laws.nothing_is_invented.Goals as goal
 pub returns : goal.returns
 returns c =
     nothing_invented
-    (found_again c.issns_are_issns.ensures c.issns_are_found_alone.ensures c.isbns_are_isbns.ensures c.isbns_stay.ensures
+    (found_again (record { stay = c.plain_texts_stay.ensures.number; short = c.texts_are_bounded.ensures })
+    c.issns_are_issns.ensures c.issns_are_found_alone.ensures c.isbns_are_isbns.ensures c.isbns_stay.ensures
     c.dates_are_read.ensures c.dates_stay.ensures)
     (numbers_again (record {
       short = c.parts_are_short.ensures.part;
@@ -18,6 +19,10 @@ returns c =
       issue_alone = c.numbers_stay.ensures.issue;
       supplement_alone = c.supplements_stay.ensures.alone;
       after_number = c.supplements_stay.ensures.after_number;
+      first_word = c.parts_are_plain.ensures.first;
+      issue_word = c.parts_are_plain.ensures.issue;
+      supplement_word = c.parts_are_plain.ensures.supplement;
+      written = record { stay = c.plain_texts_stay.ensures.number; short = c.texts_are_bounded.ensures };
     }))
     (identified c.identifiers_are_identifiers.ensures.named c.identifiers_are_identifiers.ensures.alone c.identifiers_stay.ensures.named
     c.uris_have_one_namespace.ensures c.preprints_have_dois.ensures.doi c.preprints_have_dois.ensures.uri

@@ -1,6 +1,7 @@
-use Rattle.std.proofs.Common.{◌≤◌, length, arith}
+use Rattle.std.proofs.Common.{◌≤◌, length, map, arith}
 use Rattle.std.proofs.lemmas.List.{length-take}
 use Rattle.openurl_reading.specs.Counting.{accepted, counting, most_pairs}
+use Rattle.openurl_reading.specs.Keys.{named}
 use Rattle.openurl_reading.specs.Reading.{normal_form, with_derived}
 use Rattle.openurl_reading.proofs.Cited.{AreCitedLight}
 use Rattle.openurl_reading.proofs.CitedParts.{cited_short}
@@ -58,7 +59,7 @@ returns-clause-few c pairs =
     )
 
 pub returns-clause-counting : goal.returns-clause-counting
-returns-clause-counting c pairs = omega (arith, length-take most_pairs (accepted pairs))
+returns-clause-counting c pairs = omega (arith, length-take most_pairs (accepted (map named pairs)))
 
 pub returns-clause-bytes : goal.returns-clause-bytes
 returns-clause-bytes c pairs =
@@ -88,6 +89,10 @@ returns-clause-bytes c pairs =
       issue_alone = c.numbers_stay.ensures.issue;
       supplement_alone = c.supplements_stay.ensures.alone;
       after_number = c.supplements_stay.ensures.after_number;
+      first_word = c.parts_are_plain.ensures.first;
+      issue_word = c.parts_are_plain.ensures.issue;
+      supplement_word = c.parts_are_plain.ensures.supplement;
+      written = record { stay = c.plain_texts_stay.ensures.number; short = c.texts_are_bounded.ensures };
     }) in
     omega (
       arith,

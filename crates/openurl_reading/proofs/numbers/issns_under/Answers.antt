@@ -9,7 +9,7 @@ use Rattle.openurl_reading.proofs.numbers.issns_under.Goals as goal
 pub loop-value-preserved : goal.loop-value-preserved
 loop-value-preserved c =
     flat_pushed (λ value. issns_in (searched value)) _ _ _ _ _ _ c.loop-value-test.true c.in_ok-push_all.ensures
-    (c.in_ok-issns_in.ensures ∙ ap issns_in c.searched.ensures) c.loop-value.invariant
+    c.in_ok-issns_of.ensures c.loop-value.invariant
 
 pub returns : goal.returns
 returns c =

@@ -5,5 +5,5 @@ use Rattle.openurl_reading.proofs.searched.searched.Goals as goal
 
 pub returns-then-bytes-le-MOST_BYTES : goal.returns-then-bytes-le-MOST_BYTES
 returns-then-bytes-le-MOST_BYTES c =
-    let same = c.as_bytes-bytes.ensures.value in
-    same ∙ sym (take_all most_bytes c.args.value.now (subst (λ t. length t ≤ most_bytes) same c.if-bytes-le-MOST_BYTES.true))
+    let same = c.as_bytes-bytes.ensures.value ∙ c.as_str.ensures in
+    same ∙ sym (take_all most_bytes c.args.text.now (subst (λ t. length t ≤ most_bytes) same c.if-bytes-le-MOST_BYTES.true))
