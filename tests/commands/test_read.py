@@ -1,16 +1,18 @@
 """`read`: the pairs of a query of any source, as they are read.
 
-Two tables have a line for each request: what it is, the request, the pairs that are put before its own, and those of
-its own pairs that are left, if not all are. A line alone names a rule. read_sources.txt has requests as sources send
-them, in several lines each, and after `=` the first values that some keys have."""
+Tables have a line for each request: what it is, the request, the pairs that are put before its own, and those of its
+own pairs that are left, if not all are. A line alone names a rule. read_texts.tsv and read_forms.tsv have further
+requests of these rules. read_sources.txt has requests as sources send them, in several lines each, and after `=` the
+first values that some keys have."""
+import re
 from pathlib import Path
 from urllib.parse import parse_qsl
 
 from fixtures.program import ProgramCase
 
 HERE = Path(__file__).parent
-TABLES = ("read_pairs.tsv", "read_numbers.tsv")
-LEAST_ROWS, LEAST_OF_A_RULE, LEAST_SOURCES = 300, 3, 40
+TABLES = ("read_pairs.tsv", "read_numbers.tsv", "read_texts.tsv", "read_forms.tsv")
+LEAST_ROWS, LEAST_OF_A_RULE, LEAST_SOURCES = 1500, 3, 40
 # What tables write for the formats of a journal, a book and a dissertation.
 FORMATS = {name[0].upper(): f"info:ofi/fmt:kev:mtx:{name}" for name in ("journal", "book", "dissertation")}
 
@@ -37,19 +39,25 @@ def pairs_of(text):
     return [(key, FORMATS.get(value, value) if key == "rft_val_fmt" else value) for key, value in pairs]
 
 
+def printed(text):
+    """What a terminal would obey is escaped."""
+    return re.sub("[\x00-\x1f\x7f]", lambda found: f"\\x{ord(found[0]):02x}", text)
+
+
 def lines_of(pairs):
-    return [f"{key}\t{value}" for key, value in pairs]
+    return [f"{key}\t{printed(value)}" for key, value in pairs]
 
 
-def rows_of(name):
-    """The rules of a table, each with its rows."""
+def rows():
+    """The rules of all tables, each with its rows."""
     rules = {}
-    rule = ""
-    for line in (HERE / name).read_text(encoding="utf-8").splitlines():
-        if "\t" not in line:
-            rule = line
-        else:
-            rules.setdefault(rule, []).append(line.split("\t"))
+    for name in TABLES:
+        rule = ""
+        for line in (HERE / name).read_text(encoding="utf-8").split("\n")[:-1]:
+            if "\t" not in line:
+                rule = line
+            else:
+                rules.setdefault(rule, []).append(line.split("\t"))
     return rules
 
 
@@ -69,9 +77,9 @@ def sources():
 class ReadCommand(ProgramCase):
     def lines(self, what, request):
         """What is printed for a request."""
-        status, printed, fault = self.program.run(["read", request])
+        status, text, fault = self.program.run(["read", request])
         self.expect(f"the status of {what}: {request}", (status, fault), (0, b""))
-        return printed.decode().split("\n")[:-1]
+        return text.decode().split("\n")[:-1]
 
     def check(self, what, request, added="", kept=None):
         lines = self.lines(what, request)
@@ -81,11 +89,11 @@ class ReadCommand(ProgramCase):
         self.expect(f"the pairs of {what}: {request}", lines[len(before) :], own)
 
     def test_rules(self):
-        rules = {rule: rows for name in TABLES for rule, rows in rows_of(name).items()}
-        numbers = [len(rows) for rows in rules.values()]
+        rules = rows()
+        numbers = [len(cases) for cases in rules.values()]
         self.expect(f"{numbers} rows", sum(numbers) >= LEAST_ROWS and min(numbers) >= LEAST_OF_A_RULE)
-        for rule, rows in rules.items():
-            for what, *row in rows:
+        for rule, cases in rules.items():
+            for what, *row in cases:
                 self.check(f"{rule}, {what}", *row)
 
     def test_sources(self):
