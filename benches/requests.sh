@@ -13,7 +13,7 @@ trap 'rm -rf "$scratch"' EXIT
 build() {
     mkdir -p "$1/crates/requests_bench/src"
     cp benches/requests.rt.txt "$1/crates/requests_bench/src/main.rt"
-    echo 'requests_bench: target_vars kev_read form_urlencoded' >> "$1/crates.txt"
+    echo 'requests_bench: target_vars kev_read form_urlencoded source_requests' >> "$1/crates.txt"
     (cd "$1/crates/requests_bench" && rt run -- read 1) > "$1/build.log" 2>&1 || { tail -20 "$1/build.log"; exit 1; }
 }
 
@@ -41,6 +41,7 @@ table() {
     printf '%-50s %12s %8s\n' "$2" instructions allocations
     row "$1" decode 100 'decode a stored query of 24 pairs, and no more'
     row "$1" read 100 'read it'
+    row "$1" read-source 100 'read it as a query of any source'
     row "$1" read-and-fill 100 'read it, and fill an environment'
     row "$1" read-many 1 'read 4,096 pairs'
     row "$1" fill-many 1 'fill an environment from them'
