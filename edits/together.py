@@ -12,6 +12,7 @@ import os
 import re
 import shutil
 import subprocess
+from collections.abc import Iterator
 
 import stored
 from statements import FUNCTION, head_from
@@ -22,6 +23,8 @@ SAID = re.compile(r"fn (\S+): (.*)")
 WAITS = re.compile(r"it calls .*which (?:is|are) not proved")
 # A name in a proof that the edit took away says nothing of a contract.
 NAMES = re.compile(r"has no field|is not in scope|has no `|was not admitted")
+# What it says of a crate that it has checked, and of one that is not proved.
+VERDICT, NOT_PROVED = "logic=", "logic=not-proved"
 EMPTY = "{}"
 # The trait of an `impl` block, if it has one, and its type.
 IMPLEMENTED = re.compile(r"(?:unsafe )?impl(?:<[^{]*?>)? (?:(?:\w+::)*(\w+)[^{]*? for )?&?(?:'\w+ )?(\w+)")
@@ -134,6 +137,12 @@ def judged(said: str, functions: dict[str, Function]) -> tuple[dict[str, str], s
     return {edit: path for edit, path in refused.items() if edit not in unknown}, unknown
 
 
+def reason_in(said: str) -> str:
+    """Why the toolchain checked nothing: its first line with an error, or else its last one."""
+    lines = [line.strip() for line in said.split("\n") if line.strip()] or ["it says nothing"]
+    return next((line for line in lines if "error" in line), lines[-1])
+
+
 class Copy:
     """A crate in a copy of the crates, where edits of it are tried."""
 
@@ -151,7 +160,10 @@ class Copy:
         words = ["rt", "check", "--jobs", "1"]
         ran = subprocess.run(words, cwd=self._folder, stdin=subprocess.DEVNULL, check=False, **how)
         self._write(before)
-        return ran.stdout if "logic=not-proved" in ran.stdout else ""
+        if VERDICT not in ran.stdout:
+            # An edit that does not compile, or libraries of two builds, tell nothing of the others.
+            print(f"{self._crate}: not checked: {reason_in(ran.stdout)}", flush=True)
+        return ran.stdout if NOT_PROVED in ran.stdout else ""
 
     def _write(self, texts: dict[str, str]) -> None:
         for path, text in texts.items():
@@ -159,13 +171,14 @@ class Copy:
                 file.write(text)
 
 
-def refused_of(folder: str, crate: str, names: list[str]) -> dict[str, str]:
-    """Those of a crate's edits that are refused together with others, each with the file in which it was."""
+def refused_of(folder: str, crate: str, names: list[str]) -> Iterator[dict[str, str]]:
+    """Yields, round by round, those of a crate's edits that are refused together with others, each with the file in
+    which it was."""
     all_of = {name: function_of(crate, f"edits/{crate}/{name}.edit") for name in names}
     left = {name: function for name, function in all_of.items() if function is not None}
     if len(left) < 2:
-        return {}
-    copy, found = Copy(folder, crate), dict[str, str]()
+        return
+    copy = Copy(folder, crate)
     while left:
         batch = chosen(left)
         refused, unknown = judged(copy.check(texts_of(crate, [*batch])), batch)
@@ -173,10 +186,9 @@ def refused_of(folder: str, crate: str, names: list[str]) -> dict[str, str]:
         if any(batch[name].is_law for name in proved):
             # What calls it was proved from another contract, so nothing else is taken from this round.
             refused = {}
-        found |= refused
+        yield refused
         done = refused.keys() | proved
         print(f"{crate}: {len(refused)} of {len(batch)} edits refused together", flush=True)
         if not done:
-            break
+            return
         left = {name: function for name, function in left.items() if name not in done}
-    return found

@@ -4,6 +4,7 @@ from __future__ import annotations
 
 import json
 import os
+import shutil
 import subprocess
 import sys
 import tempfile
@@ -49,13 +50,19 @@ EDITS = {
     "harmless": ("src/code.rt", "    7", "    6 + 1"),
     "law": ("src/laws.rt", "n ≡ n", "wrong"),
     "constant": ("src/code.rt", "MOST: u64 = 9", "MOST: u64 = 8"),
+    "broken": ("src/code.rt", "    7", "    broken +"),
     "contract": ("src/code.rt", "fn apart() -> u64", "fn apart() -> u32"),
 }
-# What it says of each function: one that has the word, one that calls such a one, and others.
+# What it says of each function: one that has the word, one that calls such a one, and others; and of code that does not
+# compile.
 RT = """#!/usr/bin/env python3
 import sys
+if sys.argv[1] == "version":
+    sys.exit(print("rattle-kit-1 logic 0"))
 code, laws = (open(f"src/{name}.rt", encoding="utf-8").read() for name in ("code", "laws"))
 print(code, laws, file=open(sys.argv[0] + ".log", "a", encoding="utf-8"))
+if "broken" in code:
+    sys.exit("src/code.rt:22:1: error: an expression is missing")
 is_low = "wrong" in code.split("fn high")[0]
 if "low + wrong" in code:
     print("note: src/code.rt:12:1: it is not proved that what the function ensures holds")
@@ -83,7 +90,8 @@ sys.path[:0] = ["edits", "tools/prove"]
 import together
 found = {name: together.function_of("a", f"edits/a/{name}.edit") for name in sys.argv[1:]}
 lines = {name: it and [it.name, it.first, it.last, it.is_law] for name, it in found.items()}
-print(json.dumps([lines, together.refused_of("copy", "a", sys.argv[1:])]))"""
+refused = {edit: path for it in together.refused_of("copy", "a", sys.argv[1:]) for edit, path in it.items()}
+print(json.dumps([lines, refused]))"""
 
 
 def write_repository(folder: str) -> None:
@@ -98,6 +106,46 @@ def write_repository(folder: str) -> None:
     Path(folder, "bin/rt").chmod(0o755)
 
 
+def write_all(folder: str, names: tuple[str, ...]) -> None:
+    """The repository with these edits alone, and with all that `edits/try` needs."""
+    write_repository(folder)
+    for name in EDITS.keys() - {*names}:
+        Path(folder, f"edits/a/{name}.edit").unlink()
+    Path(folder, "crates/a/src/lib.rt").write_text("mod code;\npub mod laws;\n", encoding="utf-8")
+    proof = "proofs/laws/numbers_stay/Answers.antt"
+    Path(folder, f"crates/a/{proof}").parent.mkdir(parents=True)
+    for name in (f"crates/a/{proof}", "crates.txt", "HANDLES"):
+        Path(folder, name).write_text("a:\n" if name == "crates.txt" else "\n", encoding="utf-8")
+    for source in (
+        "edits/try",
+        "edits/record.py",
+        "edits/parts.py",
+        "edits/reached.py",
+        "tools/prove/crates.py",
+        "tools/prove/costs.py",
+    ):
+        Path(folder, source).parent.mkdir(parents=True, exist_ok=True)
+        shutil.copy(Path(TOP, source), Path(folder, source))
+
+
+class Recorded(Case):
+    def test_rows(self) -> None:
+        """Each edit that was refused has a row, also one of an earlier check than the last."""
+        names = ("low", "low_again", "high", "law")
+        with tempfile.TemporaryDirectory() as folder:
+            write_all(folder, names)
+            env = {name: text for name, text in os.environ.items() if name != "CI"}
+            env["PATH"] = f"{folder}/bin:{os.environ['PATH']}"
+            done = subprocess.run(
+                [sys.executable, "edits/try", "a"], cwd=folder, env=env, capture_output=True, text=True, check=False
+            )
+            self.expect("its errors", done.stderr, "")
+            rows = Path(folder, "edits/tried").read_text(encoding="utf-8").splitlines()
+        self.expect("what is said", done.stdout.splitlines()[-1:], ["4 passed, 0 failed, 0 as they were tried before"])
+        recorded = [row.split("\t")[0] for row in rows if not row.startswith("#")]
+        self.expect("the rows", recorded, sorted(f"a/{name}" for name in names))
+
+
 class Names(Case):
     def test_types(self) -> None:
         with tempfile.TemporaryDirectory() as folder:
@@ -108,21 +156,25 @@ class Names(Case):
 
 
 class Together(Case):
+    said = ""
+
     def tried(self, folder: str, *names: str) -> tuple[dict[str, list[object]], dict[str, str], int]:
-        """The functions of edits, those that are refused, and how many checks that took."""
+        """The functions of edits, those that are refused, and how many checks that took; `said` is what is said."""
         log = Path(folder, "bin/rt.log")
         log.unlink(missing_ok=True)
         env = {**os.environ, "PATH": f"{folder}/bin:{os.environ['PATH']}"}
         done = subprocess.run(
             [sys.executable, "-c", TRY, *names], cwd=folder, env=env, stdout=subprocess.PIPE, text=True, check=True
         )
-        functions, refused = json.loads(done.stdout.splitlines()[-1])
+        *said, last = done.stdout.splitlines()
+        self.said = "\n".join(said)
+        functions, refused = json.loads(last)
         return functions, refused, log.read_text(encoding="utf-8").count("//! Laws.") if log.exists() else 0
 
     def test_edits(self) -> None:
         with tempfile.TemporaryDirectory() as folder:
             write_repository(folder)
-            functions, refused, checks = self.tried(folder, *EDITS)
+            functions, refused, checks = self.tried(folder, *(it for it in EDITS if it != "broken"))
             after = Path(folder, "copy/crates/a/src/code.rt").read_text(encoding="utf-8")
             alone = self.tried(folder, "low", "constant")
             harmless = self.tried(folder, "low", "harmless")
@@ -142,3 +194,12 @@ class Together(Case):
         self.expect("the copy is as before", after, CODE)
         self.expect("one alone is not tried", alone[1:], ({}, 0))
         self.expect("one that is proved", harmless[1:], ({"low": "src/code.rt"}, 1))
+
+    def test_what_does_not_compile(self) -> None:
+        """Nothing is known of the others, and why is said."""
+        with tempfile.TemporaryDirectory() as folder:
+            write_repository(folder)
+            found = self.tried(folder, "low", "broken")[1:]
+        self.expect("nothing is refused by one check", found, ({}, 1))
+        reason = "src/code.rt:22:1: error: an expression is missing"
+        self.expect("why", self.said, f"a: not checked: {reason}\na: 0 of 2 edits refused together")
