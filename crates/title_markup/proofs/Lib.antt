@@ -6,6 +6,7 @@ pub mod Shortening
 pub mod Settling
 pub mod Reading
 pub mod Appending
+pub mod LastBrackets
 pub mod TagsGo
 pub mod ReferencesRead
 pub mod Words

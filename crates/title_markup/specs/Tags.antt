@@ -1,7 +1,8 @@
 -- Tags (HTML Living Standard, section 13.1.2; NISO JATS and MathML write them so too).
-use Rattle.std.specs.Prelude.{ℕ, ◌+◌, ◌==◌, ◌||◌, ◌&&◌, not, nat_le, Bool, false, [], ◌∷◌, ◌++◌, length, drop, Option, Some, None, if◌then◌else◌}
+use Rattle.std.specs.Prelude.{ℕ, ◌+◌, ◌-◌, ◌==◌, ◌||◌, ◌&&◌, not, nat_le, Bool, false, [], ◌∷◌, ◌++◌, length, take, drop}
+use Rattle.std.specs.Prelude.{Option, Some, None, if◌then◌else◌}
 use Rattle.std.specs.Char.{is_ascii_alphabetic, is_ascii_alphanumeric}
-use Rattle.std.specs.List.{list_any, prefix_len}
+use Rattle.std.specs.List.{list_any, prefix_len, suffix_len}
 use Rattle.std.specs.Option.{option_and_then}
 use Rattle.text_model.specs.Texts.{Text}
 use Rattle.title_markup.specs.Endings.{opening, closing, is_closing, last_byte, last_bytes, from_last, has}
@@ -56,6 +57,22 @@ tag_of t = if is_tag t then Some (length t) else None
 -- how many bytes the tag has with which a text ends
 unfoldable pub tag_length : Text → Option ℕ
 tag_length t = if last_byte t == closing then option_and_then tag_of (from_last opening (last_bytes 224 t)) else None
+
+-- in a text that ends with `>`, a tag at its end begins with the last bracket before that
+abbrev pub is_bracket : ℕ → Bool
+is_bracket b = b == opening || b == closing
+
+-- the text without its last byte
+abbrev pub unended : Text → Text
+unended t = take (length t - 1) t
+
+-- how many bytes are after the last bracket
+abbrev pub inner_length : Text → ℕ
+inner_length t = suffix_len (λ b. not (is_bracket b)) t
+
+-- from the last bracket before the last byte on; without one, all
+abbrev pub from_bracket : Text → Text
+from_bracket t = drop (length (unended t) - inner_length (unended t) - 1) t
 
 -- ---- for laws
 

@@ -5,7 +5,7 @@ ghost use Rattle.std.specs.List.{prefix_len};
 ghost use Rattle.title_markup.specs.Endings.{closing};
 ghost use Rattle.title_markup.specs.Tags as spec;
 
-use crate::endings::{from_last, last_byte, last_bytes};
+use crate::endings::{last_byte, last_bytes};
 
 /// How many bytes a name has at most.
 const MOST_BYTES_OF_NAME: usize = 20;
@@ -118,7 +118,42 @@ fn is_tag(text: &[u8]) -> bool
     }
 }
 
+fn is_bracket(byte: u8) -> bool
+    ensures { result ≡ spec.is_bracket byte }
+{
+    byte == b'<' || byte == b'>'
+}
+
+/// How many bytes are after the last bracket.
+fn inner_len(text: &[u8]) -> usize
+    ensures value { result ≡ spec.inner_length text.now }
+    ensures within { result ≤ length text.now }
+{
+    text.iter()
+        .rev()
+        .take_while(|byte| !is_bracket(**byte))
+        .count()
+}
+
+/// The text without its last byte.
+fn unended(text: &[u8]) -> &[u8]
+    ensures { result.now ≡ spec.unended text.now }
+{
+    text.split_at(text.len().saturating_sub(1)).0
+}
+
+/// The text from the last bracket before its last byte on; without one, all of it.
+fn from_bracket(text: &[u8]) -> &[u8]
+    ensures { result.now ≡ spec.from_bracket text.now }
+{
+    let front = unended(text);
+    let before = front.len() - inner_len(front);
+    text.split_at(before.saturating_sub(1)).1
+}
+
 /// How many bytes the tag has with which a text ends.
+///
+/// It looks no further back than to the last bracket before, so a text is read in time linear in its bytes.
 #[tactic(auto, unfolding(crate::specs::Tags::tag_length))]
 pub(crate) fn tag_len(text: &[u8]) -> Option<usize>
     ensures { result ≡ spec.tag_length text.now }
@@ -126,6 +161,6 @@ pub(crate) fn tag_len(text: &[u8]) -> Option<usize>
     if last_byte(text) != b'>' {
         return None;
     }
-    let tag = from_last(b'<', last_bytes(MOST_BYTES, text))?;
+    let tag = from_bracket(last_bytes(MOST_BYTES, text));
     if is_tag(tag) { Some(tag.len()) } else { None }
 }
