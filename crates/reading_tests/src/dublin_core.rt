@@ -49,7 +49,7 @@ const FORMATS: [Case; 9] = [
     ),
 ];
 
-const ELEMENTS: [Case; 21] = [
+const ELEMENTS: [Case; 23] = [
     (
         "rft.source=Tides+2012;12(3):45-67&rft.title=Silt",
         &[
@@ -67,6 +67,24 @@ const ELEMENTS: [Case; 21] = [
             ("rft.jtitle", "Tides"),
             ("rft.volume", "13"),
             ("rft.issue", "3"),
+        ],
+    ),
+    (
+        "rft.source=vol.+12,+no.+3,+pp.+45-67&rft.source=Tides,+vol.+12&rft.source=Coasts",
+        &[
+            ("rft.jtitle", "Tides"),
+            ("rft.volume", "12"),
+            ("rft.issue", "3"),
+            ("rft.pages", "45-67"),
+        ],
+    ),
+    (
+        "rft.source=Tides%3B+Vol.+12+No.+3+(2012):+Silt%3B+45-67",
+        &[
+            ("rft.jtitle", "Tides"),
+            ("rft.issue", "3"),
+            ("rft.pages", "45-67"),
+            ("rft.date", "2012"),
         ],
     ),
     (

@@ -25,6 +25,8 @@ mod latex;
 #[cfg(test)]
 mod markup;
 #[cfg(test)]
+mod mentions;
+#[cfg(test)]
 mod pages;
 #[cfg(test)]
 mod queries;

@@ -5,6 +5,7 @@ pub mod EndSteps
 pub mod Finding
 pub mod FormLaws
 pub mod FoundAgain
+pub mod MentionParts
 pub mod NumberLaws
 pub mod Parts
 pub mod PreprintForms

@@ -25,7 +25,7 @@ use Rattle.work_identifiers.proofs.FormLaws.{at_is}
 unfoldable pub IsRest : Text → Text → Type 0
 IsRest text rest = (start : ℕ) × (rest ≡ drop start text)
 
-drop_twice : (text : Text) (a b : ℕ) → drop b (drop a text) ≡ drop (a + b) text
+pub drop_twice : (text : Text) (a b : ℕ) → drop b (drop a text) ≡ drop (a + b) text
 drop_twice text a b = drop-drop b a text
 
 pub rest_of_rest : (text rest : Text) (n : ℕ) → IsRest text rest → IsRest text (drop n rest)
@@ -54,7 +54,7 @@ after_is text t beginning rest is h = by_test (begins_in_any_case t beginning) h
     by_test true e = let same : from_start (drop (length beginning) t) ≡ rest = cc in subst (IsRest text) same all
     by_test false e = cc
 
-none_are : (P : Text → Type 0) → All P []
+pub none_are : (P : Text → Type 0) → All P []
 none_are P = λ k d h. absurd (omega arith)
 
 one_none : (find : Text → Option Text) (t : Text) (ts : List Text) → find t ≡ None → filter_map find (t ∷ ts) ≡ filter_map find ts

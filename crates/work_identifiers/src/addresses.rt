@@ -134,7 +134,7 @@ fn begins_with_view(text: &[u8]) -> bool
 }
 
 /// Whether a word is one of these, in capital or small letters.
-fn is_one_of(words: &[&str], word: &[u8]) -> bool
+pub(crate) fn is_one_of(words: &[&str], word: &[u8]) -> bool
     ensures { result ≡ spec.is_one_of (texts_of words.now) word.now }
 {
     words

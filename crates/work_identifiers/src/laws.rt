@@ -1,9 +1,10 @@
 //! What follows from the definitions. These functions have empty bodies; each contract is a theorem.
 
-ghost use Rattle.std.specs.Prelude.{◌≡◌, ◌≢◌, ◌≤◌, ◌++◌, Some, None, true, false, length};
+ghost use Rattle.std.specs.Prelude.{◌≡◌, ◌≢◌, ◌<◌, ◌≤◌, ◌++◌, Some, None, true, false, length};
 ghost use Rattle.text_model.specs.Texts.{Text};
 ghost use Rattle.work_identifiers.specs.declared.namespace.Namespace.{Namespace};
 ghost use Rattle.work_identifiers.specs.Forms.{IsIdentifier};
+ghost use Rattle.work_identifiers.specs.Mentions.{digits_of, fewest_digits, is_notice, mention_in};
 ghost use Rattle.work_identifiers.specs.Places.{IsPartOf, identifier_alone, identifier_in};
 ghost use Rattle.work_identifiers.specs.Uris.{arxiv_doi, arxiv_start, canonical, longest_uri};
 ghost use Rattle.work_identifiers.specs.Uris.{registered, uri_of, uri_start};
@@ -21,6 +22,8 @@ pub fn identifiers_are_identifiers()
         → IsIdentifier namespace identifier }
     ensures alone { (namespace : Namespace) (text identifier : Text)
         → identifier_alone namespace text ≡ Some identifier → IsIdentifier namespace identifier }
+    ensures mentioned { (namespace : Namespace) (text identifier : Text)
+        → mention_in namespace text ≡ Some identifier → IsIdentifier namespace identifier }
 {}
 
 /// What is found is a part of the text: no byte of it is invented.
@@ -29,6 +32,15 @@ pub fn identifiers_are_parts()
         → IsPartOf text identifier }
     ensures alone { (namespace : Namespace) (text identifier : Text)
         → identifier_alone namespace text ≡ Some identifier → IsPartOf text identifier }
+    ensures mentioned { (namespace : Namespace) (text identifier : Text)
+        → mention_in namespace text ≡ Some identifier → IsPartOf text identifier }
+{}
+
+/// A title with fewer than five digits mentions no identifier, and that of a notice none either.
+pub fn titles_mention_few()
+    ensures digits { (namespace : Namespace) (text : Text) → digits_of text < fewest_digits
+        → mention_in namespace text ≡ None }
+    ensures notices { (namespace : Namespace) (text : Text) → is_notice text ≡ true → mention_in namespace text ≡ None }
 {}
 
 /// The URI of an identifier has it, in the form that it has there, and an identifier alone is itself. So what was found

@@ -8,8 +8,8 @@
 //!
 //! A text has an identifier if it has nothing else but a word or two that say what it is, the address of its resolver,
 //! and what sources write around it: spaces, quotes, brackets and punctuation. The address of a publisher's page may
-//! have a DOI anywhere: `doi_in_address` finds it. Whether a text is an ISSN or an ISBN, `is_number_named` and
-//! `is_number_alone` tell.
+//! have a DOI anywhere: `doi_in_address` finds it. A title may mention an identifier among its words: `mention_in`
+//! finds the first one. Whether a text is an ISSN or an ISBN, `is_number_named` and `is_number_alone` tell.
 //!
 //! Differences from the standards and from what sources send:
 //!
@@ -25,6 +25,8 @@
 //! - The DOI of an identifier of arXiv has both: a DOI, and that identifier.
 //! - A closing bracket at the end of an identifier is a part of it if its opening one is. Other punctuation there is
 //!   none, though a DOI may end with it.
+//! - Among the words of a title an identifier has at least five digits, since `PMC 7` or `PubMed 2005` may be something
+//!   else there; before it is a space, and after it a space or punctuation.
 //! - Percent-encoding is not decoded, and spaces and quotes beyond ASCII are parts of a text like any others.
 #![tactic(auto)]
 
@@ -33,6 +35,7 @@ mod arxiv;
 mod ends;
 mod forms;
 pub mod laws;
+mod mentions;
 mod namespace;
 mod numbers;
 mod places;
@@ -41,6 +44,7 @@ mod segments;
 mod uris;
 
 pub use addresses::doi_in_address;
+pub use mentions::mention_in;
 pub use namespace::Namespace;
 pub use numbers::{StandardNumber, is_number_alone, is_number_named};
 pub use places::{identifier_alone, identifier_in};

@@ -1,3 +1,4 @@
+use Rattle.work_identifiers.proofs.MentionParts.{mention_is}
 use Rattle.work_identifiers.proofs.Parts.{named_is, alone_is}
 use Rattle.work_identifiers.proofs.laws.identifiers_are_identifiers.Goals as goal
 
@@ -6,3 +7,6 @@ returns-clause-named c = named_is
 
 pub returns-clause-alone : goal.returns-clause-alone
 returns-clause-alone c = alone_is
+
+pub returns-clause-mentioned : goal.returns-clause-mentioned
+returns-clause-mentioned c = mention_is
