@@ -9,7 +9,7 @@ use Rattle.std.proofs.lemmas.Option.{same_Some}
 use Rattle.text_model.specs.Texts.{Text}
 use Rattle.journal_references.specs.declared.pieces.Piece.TheVariants.{Volume, Plain, Issue, PlainIssue, Inner, Pages, Year, Days}
 use Rattle.journal_references.specs.declared.parts.Part.{Part}
-use Rattle.journal_references.specs.declared.parts.Part.TheVariants.{Sign, Mark, Closing, Month, Date, NoDay, Needed, Maybe, Read}
+use Rattle.journal_references.specs.declared.parts.Part.TheVariants.{Sign, Mark, Closing, Title, Month, Date, NoDay, Needed, Maybe, Read}
 use Rattle.journal_references.specs.declared.groups.Group.{Group}
 use Rattle.journal_references.specs.Pieces.{last}
 use Rattle.journal_references.specs.Parts.{Match, unread, with_part}
@@ -141,6 +141,7 @@ with_volume : (part : Part) (taken rest : Text) (m : Match) → (has_volume m ||
 with_volume (Sign sign) taken rest m h = same _ h
 with_volume Mark taken rest m h = same _ h
 with_volume Closing taken rest m h = same _ h
+with_volume Title taken rest m h = same _ h
 with_volume Month taken rest m h = same _ h
 with_volume Date taken rest m h = same _ h
 with_volume NoDay taken rest m h = same _ h
@@ -164,6 +165,7 @@ with_place : (part : Part) (taken rest : Text) (m : Match) → (has_place m || r
 with_place (Sign sign) taken rest m h = same _ h
 with_place Mark taken rest m h = same _ h
 with_place Closing taken rest m h = same _ h
+with_place Title taken rest m h = same _ h
 with_place Month taken rest m h = same _ h
 with_place Date taken rest m h = same _ h
 with_place NoDay taken rest m h = same _ h

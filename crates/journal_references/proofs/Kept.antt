@@ -12,7 +12,7 @@ use Rattle.text_model.specs.Texts.{Text}
 use Rattle.journal_references.specs.declared.pieces.Piece.{Piece}
 use Rattle.journal_references.specs.declared.pieces.Piece.TheVariants.{Volume, Plain, Issue, PlainIssue, Inner, Pages, Year, Days}
 use Rattle.journal_references.specs.declared.parts.Part.{Part}
-use Rattle.journal_references.specs.declared.parts.Part.TheVariants.{Sign, Mark, Closing, Month, Date, NoDay, Needed, Maybe, Read}
+use Rattle.journal_references.specs.declared.parts.Part.TheVariants.{Sign, Mark, Closing, Title, Month, Date, NoDay, Needed, Maybe, Read}
 use Rattle.journal_references.specs.declared.groups.Group.{Group}
 use Rattle.journal_references.specs.Pieces.{piece_length}
 use Rattle.journal_references.specs.Parts.{Match, part_length, with_piece, with_part, match_part, match_parts}
@@ -94,6 +94,7 @@ taken_fine : (part : Part) (text : Text) (m : Match) (n : ℕ) → part_length p
 taken_fine (Sign sign) text m n h is = rest_fine text m n is
 taken_fine Mark text m n h is = rest_fine text m n is
 taken_fine Closing text m n h is = rest_fine text m n is
+taken_fine Title text m n h is = rest_fine text m n is
 taken_fine Month text m n h is = rest_fine text m n is
 taken_fine Date text m n h is = rest_fine text m n is
 taken_fine NoDay text m n h is = rest_fine text m n is

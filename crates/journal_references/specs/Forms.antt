@@ -6,12 +6,12 @@ use Rattle.text_model.specs.Texts.{Text}
 use Rattle.journal_references.specs.declared.words.Word.TheVariants.{OfVolume, OfIssue, OfPages}
 use Rattle.journal_references.specs.declared.pieces.Piece.TheVariants.{Volume, Plain, Issue, PlainIssue, Inner, Pages, Year, Days}
 use Rattle.journal_references.specs.declared.parts.Part.{Part}
-use Rattle.journal_references.specs.declared.parts.Part.TheVariants.{Sign, Mark, Closing, Month, Date, NoDay, Needed, Maybe, Read}
+use Rattle.journal_references.specs.declared.parts.Part.TheVariants.{Sign, Mark, Closing, Title, Month, Date, NoDay, Needed, Maybe, Read}
 use Rattle.journal_references.specs.declared.groups.Group.{Group}
 use Rattle.journal_references.specs.declared.groups.Group.TheVariants.{AnyVolume, NamedVolume, PlainVolume}
 use Rattle.journal_references.specs.declared.groups.Group.TheVariants.{InBrackets, NamedIssue, CommaIssue, PointIssue}
 use Rattle.journal_references.specs.declared.groups.Group.TheVariants.{YearInBrackets, YearAfterComma, YearAndDays, YearAndComma, YearAndMark}
-use Rattle.journal_references.specs.declared.groups.Group.TheVariants.{AnyPages, NamedPages, CommaPages, ColonPages}
+use Rattle.journal_references.specs.declared.groups.Group.TheVariants.{AnyPages, NamedPages, CommaPages, ColonPages, PagesAfterTitle}
 use Rattle.journal_references.specs.Parts.{Match, unread, match_parts}
 
 abbrev pub comma : ℕ
@@ -40,6 +40,7 @@ parts AnyPages = Mark ∷ NoDay ∷ Maybe OfPages ∷ Maybe OfIssue ∷ Read Pag
 parts NamedPages = Mark ∷ Needed OfPages ∷ Maybe OfIssue ∷ Read Pages ∷ []
 parts CommaPages = Sign comma ∷ NoDay ∷ Maybe OfPages ∷ Read Pages ∷ []
 parts ColonPages = Sign 0x3a ∷ Maybe OfPages ∷ Read Pages ∷ []
+parts PagesAfterTitle = Sign 0x3a ∷ Title ∷ Sign 0x3b ∷ NoDay ∷ Maybe OfPages ∷ Read Pages ∷ []
 
 -- of the forms with which a text begins, the first one in this list counts
 abbrev pub forms : List (List Group)
@@ -58,9 +59,11 @@ forms =
     (AnyVolume ∷ YearInBrackets ∷ NamedIssue ∷ AnyPages ∷ []) ∷
     (AnyVolume ∷ YearInBrackets ∷ NamedIssue ∷ []) ∷
     (AnyVolume ∷ YearInBrackets ∷ AnyPages ∷ []) ∷
-    -- 12, no. 3 (2012): 45-67 · vol. 12, no. 3, 2012, pp. 45-67 · vol. 12, no. 3 (2012) · vol. 12, no. 3, 2012
+    -- 12, no. 3 (2012): 45-67 · vol. 12, no. 3, 2012, pp. 45-67 · Vol. 12 No. 3 (2012): Silt; 45-67 · vol. 12, no. 3 (2012) ·
+    -- vol. 12, no. 3, 2012
     (AnyVolume ∷ NamedIssue ∷ YearInBrackets ∷ AnyPages ∷ []) ∷
     (AnyVolume ∷ NamedIssue ∷ YearAfterComma ∷ AnyPages ∷ []) ∷
+    (AnyVolume ∷ NamedIssue ∷ YearInBrackets ∷ PagesAfterTitle ∷ []) ∷
     (AnyVolume ∷ NamedIssue ∷ YearInBrackets ∷ []) ∷
     (AnyVolume ∷ NamedIssue ∷ YearAfterComma ∷ []) ∷
     -- vol. 12, no. 3, pp. 45-67 (2012) · vol. 12, no. 3, pp. 45-67, Mar. 2012 · Vol. 12, No. 3, pp. 45-67 · vol. 12, no. 3

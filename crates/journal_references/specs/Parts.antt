@@ -1,6 +1,6 @@
 -- The parts of forms, and what of a text matches them. As in parsing expression grammars, each part takes what it can,
 -- and a part that may be missing is taken if the text has it.
-use Rattle.std.specs.Prelude.{ℕ, ◌+◌, ◌==◌, ◌||◌, Bool, List, [], ◌∷◌}
+use Rattle.std.specs.Prelude.{ℕ, ◌+◌, ◌==◌, ◌||◌, Bool, not, List, [], ◌∷◌}
 use Rattle.std.specs.Prelude.{take, drop, Option, Some, None, unwrap_or, if◌then◌else◌}
 use Rattle.std.specs.List.{prefix_len}
 use Rattle.std.specs.Option.{option_and_then, option_copied, option_map}
@@ -8,7 +8,7 @@ use Rattle.text_model.specs.Texts.{Text}
 use Rattle.journal_references.specs.declared.pieces.Piece.{Piece}
 use Rattle.journal_references.specs.declared.pieces.Piece.TheVariants.{Volume, Plain, Issue, PlainIssue, Inner, Pages, Year, Days}
 use Rattle.journal_references.specs.declared.parts.Part.{Part}
-use Rattle.journal_references.specs.declared.parts.Part.TheVariants.{Sign, Mark, Closing, Month, Date, NoDay, Needed, Maybe, Read}
+use Rattle.journal_references.specs.declared.parts.Part.TheVariants.{Sign, Mark, Closing, Title, Month, Date, NoDay, Needed, Maybe, Read}
 use Rattle.journal_references.specs.declared.matches.Match as code
 use Rattle.journal_references.specs.Words.{word_length}
 use Rattle.journal_references.specs.Dates.{date_length, begins_with_day, month_length}
@@ -47,10 +47,18 @@ abbrev pub closing_length : Text → ℕ
 closing_length [] = 0
 closing_length (b ∷ t) = if b == 0x29 then 1 else 0
 
+-- a byte of the title of an issue, which ends before `;`
+abbrev pub is_title_byte : ℕ → Bool
+is_title_byte b = not (b == 0x3b)
+
+abbrev pub title_length : Text → ℕ
+title_length t = prefix_len is_title_byte t
+
 abbrev pub part_length : Part → Text → Option ℕ
 part_length (Sign sign) t = sign_length sign t
 part_length Mark t = Some (mark_length t)
 part_length Closing t = Some (closing_length t)
+part_length Title t = Some (title_length t)
 part_length Month t = Some (month_length t)
 part_length Date t = Some (date_length t)
 part_length NoDay t = if begins_with_day t then None else Some 0

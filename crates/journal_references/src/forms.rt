@@ -25,6 +25,7 @@ fn forms() -> &'static [&'static [Group]]
         &[AnyVolume, YearInBrackets, AnyPages],
         &[AnyVolume, NamedIssue, YearInBrackets, AnyPages],
         &[AnyVolume, NamedIssue, YearAfterComma, AnyPages],
+        &[AnyVolume, NamedIssue, YearInBrackets, PagesAfterTitle],
         &[AnyVolume, NamedIssue, YearInBrackets],
         &[AnyVolume, NamedIssue, YearAfterComma],
         &[AnyVolume, NamedIssue, AnyPages, YearInBrackets],

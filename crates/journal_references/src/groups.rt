@@ -3,7 +3,9 @@
 ghost use Rattle.std.specs.Prelude.{◌≡◌};
 ghost use Rattle.journal_references.specs.Forms as spec;
 
-use crate::parts::Part::{self, Closing, Date, Mark, Maybe, Month, Needed, NoDay, Read, Sign};
+use crate::parts::Part::{
+    self, Closing, Date, Mark, Maybe, Month, Needed, NoDay, Read, Sign, Title,
+};
 use crate::pieces::Piece::{Days, Inner, Issue, Pages, Plain, PlainIssue, Volume, Year};
 use crate::words::Word::{OfIssue, OfPages, OfVolume};
 
@@ -42,6 +44,8 @@ pub(crate) enum Group {
     CommaPages,
     /// `:45-67`.
     ColonPages,
+    /// `: Silt; 45-67`, after the title of an issue.
+    PagesAfterTitle,
 }
 
 impl Group {
@@ -65,6 +69,16 @@ impl Group {
             Group::NamedPages => &[Mark, Needed(OfPages), Maybe(OfIssue), Read(Pages)],
             Group::CommaPages => &[Sign(b','), NoDay, Maybe(OfPages), Read(Pages)],
             Group::ColonPages => &[Sign(b':'), Maybe(OfPages), Read(Pages)],
+            Group::PagesAfterTitle => {
+                &[
+                    Sign(b':'),
+                    Title,
+                    Sign(b';'),
+                    NoDay,
+                    Maybe(OfPages),
+                    Read(Pages),
+                ]
+            }
         }
     }
 }

@@ -17,6 +17,8 @@ pub(crate) enum Part {
     Mark,
     /// A closing bracket, or nothing.
     Closing,
+    /// The title of an issue, before `;`.
+    Title,
     /// The name of a month or a season, maybe with a day, or nothing.
     Month,
     /// The English name of a month, maybe with a day, or nothing.
@@ -88,6 +90,7 @@ pub(crate) fn part_length(part: Part, text: &[u8]) -> Option<usize>
         Part::Sign(sign) => sign_length(sign, text),
         Part::Mark => Some(mark_length(text)),
         Part::Closing => Some(closing_length(text)),
+        Part::Title => Some(run(Class::TitleByte, text)),
         Part::Month => Some(month_length(text)),
         Part::Date => Some(date_length(text)),
         Part::NoDay if begins_with_day(text) => None,

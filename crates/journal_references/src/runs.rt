@@ -12,6 +12,8 @@ pub(crate) enum Class {
     Digit,
     Letter,
     Space,
+    /// Of the title of an issue.
+    TitleByte,
     /// Between a word and what is next to it.
     WordGap,
     /// Between a day and the month after it.
@@ -33,6 +35,7 @@ impl Class {
             Class::Digit => byte.is_ascii_digit(),
             Class::Letter => byte.is_ascii_alphabetic(),
             Class::Space => byte == b' ',
+            Class::TitleByte => byte != b';',
             Class::WordGap => byte == b' ' || byte == b'.' || byte == b':',
             Class::DayGap => byte == b' ' || byte == b'.',
             Class::MonthGap => byte == b' ' || byte == b'.' || byte == b',',
