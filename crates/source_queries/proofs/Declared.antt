@@ -1,5 +1,5 @@
 -- A form whose pairs are UTF-8 declares no other encoding.
-use Rattle.std.proofs.Common.{◌≡◌, ℕ, ◌-◌, ◌<◌, Bool, true, false, cond, ◌||◌, List, [], ◌∷◌, ◌++◌, length, drop, refl, sym, ap, subst, ◌∙◌}
+use Rattle.std.proofs.Common.{◌≡◌, ℕ, ◌-◌, ◌<◌, Bool, true, false, cond, ◌||◌, List, [], ◌∷◌, ◌++◌, map, length, drop, Some, refl, sym, ap, subst, ◌∙◌}
 use Rattle.std.proofs.Common.{arith, append_assoc, append-nil, length-append, ⊎_elim}
 use Rattle.std.specs.Prelude.{◌==◌, codes, nat_eq}
 use Rattle.std.specs.Cmp.Lexicographic.{pointwise}
@@ -8,20 +8,16 @@ use Rattle.std.proofs.lemmas.Bool.{cond-true, lt-ltb, ne_eqb}
 use Rattle.std.proofs.lemmas.Bool.Decides.{nat_tests}
 use Rattle.percent_encoding.specs.Percent.{percent_encode_byte}
 use Rattle.std.proofs.lemmas.List.{drop_all, drop-append-le, map-append}
-use Rattle.std.proofs.lemmas.List.Elements.{All-nil, All-cons, All-head, All-tail, All-append, All-weaker}
+use Rattle.std.proofs.lemmas.List.Elements.{All-nil, All-cons, All-append, All-weaker}
 use Rattle.std.proofs.lemmas.List.Splits.{slice_split_none, slice_split_at}
 use Rattle.form_urlencoded.specs.Form as form
 use Rattle.form_urlencoded.proofs.FormLemmas.{IsSerializedByte, All-byte_serialize}
 use Rattle.text_model.specs.Texts.{Text}
-use Rattle.request_encodings.specs.declared.encoding.Encoding.{Encoding}
 use Rattle.request_encodings.specs.declared.encoding.Encoding.TheVariants.{Utf8}
 use Rattle.request_encodings.specs.Declarations.{ends_so, first_named, byte_encodings, encoding_named, plain_byte, plain}
 use Rattle.request_encodings.specs.Declarations.{is_declaration, declared_by, declared_in}
-use Rattle.source_queries.specs.Utf8.{utf8_uri, IsUtf8Pair}
-use Rattle.source_queries.proofs.Keys.{key_of_declaration}
-
-abbrev DeclaresNoOther : Text → Type 0
-DeclaresNoOther part = is_declaration part ≡ true → encoding_named (plain part) ≡ Utf8
+use Rattle.source_queries.specs.Utf8.{is_encoding_key, utf8_uri, first_declared, DeclareNoOther}
+use Rattle.source_queries.proofs.Keys.{key_of_declaration, declaration_of_key}
 
 -- ---- the URI of UTF-8 names UTF-8
 
@@ -54,11 +50,21 @@ uri_named x =
 pair_as_rest : (pair : Text × Text) → form.serialize_pair pair ≡ form.byte_serialize pair.0 ++ 61 ∷ form.byte_serialize pair.1
 pair_as_rest pair = append_assoc (form.byte_serialize pair.0) (61 ∷ []) (form.byte_serialize pair.1)
 
-no_other : (pair : Text × Text) → IsUtf8Pair pair → DeclaresNoOther (form.serialize_pair pair)
-no_other pair fine h =
-    let key = key_of_declaration pair.0 (form.byte_serialize pair.1) (subst (λ t. is_declaration t ≡ true) (pair_as_rest pair) h) in
-    ap (λ v. encoding_named (plain ((form.byte_serialize pair.0 ++ 61 ∷ []) ++ form.byte_serialize v))) (fine.declared key)
-    ∙ uri_named (form.byte_serialize pair.0 ++ 61 ∷ [])
+declaration_is_key : (pair : Text × Text) → is_declaration (form.serialize_pair pair) ≡ is_encoding_key pair.0
+declaration_is_key pair = by_test (is_encoding_key pair.0) refl (is_declaration (form.serialize_pair pair)) refl
+  where
+    by_test : (b : Bool) → is_encoding_key pair.0 ≡ b → (d : Bool) → is_declaration (form.serialize_pair pair) ≡ d → d ≡ b
+    by_test true e true g = refl
+    by_test false e false g = refl
+    by_test true e false g =
+        let is : is_declaration (form.serialize_pair pair) ≡ true =
+        ap is_declaration (pair_as_rest pair) ∙ declaration_of_key pair.0 (form.byte_serialize pair.1) e in
+        cc
+    by_test false e true g =
+        let key = key_of_declaration pair.0 (form.byte_serialize pair.1) (subst (λ t. is_declaration t ≡ true) (pair_as_rest pair) g) in cc
+
+utf8_named : (name : Text) → encoding_named (plain (form.serialize_pair (name, utf8_uri))) ≡ Utf8
+utf8_named name = uri_named (form.byte_serialize name ++ 61 ∷ [])
 
 -- ---- the parts of a form
 
@@ -93,36 +99,36 @@ extended text (pair ∷ pairs) some =
 split_at_cut : Text → List Text
 split_at_cut t = slice_split (λ b. b == 0x26) t
 
-parts_declare : (pair : Text × Text) (pairs : List (Text × Text)) → IsUtf8Pair pair → All IsUtf8Pair pairs
-    → All DeclaresNoOther (split_at_cut (form.serialize_pair pair ++ later pairs))
+-- each pair is a part
+pair_parts : (pair : Text × Text) (pairs : List (Text × Text)) → split_at_cut (form.serialize_pair pair ++ later pairs)
+    ≡ map form.serialize_pair (pair ∷ pairs)
 unfolding later is_cut split_at_cut
-parts_declare pair [] fine all =
-    subst (All DeclaresNoOther)
-    (sym (ap split_at_cut (append-nil (form.serialize_pair pair)) ∙ slice_split_none is_cut (form.serialize_pair pair) (whole_pair pair)))
-    (All-cons DeclaresNoOther (form.serialize_pair pair) [] (no_other pair fine) (All-nil DeclaresNoOther))
-parts_declare pair (next ∷ pairs) fine all =
-    let rest : Text = form.serialize_pair next ++ later pairs in
-    subst (All DeclaresNoOther) (sym (slice_split_at is_cut (form.serialize_pair pair) 0x26 rest (whole_pair pair) refl))
-    (All-cons DeclaresNoOther (form.serialize_pair pair) (split_at_cut rest) (no_other pair fine)
-    (parts_declare next pairs (All-head IsUtf8Pair next pairs all) (All-tail IsUtf8Pair next pairs all)))
+pair_parts pair [] = ap split_at_cut (append-nil (form.serialize_pair pair)) ∙ slice_split_none is_cut (form.serialize_pair pair) (whole_pair pair)
+pair_parts pair (next ∷ pairs) =
+    slice_split_at is_cut (form.serialize_pair pair) 0x26 (form.serialize_pair next ++ later pairs) (whole_pair pair) refl
+    ∙ ap (λ parts. form.serialize_pair pair ∷ parts) (pair_parts next pairs)
+
+form_parts : (pair : Text × Text) (pairs : List (Text × Text)) → split_at_cut (form.extend_pairs [] (pair ∷ pairs))
+    ≡ map form.serialize_pair (pair ∷ pairs)
+form_parts pair pairs =
+    let some : 0 < length (form.serialize_pair pair) = simp length-append (omega arith) in
+    ap split_at_cut (extended (form.serialize_pair pair) pairs some) ∙ pair_parts pair pairs
 
 -- ---- a form
 
-cond_is : (b : Bool) (x y : Encoding) → (b ≡ true → x ≡ Utf8) → y ≡ Utf8 → cond b x y ≡ Utf8
-cond_is true x y h k = h refl
-cond_is false x y h k = k
+first_counts : (pairs : List (Text × Text)) → DeclareNoOther pairs → declared_by (map form.serialize_pair pairs) ≡ Utf8
+first_counts [] none = refl
+first_counts (pair ∷ pairs) none =
+    ap (λ b. cond b (encoding_named (plain (form.serialize_pair pair))) (declared_by (map form.serialize_pair pairs))) (declaration_is_key pair)
+    ∙ by_test (is_encoding_key pair.0) (first_counts pairs) none
+  where
+    by_test : (b : Bool) → (DeclareNoOther pairs → declared_by (map form.serialize_pair pairs) ≡ Utf8)
+        → ((value : Text) → cond b (Some pair.1) (first_declared pairs) ≡ Some value → value ≡ utf8_uri)
+        → cond b (encoding_named (plain (form.serialize_pair pair))) (declared_by (map form.serialize_pair pairs)) ≡ Utf8
+    by_test true later none = ap (λ value. encoding_named (plain (form.serialize_pair (pair.0, value)))) (none pair.1 refl) ∙ utf8_named pair.0
+    by_test false later none = later none
 
-none_declared : (parts : List Text) → All DeclaresNoOther parts → declared_by parts ≡ Utf8
-none_declared [] all = refl
-none_declared (part ∷ parts) all =
-    cond_is (is_declaration part) (encoding_named (plain part)) (declared_by parts) (All-head DeclaresNoOther part parts all)
-    (none_declared parts (All-tail DeclaresNoOther part parts all))
-
-pub form_declared : (pairs : List (Text × Text)) → All IsUtf8Pair pairs → declared_in (form.extend_pairs [] pairs) ≡ Utf8
+pub form_declared : (pairs : List (Text × Text)) → DeclareNoOther pairs → declared_in (form.extend_pairs [] pairs) ≡ Utf8
 unfolding split_at_cut
-form_declared [] all = refl
-form_declared (pair ∷ pairs) all =
-    let some : 0 < length (form.serialize_pair pair) = simp length-append (omega arith) in
-    none_declared (split_at_cut (form.extend_pairs (form.serialize_pair pair) pairs))
-    (subst (λ t. All DeclaresNoOther (split_at_cut t)) (sym (extended (form.serialize_pair pair) pairs some))
-    (parts_declare pair pairs (All-head IsUtf8Pair pair pairs all) (All-tail IsUtf8Pair pair pairs all)))
+form_declared [] none = refl
+form_declared (pair ∷ pairs) none = ap declared_by (form_parts pair pairs) ∙ first_counts (pair ∷ pairs) none

@@ -1,7 +1,7 @@
 -- Which names declare an encoding once they are written in a form.
-use Rattle.std.proofs.Common.{◌≡◌, ◌≢◌, ℕ, Bool, true, cond, not, ◌&&◌, [], ◌∷◌, ◌++◌, map, take, length, refl, sym, ap, subst, ◌∙◌}
+use Rattle.std.proofs.Common.{◌≡◌, ◌≢◌, ℕ, Bool, true, cond, not, ◌&&◌, ◌||◌, [], ◌∷◌, ◌++◌, map, take, length, refl, sym, ap, subst, ◌∙◌}
 use Rattle.std.proofs.Common.{arith, append_assoc}
-use Rattle.std.specs.Prelude.{◌==◌, codes}
+use Rattle.std.specs.Prelude.{◌==◌, codes, nat_le}
 use Rattle.std.specs.Char.{to_ascii_lowercase}
 use Rattle.std.specs.List.{All}
 use Rattle.std.specs.Str.{bytes_eq}
@@ -89,3 +89,38 @@ letters = All-weaker (λ c. is_letter c ≡ true) IsLetter letter_from (codes "c
 pub key_of_declaration : (name rest : Text) → is_declaration (form.byte_serialize name ++ 61 ∷ rest) ≡ true → is_encoding_key name ≡ true
 unfolding begins
 key_of_declaration name rest h = same_name (codes "ctx_enc") name rest letters h
+
+-- ---- a name that is so is written so
+
+-- `_`, or a small letter
+is_small : ℕ → Bool
+is_small c = c == 95 || nat_le 97 c && nat_le c 122
+
+-- in either case it is written as it is
+small_unchanged : (b c : ℕ) → is_small c ≡ true → (to_ascii_lowercase b == c) ≡ true → form.is_unchanged b ≡ true
+unfolding is_small
+small_unchanged b c small same = grind (arith, nat_tests)
+
+byte_written : (c : ℕ) (w : Text) (b : ℕ) (tail : Text) → form.is_unchanged b ≡ true → (to_ascii_lowercase b == c) ≡ true → begins tail w ≡ true
+    → begins (form.serialize_byte b ++ tail) (c ∷ w) ≡ true
+unfolding begins percent_encode_byte
+byte_written c w b tail unchanged same rest =
+    ap (λ x. begins (cond x (b ∷ []) (cond (b == form.space) (form.plus_sign ∷ []) (percent_encode_byte b)) ++ tail) (c ∷ w)) unchanged
+    ∙ ap (λ x. x && begins tail w) same ∙ rest
+
+name_written : (w name rest : Text) → All (λ c. is_small c ≡ true) w → bytes_eq (map to_ascii_lowercase name) w ≡ true
+    → begins (form.byte_serialize name ++ 61 ∷ rest) (w ++ 61 ∷ []) ≡ true
+unfolding begins
+name_written [] [] rest small h = ap (λ x. begins (x ++ 61 ∷ rest) (61 ∷ [])) byte_serialize-nil ∙ refl
+name_written [] (b ∷ t) rest small h = cc
+name_written (c ∷ w) [] rest small h = cc
+name_written (c ∷ w) (b ∷ t) rest small h =
+    let P : ℕ → Type 0 = λ c. is_small c ≡ true in
+    let both = and_parts _ _ h in
+    let unchanged = small_unchanged b c (All-head P c w small) both.0 in
+    subst (λ x. begins x (c ∷ (w ++ 61 ∷ [])) ≡ true) (sym (first_byte b t rest))
+    (byte_written c (w ++ 61 ∷ []) b (form.byte_serialize t ++ 61 ∷ rest) unchanged both.0 (name_written w t rest (All-tail P c w small) both.1))
+
+pub declaration_of_key : (name rest : Text) → is_encoding_key name ≡ true → is_declaration (form.byte_serialize name ++ 61 ∷ rest) ≡ true
+unfolding begins is_small
+declaration_of_key name rest h = name_written (codes "ctx_enc") name rest (AllPass-from_list_all is_small (codes "ctx_enc") refl) h

@@ -1,5 +1,5 @@
 -- What a query of a source has once it is UTF-8.
-use Rattle.std.proofs.Common.{◌≡◌, true, false, cond, ◌&&◌, List, [], ◌∷◌, map, length, refl, sym, ap, subst, ◌∙◌}
+use Rattle.std.proofs.Common.{◌≡◌, Bool, true, false, cond, ◌&&◌, List, [], ◌∷◌, map, length, Some, refl, sym, ap, subst, ◌∙◌}
 use Rattle.std.specs.List.{All, list_all}
 use Rattle.std.specs.Str.{IsUtf8, is_utf8, chars}
 use Rattle.std.specs.Str.Lossy.{utf8_lossy}
@@ -7,6 +7,7 @@ use lib.Utf8.{encode}
 use Rattle.std.proofs.lemmas.Bool.{and_parts, cond_both}
 use Rattle.std.proofs.lemmas.List.{length-map}
 use Rattle.std.proofs.lemmas.List.Elements.{All-nil, All-cons, All-head, All-tail, All-weaker}
+use Rattle.std.proofs.lemmas.Option.{same_Some}
 use Rattle.std.proofs.lemmas.Str.{IsUtf8-from_is_utf8, is_utf8-from_IsUtf8, utf8_lossy-IsUtf8}
 use Rattle.form_urlencoded.specs.Form as form
 use Rattle.form_urlencoded.proofs.FormLemmas.{IsBytePair, round_trip}
@@ -19,7 +20,7 @@ use Rattle.request_encodings.specs.declared.encoding.Encoding.TheVariants.{Utf8,
 use Rattle.request_encodings.specs.Declarations.{declared_in}
 use Rattle.request_encodings.specs.Texts.{text_in, value_in}
 use Rattle.source_queries.specs.Utf8.{is_utf8_pair, is_utf8_encoding, is_utf8_in, is_utf8_query, is_encoding_key, utf8_uri, value_for, pair_in}
-use Rattle.source_queries.specs.Utf8.{pairs_in, IsUtf8Pair, key_value, utf8_query, source_query}
+use Rattle.source_queries.specs.Utf8.{pairs_in, IsUtf8Pair, first_declared, DeclareNoOther, key_value, utf8_query, source_query}
 use Rattle.source_queries.proofs.Bytes.{utf8_bytes}
 use Rattle.source_queries.proofs.Declared.{form_declared}
 
@@ -47,21 +48,27 @@ value_utf8 texts encoding name value =
     cond_both (is_encoding_key name) utf8_uri (value_in encoding value) IsUtf8 (λ e. uri_utf8) (λ e. texts encoding (form.decode value))
 
 utf8_pair : TextsAreUtf8 → (encoding : Encoding) (pair : Text × Text) → IsUtf8Pair (pair_in encoding pair)
-utf8_pair texts encoding pair = record {
-  name = texts encoding (form.decode pair.0);
-  value = value_utf8 texts encoding (value_in encoding pair.0) pair.1;
-  declared = λ e. ap (λ b. cond b utf8_uri (value_in encoding pair.1)) e;
-}
+utf8_pair texts encoding pair = (texts encoding (form.decode pair.0), value_utf8 texts encoding (value_in encoding pair.0) pair.1)
 
 utf8_pairs : TextsAreUtf8 → (encoding : Encoding) (raw : List (Text × Text)) → All IsUtf8Pair (map (pair_in encoding) raw)
 utf8_pairs texts encoding [] = All-nil IsUtf8Pair
 utf8_pairs texts encoding (pair ∷ raw) =
     All-cons IsUtf8Pair (pair_in encoding pair) (map (pair_in encoding) raw) (utf8_pair texts encoding pair) (utf8_pairs texts encoding raw)
 
+none_declared : (encoding : Encoding) (raw : List (Text × Text)) → DeclareNoOther (map (pair_in encoding) raw)
+none_declared encoding [] value e = cc
+none_declared encoding (pair ∷ raw) value e = by_test (is_encoding_key (value_in encoding pair.0)) refl (none_declared encoding raw) e
+  where
+    by_test : (b : Bool) → is_encoding_key (value_in encoding pair.0) ≡ b → DeclareNoOther (map (pair_in encoding) raw)
+        → cond b (Some (value_for encoding (value_in encoding pair.0) pair.1)) (first_declared (map (pair_in encoding) raw)) ≡ Some value
+        → value ≡ utf8_uri
+    by_test true is later h = sym (same_Some _ value h) ∙ ap (λ b. cond b utf8_uri (value_in encoding pair.1)) is
+    by_test false is later h = later value h
+
 -- ---- forms of them
 
 byte_pair : (pair : Text × Text) → IsUtf8Pair pair → IsBytePair pair
-byte_pair pair is = (utf8_bytes pair.0 is.name, utf8_bytes pair.1 is.value)
+byte_pair pair is = (utf8_bytes pair.0 is.0, utf8_bytes pair.1 is.1)
 
 form_parsed : (pairs : List (Text × Text)) → All IsUtf8Pair pairs → form.parse (form.extend_pairs [] pairs) ≡ pairs
 form_parsed pairs all = round_trip pairs (All-weaker IsUtf8Pair IsBytePair byte_pair pairs all)
@@ -70,15 +77,15 @@ all_utf8 : (pairs : List (Text × Text)) → All IsUtf8Pair pairs → list_all i
 all_utf8 [] all = refl
 all_utf8 (pair ∷ pairs) all =
     let is : IsUtf8Pair pair = All-head IsUtf8Pair pair pairs all in
-    ap (λ b. b && is_utf8 pair.1 && list_all is_utf8_pair pairs) (is_utf8-from_IsUtf8 pair.0 is.name)
-    ∙ ap (λ b. b && list_all is_utf8_pair pairs) (is_utf8-from_IsUtf8 pair.1 is.value)
+    ap (λ b. b && is_utf8 pair.1 && list_all is_utf8_pair pairs) (is_utf8-from_IsUtf8 pair.0 is.0)
+    ∙ ap (λ b. b && list_all is_utf8_pair pairs) (is_utf8-from_IsUtf8 pair.1 is.1)
     ∙ all_utf8 pairs (All-tail IsUtf8Pair pair pairs all)
 
-form_utf8 : (pairs : List (Text × Text)) → All IsUtf8Pair pairs → is_utf8_query (form.extend_pairs [] pairs) ≡ true
+form_utf8 : (pairs : List (Text × Text)) → All IsUtf8Pair pairs → DeclareNoOther pairs → is_utf8_query (form.extend_pairs [] pairs) ≡ true
 unfolding is_utf8_in
-form_utf8 pairs all =
+form_utf8 pairs all none =
     let text : Text = form.extend_pairs [] pairs in
-    ap (λ e. is_utf8_encoding e && list_all is_utf8_pair (form.parse text)) (form_declared pairs all)
+    ap (λ e. is_utf8_encoding e && list_all is_utf8_pair (form.parse text)) (form_declared pairs none)
     ∙ ap (list_all is_utf8_pair) (form_parsed pairs all)
     ∙ all_utf8 pairs all
 
@@ -92,10 +99,10 @@ pub settled_stays : SettledStay → (query : Text) → IsSettled query → is_ut
 unfolding source_query
 settled_stays stay query settled is = ap utf8_query (stay query settled) ∙ utf8_same query is
 
-pub form_stays : FormsStay → (pairs : List (Text × Text)) → All IsUtf8Pair pairs
+pub form_stays : FormsStay → (pairs : List (Text × Text)) → All IsUtf8Pair pairs → DeclareNoOther pairs
     → source_query (form.extend_pairs [] pairs) ≡ form.extend_pairs [] pairs
 unfolding source_query
-form_stays stay pairs all = ap utf8_query (stay pairs) ∙ utf8_same (form.extend_pairs [] pairs) (form_utf8 pairs all)
+form_stays stay pairs all none = ap utf8_query (stay pairs) ∙ utf8_same (form.extend_pairs [] pairs) (form_utf8 pairs all none)
 
 -- ---- any query
 
@@ -104,7 +111,7 @@ unfolding source_query utf8_query
 source_utf8 texts query =
     let x : Text = repaired query in
     cond_both (is_utf8_query x) x (form.extend_pairs [] (pairs_in (declared_in x) x)) (λ t. is_utf8_query t ≡ true) (λ e. e)
-    (λ e. form_utf8 (pairs_in (declared_in x) x) (utf8_pairs texts (declared_in x) (form.raw_pairs x)))
+    (λ e. form_utf8 (pairs_in (declared_in x) x) (utf8_pairs texts (declared_in x) (form.raw_pairs x)) (none_declared (declared_in x) (form.raw_pairs x)))
 
 pub source_once : TextsAreUtf8 → FormsStay → RepairedStay → (query : Text) → source_query (source_query query) ≡ source_query query
 unfolding source_query utf8_query
@@ -112,7 +119,8 @@ source_once texts forms once query =
     let x : Text = repaired query in
     cond_both (is_utf8_query x) x (form.extend_pairs [] (pairs_in (declared_in x) x)) (λ t. source_query t ≡ t)
     (λ e. ap utf8_query (once query) ∙ utf8_same x e)
-    (λ e. form_stays forms (pairs_in (declared_in x) x) (utf8_pairs texts (declared_in x) (form.raw_pairs x)))
+    (λ e. form_stays forms (pairs_in (declared_in x) x) (utf8_pairs texts (declared_in x) (form.raw_pairs x))
+    (none_declared (declared_in x) (form.raw_pairs x)))
 
 -- ---- its texts
 
@@ -125,32 +133,31 @@ pub source_declared : TextsAreUtf8 → (query : Text) → declared_in (source_qu
 unfolding is_utf8_in
 source_declared texts query = declares_utf8 (declared_in (source_query query)) (and_parts _ _ (source_utf8 texts query)).0
 
-both_utf8 : (pairs : List (Text × Text)) → list_all is_utf8_pair pairs ≡ true → All (λ pair. IsUtf8 pair.0 × IsUtf8 pair.1) pairs
-both_utf8 [] h = All-nil (λ pair. IsUtf8 pair.0 × IsUtf8 pair.1)
+both_utf8 : (pairs : List (Text × Text)) → list_all is_utf8_pair pairs ≡ true → All IsUtf8Pair pairs
+both_utf8 [] h = All-nil IsUtf8Pair
 both_utf8 (pair ∷ pairs) h =
     let first = and_parts (is_utf8_pair pair) (list_all is_utf8_pair pairs) h in
     let texts = and_parts (is_utf8 pair.0) (is_utf8 pair.1) first.0 in
-    All-cons (λ pair. IsUtf8 pair.0 × IsUtf8 pair.1) pair pairs (IsUtf8-from_is_utf8 pair.0 texts.0, IsUtf8-from_is_utf8 pair.1 texts.1)
+    All-cons IsUtf8Pair pair pairs (IsUtf8-from_is_utf8 pair.0 texts.0, IsUtf8-from_is_utf8 pair.1 texts.1)
     (both_utf8 pairs first.1)
 
-pub source_texts : TextsAreUtf8 → (query : Text) → All (λ pair. IsUtf8 pair.0 × IsUtf8 pair.1) (form.parse (source_query query))
+pub source_texts : TextsAreUtf8 → (query : Text) → All IsUtf8Pair (form.parse (source_query query))
 unfolding is_utf8_in
 source_texts texts query = both_utf8 (form.parse (source_query query)) (and_parts _ _ (source_utf8 texts query)).1
 
 abbrev decode_pair : Text × Text → Text × Text
 decode_pair pair = (form.decode pair.0, form.decode pair.1)
 
-read_raw : (raw : List (Text × Text)) → All (λ pair. IsUtf8 pair.0 × IsUtf8 pair.1) (map decode_pair raw)
+read_raw : (raw : List (Text × Text)) → All IsUtf8Pair (map decode_pair raw)
     → map decoded_pair raw ≡ map key_value (map decode_pair raw)
 read_raw [] all = refl
 read_raw (pair ∷ raw) all =
-    let P : Text × Text → Type 0 = λ pair. IsUtf8 pair.0 × IsUtf8 pair.1 in
-    let first = All-head P (decode_pair pair) (map decode_pair raw) all in
+    let first = All-head IsUtf8Pair (decode_pair pair) (map decode_pair raw) all in
     let same : decoded_pair pair ≡ key_value (decode_pair pair) =
     ap (λ key. record { key = key; value = utf8_lossy (form.decode pair.1) }) (utf8_lossy-IsUtf8 (form.decode pair.0) first.0)
     ∙ ap (λ value. record { key = form.decode pair.0; value = value }) (utf8_lossy-IsUtf8 (form.decode pair.1) first.1) in
     ap (λ p. p ∷ map decoded_pair raw) same
-    ∙ ap (λ ps. key_value (decode_pair pair) ∷ ps) (read_raw raw (All-tail P (decode_pair pair) (map decode_pair raw) all))
+    ∙ ap (λ ps. key_value (decode_pair pair) ∷ ps) (read_raw raw (All-tail IsUtf8Pair (decode_pair pair) (map decode_pair raw) all))
 
 pub source_read : TextsAreUtf8 → (query : Text) → pairs_of (source_query query) ≡ map key_value (form.parse (source_query query))
 source_read texts query = read_raw (form.raw_pairs (source_query query)) (source_texts texts query)
@@ -180,13 +187,7 @@ source_number texts query =
 
 -- ---- a form that is read back
 
-both_bytes : (pair : Text × Text) → IsUtf8 pair.0 × IsUtf8 pair.1 → IsBytePair pair
-both_bytes pair is = (utf8_bytes pair.0 is.0, utf8_bytes pair.1 is.1)
-
-pub read_back : (pairs : List (Text × Text)) → All (λ pair. IsUtf8 pair.0 × IsUtf8 pair.1) pairs
-    → pairs_of (form.extend_pairs [] pairs) ≡ map key_value pairs
+pub read_back : (pairs : List (Text × Text)) → All IsUtf8Pair pairs → pairs_of (form.extend_pairs [] pairs) ≡ map key_value pairs
 read_back pairs all =
-    let P : Text × Text → Type 0 = λ pair. IsUtf8 pair.0 × IsUtf8 pair.1 in
-    let text : Text = form.extend_pairs [] pairs in
-    let parsed : form.parse text ≡ pairs = round_trip pairs (All-weaker P IsBytePair both_bytes pairs all) in
-    read_raw (form.raw_pairs text) (subst (All P) (sym parsed) all) ∙ ap (map key_value) parsed
+    let parsed = form_parsed pairs all in
+    read_raw (form.raw_pairs (form.extend_pairs [] pairs)) (subst (All IsUtf8Pair) (sym parsed) all) ∙ ap (map key_value) parsed

@@ -1,5 +1,5 @@
 -- Queries whose names and values are UTF-8.
-use Rattle.std.specs.Prelude.{◌≡◌, ◌&&◌, Bool, true, false, List, [], codes, map, if◌then◌else◌}
+use Rattle.std.specs.Prelude.{◌≡◌, ◌&&◌, Bool, true, false, List, [], ◌∷◌, codes, map, Option, Some, None, if◌then◌else◌}
 use Rattle.std.specs.List.{list_all}
 use Rattle.std.specs.Str.{IsUtf8, is_utf8, str_eq_ignore_ascii_case}
 use Rattle.form_urlencoded.specs.Form as form
@@ -48,11 +48,18 @@ pair_in encoding pair = (value_in encoding pair.0, value_for encoding (value_in 
 abbrev pub pairs_in : Encoding → Text → List (Text × Text)
 pairs_in encoding query = map (pair_in encoding) (form.raw_pairs query)
 
--- texts in UTF-8, of which none declares another encoding
-pub record IsUtf8Pair (pair : Text × Text) : Type 0 where
-  pub name : IsUtf8 pair.0
-  pub value : IsUtf8 pair.1
-  pub declared : is_encoding_key pair.0 ≡ true → pair.1 ≡ utf8_uri
+-- texts in UTF-8
+abbrev pub IsUtf8Pair : Text × Text → Type 0
+IsUtf8Pair pair = IsUtf8 pair.0 × IsUtf8 pair.1
+
+-- what pairs declare: the first one that declares an encoding counts
+abbrev pub first_declared : List (Text × Text) → Option Text
+first_declared [] = None
+first_declared (pair ∷ pairs) = if is_encoding_key pair.0 then Some pair.1 else first_declared pairs
+
+-- no encoding but UTF-8
+abbrev pub DeclareNoOther : List (Text × Text) → Type 0
+DeclareNoOther pairs = (value : Text) → first_declared pairs ≡ Some value → value ≡ utf8_uri
 
 -- as the pairs of a request are read
 abbrev pub key_value : Text × Text → KeyValue

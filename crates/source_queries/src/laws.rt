@@ -2,7 +2,6 @@
 //! contract is a theorem.
 
 ghost use Rattle.std.specs.Prelude.{◌≡◌, ◌≤◌, ◌+◌, ◌*◌, List, [], All, false, length, map, true};
-ghost use Rattle.std.specs.Str.{IsUtf8};
 ghost use Rattle.form_urlencoded.specs.Form as form;
 ghost use Rattle.text_model.specs.Texts.{Text};
 ghost use Rattle.kev_read.specs.Pairs.{pairs_of};
@@ -10,7 +9,8 @@ ghost use Rattle.query_repair.specs.Repair.{repaired};
 ghost use Rattle.query_repair.specs.Settled.{IsSettled};
 ghost use Rattle.request_encodings.specs.declared.encoding.Encoding.{Encoding};
 ghost use Rattle.request_encodings.specs.Declarations.{declared_in};
-ghost use Rattle.source_queries.specs.Utf8.{IsUtf8Pair, is_utf8_query, key_value, pairs_in, source_query};
+ghost use Rattle.source_queries.specs.Utf8.{DeclareNoOther, IsUtf8Pair, key_value, pairs_in};
+ghost use Rattle.source_queries.specs.Utf8.{is_utf8_query, source_query};
 
 use query_repair::laws::{repaired_queries_stay, repairs_are_bounded, settled_queries_stay};
 use request_encodings::laws::{texts_are_bounded, texts_are_utf8};
@@ -19,18 +19,18 @@ use request_encodings::laws::{texts_are_bounded, texts_are_utf8};
 /// U+FFFD for bytes.
 pub fn source_queries_are_utf8()
     ensures texts { (query : Text)
-        → All (λ pair. IsUtf8 pair.0 × IsUtf8 pair.1) (form.parse (source_query query)) }
+        → All IsUtf8Pair (form.parse (source_query query)) }
     ensures read { (query : Text) → pairs_of (source_query query) ≡ map key_value (form.parse (source_query query)) }
     ensures declared { (query : Text) → declared_in (source_query query) ≡ Encoding.Utf8 }
 {
     texts_are_utf8();
 }
 
-/// A query that needs no repair and is UTF-8 stays as it is; so does a form of pairs that are UTF-8 (URL Standard,
-/// section 5.2).
+/// A query that needs no repair and is UTF-8 stays as it is; so does a form of pairs that are UTF-8 and of which the
+/// first one that declares an encoding declares UTF-8 (URL Standard, section 5.2).
 pub fn utf8_queries_stay()
     ensures settled { (query : Text) → IsSettled query → is_utf8_query query ≡ true → source_query query ≡ query }
-    ensures forms { (pairs : List (Text × Text)) → All IsUtf8Pair pairs
+    ensures forms { (pairs : List (Text × Text)) → All IsUtf8Pair pairs → DeclareNoOther pairs
         → source_query (form.extend_pairs [] pairs) ≡ form.extend_pairs [] pairs }
 {
     settled_queries_stay();
@@ -67,6 +67,6 @@ pub fn source_queries_are_bounded()
 
 /// A form of texts in UTF-8 is read back as these texts (URL Standard, sections 5.1 and 5.2).
 pub fn forms_are_read_back()
-    ensures { (pairs : List (Text × Text)) → All (λ pair. IsUtf8 pair.0 × IsUtf8 pair.1) pairs
+    ensures { (pairs : List (Text × Text)) → All IsUtf8Pair pairs
         → pairs_of (form.extend_pairs [] pairs) ≡ map key_value pairs }
 {}
