@@ -14,6 +14,8 @@ use Rattle.openurl_reading.specs.Counting.{is_void, is_blank, is_any, row_keys}
 use Rattle.openurl_reading.specs.Keys.{is_one_of}
 use Rattle.work_identifiers.specs.declared.namespace.Namespace.{Namespace}
 use Rattle.work_identifiers.specs.declared.namespace.Namespace.TheVariants.{Doi, Pmid, Oclc, Pmc, Arxiv}
+use Rattle.work_identifiers.specs.declared.numbers.StandardNumber.{StandardNumber}
+use Rattle.work_identifiers.specs.declared.numbers.StandardNumber.TheVariants.{Issn, Isbn}
 use Rattle.work_identifiers.specs.Forms.{IsIdentifier}
 use Rattle.openurl_reading.specs.Identifiers.{nameable, naming, namings}
 use Rattle.work_identifiers.specs.Uris.{uri_of}
@@ -23,6 +25,7 @@ use Rattle.openurl_reading.specs.OldKeys.{OldKey, old_keys, copies}
 use Rattle.openurl_reading.specs.declared.kinds.Kind.{Kind}
 use Rattle.openurl_reading.specs.declared.kinds.Kind.TheVariants.{Book, Dissertation, Journal}
 use Rattle.openurl_reading.specs.Kinds.{kind_of}
+use Rattle.openurl_reading.specs.IdentifiedNumbers.{identified, number_key, own_numbers, identified_step, identified_steps}
 use Rattle.openurl_reading.specs.DublinCore.{core_steps}
 use Rattle.openurl_reading.specs.Titles.{title_key, of_title, titlings}
 use Rattle.openurl_reading.specs.Formats.{format_of, format_step}
@@ -35,12 +38,13 @@ use Rattle.openurl_reading.specs.Pages.{first_page, last_page, first_page_step, 
 use Rattle.openurl_reading.specs.Volumes.{added_issue, volume, issue, added_issue_step, volume_step, issue_step, volume_steps}
 use Rattle.openurl_reading.specs.Reading.{normal_form}
 use Rattle.openurl_reading.proofs.CitedParts.{citing_passes}
-use Rattle.openurl_reading.proofs.CoreCopied.{core_pass}
+use Rattle.openurl_reading.proofs.PartsPass.{core_pass}
 use Rattle.openurl_reading.proofs.Each.{none_has, one_has, each_filled, each_led, each_named}
 use Rattle.openurl_reading.proofs.FieldsCopied.{fields_pass}
 use Rattle.openurl_reading.proofs.FoundAre.{AreFound}
 use Rattle.openurl_reading.proofs.Identified.{AreIdentified, first_is, nameable_is, of_is}
 use Rattle.openurl_reading.proofs.IdentifierForms.{BeginsWithDigit, doi_begins, number_begins}
+use Rattle.openurl_reading.proofs.IdentifiedNumbers.{each_led_alone}
 use Rattle.openurl_reading.proofs.ArticlesFound.{IsNotBlank}
 use Rattle.openurl_reading.proofs.PagesFound.{AreFoundPages, first_page_is, last_page_is}
 use Rattle.openurl_reading.proofs.Passing.{AreAccepted, allows, Passes, not_blank, under_pass, step_passes, versions_pass, copies_pass, old_keys_allow}
@@ -122,6 +126,19 @@ led_passes key found first may h = each_led (Passes key) found first (λ n e. di
 date_passes : (found first : Option Text) → ((n : Text) → found ≡ Some n → BeginsWithDigit n) → All (Passes (codes "rft.date")) (led_or_none found first).values
 date_passes None first h = none_has (Passes (codes "rft.date"))
 date_passes (Some d) first h = led_passes (codes "rft.date") (Some d) first refl h
+
+-- ---- numbers among identifiers
+
+number_passes : AreFound BeginsWithDigit → (number : StandardNumber) → allows (codes "rft.issn") (number_key number) ≡ true → (pairs : List KeyValue)
+    → AreAccepted pairs → AreAccepted (taken pairs (identified_step number))
+number_passes found number may pairs all =
+    step_passes (identified_step number) pairs
+    (each_led_alone (Passes (number_key number)) (own_numbers number pairs) (identified number pairs) (first_of pairs (number_key number))
+    (λ n e. digit_passes (number_key number) n may (found.identified number pairs n e))) all
+
+identified_pass : AreFound BeginsWithDigit → (pairs : List KeyValue) → AreAccepted pairs → AreAccepted (after identified_steps pairs)
+identified_pass found pairs all =
+    number_passes found Isbn refl (taken pairs (identified_step Issn)) (number_passes found Issn refl pairs all)
 
 -- ---- URIs of identifiers
 
@@ -218,14 +235,16 @@ pub normal_form_passes : AreFilled → AreIdentified → AreFound BeginsWithDigi
 normal_form_passes filled identified found numbers pages pairs all =
     let fields = with_fields pairs in
     let copied = after copies fields in
-    let core = after core_steps copied in
+    let numbered = after identified_steps copied in
+    let core = after core_steps numbered in
     subst AreAccepted (sym (normal_form-led pairs))
     (led_pass identified found numbers pages (after text_steps (after citing_steps (after kind_steps copied)))
     (texts_pass filled (after citing_steps (after kind_steps copied))
     (citing_passes (after kind_steps copied)
     (format_passes (after titlings core)
     (titlings_pass core
-    (core_pass copied
+    (core_pass numbered
+    (identified_pass found copied
     (copies_pass old_keys fields old_keys_allow
     (fields_pass (with_versions pairs)
-    (versions_pass pairs all)))))))))
+    (versions_pass pairs all))))))))))

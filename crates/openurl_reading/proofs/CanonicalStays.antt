@@ -2,19 +2,22 @@
 use Rattle.std.proofs.Common.{◌≡◌, List, [], ◌∷◌, ◌++◌, true, false, None, Some, Option, refl, ap, ◌∙◌, inl, inr, ◌⊎◌, get_or, take, drop, map, not, lit<}
 use Rattle.std.specs.Prelude.{codes, slice_get}
 use Rattle.std.specs.List.{All, flat_map}
-use Rattle.std.specs.Option.{option_and_then}
-use Rattle.std.proofs.lemmas.List.Elements.{All-append, All-head, All-tail, All-take}
+use Rattle.std.specs.Option.{option_and_then, is_some}
+use Rattle.std.proofs.lemmas.List.Elements.{All-append, All-cons, All-head, All-tail, All-take}
 use Rattle.text_model.specs.Texts.{Text}
 use Rattle.kev_read.specs.Pairs.{KeyValue, all_of}
 use Rattle.standard_numbers.specs.Issn.{issns_in}
 use Rattle.standard_numbers.specs.Isbn.{isbns_in}
 use Rattle.publication_dates.specs.Dates.{date_in}
 use Rattle.work_identifiers.specs.declared.namespace.Namespace.{Namespace}
+use Rattle.work_identifiers.specs.declared.numbers.StandardNumber.{StandardNumber}
+use Rattle.work_identifiers.specs.declared.numbers.StandardNumber.TheVariants.{Issn, Isbn}
 use Rattle.journal_references.specs.References.{reference_in}
 use Rattle.written_texts.specs.declared.readings.Role.TheVariants.{Title, Other}
 use Rattle.openurl_reading.specs.Steps.{Step, unchanged, replacing}
 use Rattle.openurl_reading.specs.Versions.{version, encoding, is_other}
 use Rattle.openurl_reading.specs.Kinds.{has}
+use Rattle.openurl_reading.specs.IdentifiedNumbers.{identified, led_alone, identified_step, identified_steps}
 use Rattle.openurl_reading.specs.DublinCore.{is_core, core_steps}
 use Rattle.openurl_reading.specs.Titles.{titlings}
 use Rattle.openurl_reading.specs.Formats.{format_step}
@@ -22,12 +25,13 @@ use Rattle.openurl_reading.specs.Values.{most_values, searched, led}
 use Rattle.openurl_reading.specs.OldKeys.{OldKey, old_keys, filled, copied}
 use Rattle.openurl_reading.specs.Fields.{is_of_book, of_number, number_fields, is_of_pubmed, of_identifier, identifier_fields, fields}
 use Rattle.openurl_reading.specs.Referrers.{referrer_of, referred}
-use Rattle.openurl_reading.specs.Numbers.{eissn_among, other_than}
+use Rattle.openurl_reading.specs.Numbers.{numbers_in, eissn_among, other_than}
 use Rattle.openurl_reading.specs.Dates.{led_or_none}
 use Rattle.openurl_reading.specs.ArticleNumbers.{article_in}
 use Rattle.openurl_reading.specs.Citations.{after_name, cited_in}
 use Rattle.openurl_reading.specs.Texts.{title_texts, other_texts}
 use Rattle.openurl_reading.specs.Canonical.{Lacks, Under, HasNoReference, IsText, IsVersion, IsEncoding, IsDesignation, IsPage, ArePagesApart}
+use Rattle.openurl_reading.specs.Canonical.{IsUnderItsKey}
 use Rattle.openurl_reading.proofs.CitingSteps.{uncited_stays}
 use Rattle.openurl_reading.proofs.Copied.{copying-none, both_unchanged}
 use Rattle.openurl_reading.proofs.CoreSettles.{not_core_stays}
@@ -36,10 +40,11 @@ use Rattle.openurl_reading.proofs.Each.{one_has}
 use Rattle.openurl_reading.proofs.Firsts.{of_first}
 use Rattle.openurl_reading.proofs.Formatted.{format-stays, some_value}
 use Rattle.openurl_reading.proofs.FoundAgain.{issn_among, further_among, isbn_among}
+use Rattle.openurl_reading.proofs.IdentifiedNumbers.{known-unchanged, none-unchanged}
 use Rattle.openurl_reading.proofs.PagesStay.{first_page_stays, last_page_stays}
 use Rattle.openurl_reading.proofs.Settled.{IsSettled, IsNamed, led-same, filled-none}
 use Rattle.openurl_reading.proofs.Others.{bytes_eq-same}
-use Rattle.openurl_reading.proofs.Stages.{kind_steps}
+use Rattle.openurl_reading.proofs.Stages.{titled_steps}
 use Rattle.openurl_reading.proofs.TextsRead.{texts_stay}
 use Rattle.openurl_reading.proofs.Titled.{untitled-stays}
 use Rattle.openurl_reading.proofs.VolumesLed.{designations_settle}
@@ -55,9 +60,36 @@ copies_settled keys pairs all k d h =
     let key = get_or keys k d in
     ap (λ values. filled (take most_values values) (all_of pairs key.new)) (all k d h) ∙ filled-none (all_of pairs key.new)
 
-kinds_settled : (pairs : List KeyValue) → is_core pairs ≡ false → Lacks pairs (codes "title") → has pairs (codes "rft_val_fmt") ≡ true
-    → All (λ step. step.change pairs ≡ unchanged) kind_steps
-kinds_settled pairs core none format =
+-- a number that is found as it is
+abbrev pub IsKept : (Text → List Text) → Text → Type 0
+IsKept find value = find (searched value) ≡ value ∷ []
+
+-- one among identifiers is beside one under its key
+number_stays : (find : Text → List Text) (values rest : List Text) (found : Option Text) → All (IsKept find) values
+    → (found ≡ None) ⊎ (is_some (slice_get values 0) ≡ true) → led_alone (numbers_in find values ++ rest) found (slice_get values 0) ≡ unchanged
+number_stays find values rest found all (inl none) =
+    let own = numbers_in find values ++ rest in
+    ap (λ o. led_alone own o (slice_get values 0)) none ∙ none-unchanged own (slice_get values 0)
+number_stays find [] rest found all (inr some) = cc
+number_stays find (v ∷ vs) rest found all (inr some) =
+    let more = numbers_in find vs in
+    known-unchanged ((find (searched v) ++ more) ++ rest) (more ++ rest) v found (Some v)
+    (ap (λ own. (own ++ more) ++ rest) (All-head (IsKept find) v vs all))
+
+numbers_settled : (pairs : List KeyValue) → ((number : StandardNumber) → IsUnderItsKey pairs number)
+    → Under pairs (codes "rft.issn") (IsKept issns_in) → Under pairs (codes "rft.isbn") (IsKept isbns_in)
+    → All (λ step. step.change pairs ≡ unchanged) identified_steps
+numbers_settled pairs under issns isbns =
+    let P : Step → Type 0 = λ step. step.change pairs ≡ unchanged in
+    All-cons P (identified_step Issn) (identified_step Isbn ∷ [])
+    (number_stays issns_in (all_of pairs (codes "rft.issn")) [] (identified Issn pairs) issns (under Issn))
+    (one_has P (identified_step Isbn)
+    (number_stays isbns_in (all_of pairs (codes "rft.isbn")) (numbers_in isbns_in (all_of pairs (codes "rft.eisbn")) ++ []) (identified Isbn pairs) isbns
+    (under Isbn)))
+
+titled_settled : (pairs : List KeyValue) → is_core pairs ≡ false → Lacks pairs (codes "title") → has pairs (codes "rft_val_fmt") ≡ true
+    → All (λ step. step.change pairs ≡ unchanged) titled_steps
+titled_settled pairs core none format =
     let P : Step → Type 0 = λ step. step.change pairs ≡ unchanged in
     All-append P core_steps (titlings ++ format_step ∷ []) (not_core_stays pairs core)
     (All-append P titlings (format_step ∷ []) (untitled-stays pairs none)
@@ -87,9 +119,6 @@ no_citation (v ∷ vs) texts none =
     ∙ ap (option_and_then after_name) (All-head HasNoReference v vs none)
 
 -- ---- numbers that are found as they are
-
-abbrev pub IsKept : (Text → List Text) → Text → Type 0
-IsKept find value = find (searched value) ≡ value ∷ []
 
 issn_leads : (values : List Text) → All (IsKept issns_in) values → issn_among values ≡ slice_get values 0
 issn_leads [] all = refl
@@ -173,6 +202,7 @@ pub record HasKept (pairs : List KeyValue) : Type 0 where
   pub spages : Under pairs (codes "rft.spage") IsPage
   pub epages : Under pairs (codes "rft.epage") IsPage
   pub pages : ArePagesApart pairs
+  pub identified : (number : StandardNumber) → IsUnderItsKey pairs number
   pub works : (namespace : Namespace) → IsNamed pairs namespace
 
 pub kept_settled : (pairs : List KeyValue) → HasKept pairs → IsSettled pairs
@@ -186,7 +216,8 @@ kept_settled pairs kept =
       encoding = stated-known encoding (all_of pairs (codes "ctx_enc")) kept.encoding;
       fields = fields_settled pairs kept.no_number kept.no_identifier;
       copies = copies_settled old_keys pairs kept.no_old_keys;
-      kinds = kinds_settled pairs kept.no_core kept.no_title kept.format;
+      kinds = All-append (λ step. step.change pairs ≡ unchanged) identified_steps titled_steps
+          (numbers_settled pairs kept.identified kept.issns kept.isbns) (titled_settled pairs kept.no_core kept.no_title kept.format);
       cited = uncited_stays pairs (no_citation (all_of pairs (codes "rft.jtitle")) (kept.titles 1 [] (lit< tt)) kept.journals);
       texts = texts_stay pairs kept.titles kept.other_texts;
       referrer = referrer_settled pairs kept.no_source;

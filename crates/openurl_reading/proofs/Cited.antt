@@ -17,10 +17,11 @@ use Rattle.openurl_reading.specs.Volumes.{without_own}
 use Rattle.openurl_reading.proofs.CitingKeeps.{of_volume, of_issue, of_pages}
 use Rattle.openurl_reading.proofs.CitingSteps.{citation_kept}
 use Rattle.openurl_reading.proofs.Each.{each_taken, each_led}
+use Rattle.openurl_reading.proofs.Fillings.{own_is}
 use Rattle.openurl_reading.proofs.Totals.{total, total_taken, led_weighs}
 
 -- of a part of a reference that is not blank
-abbrev IsPart : (Text → Type 0) → Option Text → Type 0
+abbrev pub IsPart : (Text → Type 0) → Option Text → Type 0
 IsPart P part = (n : Text) → part ≡ Some n → is_blank n ≡ false → P n
 
 -- the property holds of the name and of each other part
@@ -45,17 +46,12 @@ not_blank_of P (Some t) h n e = by_test (is_blank t) refl e
     by_test true g f = cc
     by_test false g f = let same : t ≡ n = cc in subst P same (h t refl g)
 
-part_is : (P : Text → Type 0) (part : Reference → Option Text) (c : Option Reference) → ((found : Reference) → c ≡ Some found → IsPart P (part found))
+pub part_is : (P : Text → Type 0) (part : Reference → Option Text) (c : Option Reference) → ((found : Reference) → c ≡ Some found → IsPart P (part found))
     → (n : Text) → option_and_then unless_blank (option_and_then part c) ≡ Some n → P n
 part_is P part None h n e = cc
 part_is P part (Some found) h n e = not_blank_of P (part found) (h found refl) n e
 
-own_is : (P : Text → Type 0) (values : List Text) (found : Option Text) → ((n : Text) → found ≡ Some n → P n)
-    → (n : Text) → without_own values found ≡ Some n → P n
-own_is P [] found h n e = h n e
-own_is P (v ∷ vs) found h n e = cc
-
-year_is : (P : Text → Type 0) (date found : Option Text) → ((n : Text) → found ≡ Some n → P n)
+pub year_is : (P : Text → Type 0) (date found : Option Text) → ((n : Text) → found ≡ Some n → P n)
     → (n : Text) → without_date date found ≡ Some n → P n
 year_is P None found h n e = h n e
 year_is P (Some date) found h n e = cc

@@ -1,16 +1,16 @@
--- The steps of a reference keep the values of their keys.
-use Rattle.std.proofs.Common.{[], ◌∷◌, Option, inr, inl}
+-- The steps that fill a key keep its values, as those of a reference do.
+use Rattle.std.proofs.Common.{List, [], ◌∷◌, Option, inr, inl}
 use Rattle.std.specs.Prelude.{codes}
 use Rattle.std.specs.List.{All}
 use Rattle.std.specs.Option.{option_map}
 use Rattle.std.proofs.lemmas.List.Elements.{All-cons}
 use Rattle.text_model.specs.Texts.{Text}
-use Rattle.kev_read.specs.Pairs.{all_of, first_of}
+use Rattle.kev_read.specs.Pairs.{KeyValue, all_of, first_of}
 use Rattle.journal_references.specs.References.{Reference}
 use Rattle.openurl_reading.specs.Citations.{citation, cited, citing, without_date, citing_year, citing_name, citing_steps}
 use Rattle.openurl_reading.specs.Dates.{date_keys, first_date}
 use Rattle.openurl_reading.specs.Steps.{Step}
-use Rattle.openurl_reading.specs.Volumes.{without_own}
+use Rattle.openurl_reading.specs.Volumes.{without_own, filling}
 use Rattle.openurl_reading.proofs.Each.{one_has}
 use Rattle.openurl_reading.proofs.Filled.{KeepsKey}
 use Rattle.openurl_reading.proofs.Led.{led-keeps}
@@ -32,8 +32,11 @@ each_citing P a b c d e =
     (All-cons P of_issue (of_pages ∷ citing_year ∷ citing_name ∷ []) b
     (All-cons P of_pages (citing_year ∷ citing_name ∷ []) c (All-cons P citing_year (citing_name ∷ []) d (one_has P citing_name e))))
 
+pub filling_keeps : (key own : Text) (find : List KeyValue → Option Text) → KeepsKey key (filling own find)
+filling_keeps key own find = inr (λ p. inl (led-keeps (without_own (all_of p own) (find p)) (first_of p own)))
+
 citing_keeps : (key own : Text) (part : Reference → Option Text) → KeepsKey key (citing own part)
-citing_keeps key own part = inr (λ p. inl (led-keeps (without_own (all_of p own) (cited part p)) (first_of p own)))
+citing_keeps key own part = filling_keeps key own (cited part)
 
 pub citing_keep : (key : Text) → All (KeepsKey key) citing_steps
 citing_keep key =

@@ -4,13 +4,12 @@ use Rattle.std.specs.Prelude.{codes, slice_get}
 use Rattle.std.specs.Option.{option_map_or, is_some}
 use Rattle.text_model.specs.Texts.{Text}
 use Rattle.kev_read.specs.Pairs.{KeyValue, all_of}
-use Rattle.openurl_reading.specs.DublinCore.{is_core_format, is_core, creator, core_type, is_typed, is_sourced, core_source, of_core_title}
-use Rattle.openurl_reading.specs.DublinCore.{is_in_journal, is_book, is_of_core_book, core_titles, core_steps}
+use Rattle.openurl_reading.specs.DublinCore.{is_core_format, is_core, creator, core_type, is_typed, of_core_title}
+use Rattle.openurl_reading.specs.DublinCore.{is_in_journal, is_book, is_of_core_book, core_titles}
 use Rattle.openurl_reading.specs.Kinds.{has, kind_of}
 use Rattle.openurl_reading.specs.OldKeys.{OldKey, copy, copying}
 use Rattle.openurl_reading.specs.Steps.{taken, after}
-use Rattle.openurl_reading.proofs.Copied.{IsCopyOf, one_copy, copy_of_passes, copying-is, copying-made, not_copied}
-use Rattle.openurl_reading.proofs.Passing.{AreAccepted}
+use Rattle.openurl_reading.proofs.Copied.{IsCopyOf, one_copy, copying-is, copying-made, not_copied}
 use Rattle.openurl_reading.proofs.Values.{all_of-taken}
 
 -- ---- what they copy
@@ -20,9 +19,6 @@ creator-is pairs = copying-is is_core (codes "rft.creator") (codes "rft.au") pai
 
 pub type-is : (pairs : List KeyValue) → IsCopyOf (codes "rft.type") pairs (taken pairs (copying is_typed core_type))
 type-is pairs = copying-is is_typed (codes "rft.type") (codes "rft.genre") pairs refl
-
-pub source-is : (pairs : List KeyValue) → IsCopyOf (codes "rft.source") pairs (taken pairs (copying is_sourced core_source))
-source-is pairs = copying-is is_sourced (codes "rft.source") (codes "rft.jtitle") pairs refl
 
 in_journal : (core some : Bool) (rest : Bool) → core && some ≡ true → core && (not some && rest) ≡ false
 in_journal true true rest h = refl
@@ -67,12 +63,3 @@ titles-is pairs = by_test (is_in_journal pairs) refl
     by_test false e =
         subst (λ p. IsCopyOf (codes "rft.title") pairs (taken p (copying is_of_core_book book))) (sym (not_copied is_in_journal article pairs e))
         (copying-is is_of_core_book (codes "rft.title") (codes "rft.btitle") pairs refl)
-
-pub core_pass : (pairs : List KeyValue) → AreAccepted pairs → AreAccepted (after core_steps pairs)
-core_pass pairs all =
-    let first = taken pairs (copying is_core creator) in
-    let second = taken first (copying is_typed core_type) in
-    let third = taken second (copying is_sourced core_source) in
-    copy_of_passes (codes "rft.title") third (after core_titles third) (titles-is third)
-    (copy_of_passes (codes "rft.source") second third (source-is second)
-    (copy_of_passes (codes "rft.type") first second (type-is first) (copy_of_passes (codes "rft.creator") pairs first (creator-is pairs) all)))

@@ -1,30 +1,38 @@
 -- The elements of Dublin Core give their values to other keys once.
-use Rattle.std.proofs.Common.{◌≡◌, List, [], ◌∷◌, ◌++◌, Bool, true, false, not, ◌&&◌, refl, sym, ap, ◌∙◌, subst, inl, inr, lit<, take}
+use Rattle.std.proofs.Common.{◌≡◌, List, [], ◌∷◌, ◌++◌, Bool, true, false, cond, not, ◌&&◌, Option, None, refl, sym, ap, ◌∙◌, subst, inl, inr, lit<, take}
 use Rattle.std.specs.Prelude.{codes, slice_get}
 use Rattle.std.specs.List.{All, list_all}
 use Rattle.std.specs.Option.{option_map_or, is_some}
 use Rattle.std.specs.Str.{bytes_eq}
-use Rattle.std.proofs.lemmas.List.Elements.{All-cons}
+use Rattle.std.proofs.lemmas.List.Elements.{All-append, All-cons}
 use Rattle.text_model.specs.Texts.{Text}
 use Rattle.kev_read.specs.Pairs.{KeyValue, all_of}
 use Rattle.openurl_reading.specs.declared.kinds.Kind.{Kind}
 use Rattle.openurl_reading.specs.DublinCore.{is_core, creator, core_type, is_genre, is_typed, of_core_title}
-use Rattle.openurl_reading.specs.DublinCore.{is_journal, is_sourced, core_source}
+use Rattle.openurl_reading.specs.DublinCore.{core_journal, core_source, core_parts}
 use Rattle.openurl_reading.specs.DublinCore.{is_in_journal, is_book, is_of_core_book, core_titles, core_steps}
 use Rattle.openurl_reading.specs.Formats.{format_step}
 use Rattle.openurl_reading.specs.Kinds.{has, kind_of}
 use Rattle.openurl_reading.specs.OldKeys.{OldKey, copying}
+use Rattle.openurl_reading.specs.Sources.{most_sources, journal_in, first_journal, first_reference}
 use Rattle.openurl_reading.specs.Steps.{Step, unchanged, taken, after}
 use Rattle.openurl_reading.specs.Values.{most_values}
 use Rattle.openurl_reading.specs.Titles.{titlings}
+use Rattle.openurl_reading.proofs.CitingKeeps.{filling_keeps}
+use Rattle.openurl_reading.proofs.CoreParts.{unfound_stays}
+use Rattle.openurl_reading.proofs.CoreYear.{after_parts}
+use Rattle.openurl_reading.proofs.PartsSettle.{after_article, parts_keep, parts_settle}
+use Rattle.openurl_reading.proofs.FoundAgain.{AreFoundAgain}
 use Rattle.openurl_reading.proofs.CitingSteps.{before_name}
 use Rattle.openurl_reading.proofs.Copied.{copying-none, copying-failed, copying-made, not_copied}
 use Rattle.openurl_reading.proofs.Copied.{copying_keeps, copying_settles, copying-filled, still_some}
 use Rattle.openurl_reading.proofs.Each.{one_has}
+use Rattle.openurl_reading.proofs.Fillings.{filling-none, filling_settles}
+use Rattle.openurl_reading.proofs.Identified.{first_found}
 use Rattle.openurl_reading.proofs.Filled.{HasSome, IsFilled, KeepsKey, keeps_filled, fill-fills}
-use Rattle.openurl_reading.proofs.KeysSettle.{apart, same_after, after_core, after_core_keep, format_keeps, last_keep}
+use Rattle.openurl_reading.proofs.KeysSettle.{apart, same_after, after_core, format_keeps, last_keep}
 use Rattle.openurl_reading.proofs.KindStays.{AreKindsSame, kind_same, kind_stays, kinds_after}
-use Rattle.openurl_reading.proofs.Stages.{kind_steps, led_steps, last_steps}
+use Rattle.openurl_reading.proofs.Stages.{titled_steps, led_steps, last_steps}
 use Rattle.openurl_reading.proofs.TextsSome.{has_some, last_some, last_none}
 use Rattle.openurl_reading.proofs.Titled.{some_values}
 use Rattle.openurl_reading.proofs.Values.{all_of-taken}
@@ -32,30 +40,17 @@ use Rattle.openurl_reading.proofs.CoreFalls.{core_falls, and-false, and_falls, I
 
 -- ---- they are not copied again
 
-abbrev after_article : List Step
-after_article = copying is_of_core_book (of_core_title (codes "rft.btitle")) ∷ after_core
-
 abbrev after_source : List Step
-after_source = copying is_in_journal (of_core_title (codes "rft.atitle")) ∷ after_article
+after_source = core_parts ++ after_parts
 
 abbrev after_type : List Step
-after_type = copying is_sourced core_source ∷ after_source
+after_type = core_source ∷ after_source
 
 abbrev after_creator : List Step
 after_creator = copying is_typed core_type ∷ after_type
 
-article_keeps : (key : Text) → bytes_eq (codes "rft.date") key ≡ false → All (KeepsKey key) after_article
-article_keeps key h =
-    All-cons (KeepsKey key) (copying is_of_core_book (of_core_title (codes "rft.btitle"))) after_core
-    (copying_keeps key is_of_core_book (of_core_title (codes "rft.btitle"))) (after_core_keep key h)
-
-source_keeps : (key : Text) → bytes_eq (codes "rft.date") key ≡ false → All (KeepsKey key) after_source
-source_keeps key h =
-    All-cons (KeepsKey key) (copying is_in_journal (of_core_title (codes "rft.atitle"))) after_article
-    (copying_keeps key is_in_journal (of_core_title (codes "rft.atitle"))) (article_keeps key h)
-
 type_keeps : (key : Text) → bytes_eq (codes "rft.date") key ≡ false → All (KeepsKey key) after_type
-type_keeps key h = All-cons (KeepsKey key) (copying is_sourced core_source) after_source (copying_keeps key is_sourced core_source) (source_keeps key h)
+type_keeps key h = All-cons (KeepsKey key) core_source after_source (filling_keeps key (codes "rft.jtitle") core_journal) (parts_keep key h)
 
 creator_keeps : (key : Text) → bytes_eq (codes "rft.date") key ≡ false → All (KeepsKey key) after_creator
 creator_keeps key h = All-cons (KeepsKey key) (copying is_typed core_type) after_type (copying_keeps key is_typed core_type) (type_keeps key h)
@@ -73,19 +68,22 @@ type_settles before =
     copying_settles is_typed core_type before after_type refl (apart after_type (codes "rft.type") refl) (type_keeps (codes "rft.genre") refl)
     (λ fails. copying-failed is_typed core_type now
     (and_falls (is_core before) (is_core now) _ _
-    (core_falls (copying is_typed core_type ∷ copying is_sourced core_source ∷ core_titles ++ titlings) before refl)
+    (core_falls (copying is_typed core_type ∷ core_source ∷ core_parts ++ core_titles ++ titlings) before refl)
     (ap (λ values. option_map_or is_genre (slice_get values 0) false)
     (same_after (copying is_typed core_type ∷ after_type) before (codes "rft.type") refl)) fails))
 
-source_settles : (before : List KeyValue)
-    → (copying is_sourced core_source).change (after after_source (taken before (copying is_sourced core_source))) ≡ unchanged
+journal_falls : (a a' : Bool) (o o' : Option Text) → (a ≡ false → a' ≡ false) → o' ≡ o → cond a o None ≡ None → cond a' o' None ≡ None
+journal_falls false a' o o' f e h = ap (λ c. cond c o' None) (f refl)
+journal_falls true true o o' f e h = e ∙ h
+journal_falls true false o o' f e h = refl
+
+source_settles : (before : List KeyValue) → core_source.change (after after_source (taken before core_source)) ≡ unchanged
 source_settles before =
-    let now = after after_source (taken before (copying is_sourced core_source)) in
-    copying_settles is_sourced core_source before after_source refl (apart after_source (codes "rft.source") refl) (source_keeps (codes "rft.jtitle") refl)
-    (λ fails. copying-failed is_sourced core_source now
-    (and_falls (is_core before) (is_core now) _ _ (core_falls (copying is_sourced core_source ∷ core_titles ++ titlings) before refl)
-    (ap (λ values. option_map_or is_journal (slice_get values 0) false)
-    (same_after (copying is_sourced core_source ∷ after_source) before (codes "rft.source") refl)) fails))
+    let now = after after_source (taken before core_source) in
+    filling_settles (codes "rft.jtitle") core_journal before now after_source refl (parts_keep (codes "rft.jtitle") refl)
+    (journal_falls (is_core before) (is_core now) (first_journal before) (first_journal now)
+    (core_falls (core_source ∷ core_parts ++ core_titles ++ titlings) before refl)
+    (ap (λ values. first_found journal_in (take most_sources values)) (same_after (core_source ∷ after_source) before (codes "rft.source") refl)))
 
 -- ---- the titles
 
@@ -210,18 +208,20 @@ book_settles before = settles (title_apart next)
         copying-failed is_of_core_book book now
         (ap (λ k. known && (free && is_book k)) (kinds same ∙ kind) ∙ ap (λ b. known && b) (and-false free) ∙ and-false known)
 
-pub core_settles : (before : List KeyValue) → All (λ step. step.change (after last_steps (after kind_steps before)) ≡ unchanged) core_steps
-core_settles before =
+pub core_settles : AreFoundAgain → (before : List KeyValue) → All (λ step. step.change (after last_steps (after titled_steps before)) ≡ unchanged) core_steps
+core_settles laws before =
     let first = taken before (copying is_core creator) in
     let second = taken first (copying is_typed core_type) in
-    let sourced = taken second (copying is_sourced core_source) in
-    let third = taken sourced (copying is_in_journal (of_core_title (codes "rft.atitle"))) in
-    let P : Step → Type 0 = λ step. step.change (after last_steps (after kind_steps before)) ≡ unchanged in
-    All-cons P (copying is_core creator) (copying is_typed core_type ∷ copying is_sourced core_source ∷ core_titles) (creator_settles before)
-    (All-cons P (copying is_typed core_type) (copying is_sourced core_source ∷ core_titles) (type_settles first)
-    (All-cons P (copying is_sourced core_source) core_titles (source_settles second)
+    let sourced = taken second core_source in
+    let filled = after core_parts sourced in
+    let third = taken filled (copying is_in_journal (of_core_title (codes "rft.atitle"))) in
+    let P : Step → Type 0 = λ step. step.change (after last_steps (after titled_steps before)) ≡ unchanged in
+    All-cons P (copying is_core creator) (copying is_typed core_type ∷ core_source ∷ core_parts ++ core_titles) (creator_settles before)
+    (All-cons P (copying is_typed core_type) (core_source ∷ core_parts ++ core_titles) (type_settles first)
+    (All-cons P core_source (core_parts ++ core_titles) (source_settles second)
+    (All-append P core_parts core_titles (parts_settle laws sourced)
     (All-cons P (copying is_in_journal (of_core_title (codes "rft.atitle"))) (copying is_of_core_book (of_core_title (codes "rft.btitle")) ∷ [])
-    (article_settles sourced) (one_has P (copying is_of_core_book (of_core_title (codes "rft.btitle"))) (book_settles third)))))
+    (article_settles filled) (one_has P (copying is_of_core_book (of_core_title (codes "rft.btitle"))) (book_settles third))))))
 
 -- ---- a request that is not Dublin Core
 
@@ -230,14 +230,14 @@ not_core_stays pairs fails =
     let P : Step → Type 0 = λ step. step.change pairs ≡ unchanged in
     let article = of_core_title (codes "rft.atitle") in
     let book = of_core_title (codes "rft.btitle") in
-    All-cons P (copying is_core creator) (copying is_typed core_type ∷ copying is_sourced core_source ∷ core_titles)
+    All-cons P (copying is_core creator) (copying is_typed core_type ∷ core_source ∷ core_parts ++ core_titles)
     (copying-failed is_core creator pairs fails)
-    (All-cons P (copying is_typed core_type) (copying is_sourced core_source ∷ core_titles)
+    (All-cons P (copying is_typed core_type) (core_source ∷ core_parts ++ core_titles)
     (copying-failed is_typed core_type pairs (ap (λ b. b && option_map_or is_genre (slice_get (all_of pairs (codes "rft.type")) 0) false) fails))
-    (All-cons P (copying is_sourced core_source) core_titles
-    (copying-failed is_sourced core_source pairs
-    (ap (λ b. b && option_map_or is_journal (slice_get (all_of pairs (codes "rft.source")) 0) false) fails))
+    (All-cons P core_source (core_parts ++ core_titles)
+    (filling-none (codes "rft.jtitle") core_journal pairs (ap (λ b. cond b (first_journal pairs) None) fails))
+    (All-append P core_parts core_titles (unfound_stays pairs (ap (λ b. cond b (first_reference pairs) None) fails))
     (All-cons P (copying is_in_journal article) (copying is_of_core_book book ∷ [])
     (copying-failed is_in_journal article pairs (ap (λ b. b && has pairs (codes "rft.jtitle")) fails))
     (one_has P (copying is_of_core_book book)
-    (copying-failed is_of_core_book book pairs (ap (λ b. b && (not (has pairs (codes "rft.jtitle")) && is_book (kind_of pairs))) fails))))))
+    (copying-failed is_of_core_book book pairs (ap (λ b. b && (not (has pairs (codes "rft.jtitle")) && is_book (kind_of pairs))) fails)))))))

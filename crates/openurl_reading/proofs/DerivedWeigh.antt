@@ -1,5 +1,5 @@
 -- How large the pairs are that the resolver adds.
-use Rattle.std.proofs.Common.{◌≡◌, ℕ, ◌+◌, ◌≤◌, ◌*◌, [], ◌∷◌, ◌++◌, Bool, true, false, cond, Option, Some, None, refl, subst, length, arith}
+use Rattle.std.proofs.Common.{◌≡◌, ℕ, ◌+◌, ◌≤◌, ◌*◌, [], ◌++◌, Bool, true, false, cond, Option, Some, None, refl, subst, length, arith}
 use Rattle.std.specs.Prelude.{List, codes, option_and_then}
 use Rattle.std.specs.List.{list_all}
 use Rattle.std.specs.Option.{option_map}

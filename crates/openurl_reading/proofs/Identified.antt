@@ -10,25 +10,28 @@ use Rattle.work_identifiers.specs.declared.namespace.Namespace.{Namespace}
 use Rattle.work_identifiers.specs.declared.namespace.Namespace.TheVariants.{Doi, Pmid, Oclc, Pmc, Arxiv}
 use Rattle.work_identifiers.specs.Addresses.{doi_in_address}
 use Rattle.work_identifiers.specs.Forms.{IsIdentifier}
+use Rattle.work_identifiers.specs.Mentions.{mention_in}
 use Rattle.work_identifiers.specs.Places.{identifier_in, identifier_alone}
 use Rattle.work_identifiers.specs.Uris.{uri_start, uri_end, uri_of, canonical, registered, arxiv_doi}
-use Rattle.openurl_reading.specs.Identifiers.{as_identifier, names, is_page, unnamed, identifier_under, identifier_of, identifier_keys, first_under}
-use Rattle.openurl_reading.specs.Identifiers.{first_identifier, nameable}
+use Rattle.openurl_reading.specs.Identifiers.{as_identifier, names, is_page, within, unnamed, identifier_under, identifier_of}
+use Rattle.openurl_reading.specs.Identifiers.{identifier_keys, first_under, first_identifier, nameable}
+use Rattle.openurl_reading.specs.Keys.{is_one_of}
+use Rattle.openurl_reading.specs.Retractions.{sent_titles}
 use Rattle.openurl_reading.proofs.AsIdentifiers.{found_as_it_is}
 use Rattle.openurl_reading.proofs.FoundAre.{IsAll, none_is, or_is}
 
-abbrev pub first_found : (Text → Option Text) → List Text → Option Text
+abbrev pub first_found : {X : Type 0} → (Text → Option X) → List Text → Option X
 first_found find texts = slice_get (filter_map find texts) 0
 
-first_or : (o : Option Text) (found : List Text) → slice_get (cons_option o found) 0 ≡ option_or o (slice_get found 0)
+pub first_or : {X : Type 0} (o : Option X) (found : List X) → slice_get (cons_option o found) 0 ≡ option_or o (slice_get found 0)
 first_or None found = refl
 first_or (Some n) found = refl
 
-pub found-cons : (find : Text → Option Text) (t : Text) (ts : List Text) → first_found find (t ∷ ts) ≡ option_or (find t) (first_found find ts)
+pub found-cons : {X : Type 0} (find : Text → Option X) (t : Text) (ts : List Text) → first_found find (t ∷ ts) ≡ option_or (find t) (first_found find ts)
 found-cons find t ts = first_or (find t) (filter_map find ts)
 
 -- what holds of all that is found holds of the first
-pub found_is : (P : Text → Type 0) (find : Text → Option Text) (texts : List Text) → All (λ t. IsAll P (find t)) texts → IsAll P (first_found find texts)
+pub found_is : {X : Type 0} (P : X → Type 0) (find : Text → Option X) (texts : List Text) → All (λ t. IsAll P (find t)) texts → IsAll P (first_found find texts)
 found_is P find [] all n h = none_is P n h
 found_is P find (t ∷ ts) all n h =
     let Q : Text → Type 0 = λ t. IsAll P (find t) in
@@ -85,25 +88,35 @@ pub record AreIdentified : Type 0 where
   pub preprint : (n : Text) → IsIdentifier Arxiv n → IsIdentifier Doi (arxiv_doi n)
   pub preprint_uri : (n : Text) → uri_of Arxiv n ≡ uri_of Doi (arxiv_doi n)
   pub page : (address n : Text) → doi_in_address address ≡ Some n → IsIdentifier Doi n
+  pub mention : (namespace : Namespace) (title n : Text) → mention_in namespace title ≡ Some n → IsIdentifier namespace n
 
 unnamed_is : AreIdentified → (namespace : Namespace) (key value : Text) → IsAll (IsIdentifier namespace) (unnamed namespace key value)
-unnamed_is laws namespace key value = by_name (names namespace key) (by_page namespace)
+unnamed_is laws namespace key value = by_name (names namespace key)
   where
-    from_page : (b : Bool) → IsAll (IsIdentifier Doi) (cond b (doi_in_address value) None)
+    title : Namespace → Option Text
+    title n = cond (is_one_of sent_titles key) (mention_in n value) None
+
+    by_title : (n : Namespace) (b : Bool) → IsAll (IsIdentifier n) (cond b (mention_in n value) None)
+    by_title n true = laws.mention n value
+    by_title n false = none_is (IsIdentifier n)
+
+    from_title : (n : Namespace) → IsAll (IsIdentifier n) (title n)
+    from_title n = by_title n (is_one_of sent_titles key)
+
+    from_page : (b : Bool) → IsAll (IsIdentifier Doi) (cond b (doi_in_address value) (title Doi))
     from_page true = laws.page value
-    from_page false = none_is (IsIdentifier Doi)
+    from_page false = from_title Doi
 
-    by_page : (n : Namespace) → IsAll (IsIdentifier n) (cond (is_page n key) (doi_in_address value) None)
+    by_page : (n : Namespace) → IsAll (IsIdentifier n) (within n key value)
     by_page Doi = from_page (is_page Doi key)
-    by_page Pmid = none_is (IsIdentifier Pmid)
-    by_page Oclc = none_is (IsIdentifier Oclc)
-    by_page Pmc = none_is (IsIdentifier Pmc)
-    by_page Arxiv = none_is (IsIdentifier Arxiv)
+    by_page Pmid = from_title Pmid
+    by_page Oclc = from_title Oclc
+    by_page Pmc = from_title Pmc
+    by_page Arxiv = from_title Arxiv
 
-    by_name : (b : Bool) → IsAll (IsIdentifier namespace) (cond (is_page namespace key) (doi_in_address value) None)
-        → IsAll (IsIdentifier namespace) (cond b (identifier_alone namespace value) (cond (is_page namespace key) (doi_in_address value) None))
-    by_name true rest = laws.alone namespace value
-    by_name false rest = rest
+    by_name : (b : Bool) → IsAll (IsIdentifier namespace) (cond b (identifier_alone namespace value) (within namespace key value))
+    by_name true = laws.alone namespace value
+    by_name false = by_page namespace
 
 pub of_is : AreIdentified → (namespace : Namespace) (key value : Text) → IsAll (IsIdentifier namespace) (identifier_of namespace key value)
 of_is laws namespace key value =
@@ -162,6 +175,16 @@ pub identified : ((namespace : Namespace) (text n : Text) → identifier_in name
     → ((namespace : Namespace) (n : Text) → IsIdentifier namespace n → identifier_in namespace (uri_of namespace n) ≡ Some (canonical namespace n))
     → ((namespace other : Namespace) (text : Text) → registered other ≢ registered namespace → identifier_in other (uri_start namespace ++ text) ≡ None)
     → ((n : Text) → IsIdentifier Arxiv n → IsIdentifier Doi (arxiv_doi n)) → ((n : Text) → uri_of Arxiv n ≡ uri_of Doi (arxiv_doi n))
-    → ((address n : Text) → doi_in_address address ≡ Some n → IsIdentifier Doi n) → AreIdentified
-identified are alone stay others preprint preprint_uri page =
-    record { are = are; alone = alone; stay = stay; others = others; preprint = preprint; preprint_uri = preprint_uri; page = page }
+    → ((address n : Text) → doi_in_address address ≡ Some n → IsIdentifier Doi n)
+    → ((namespace : Namespace) (title n : Text) → mention_in namespace title ≡ Some n → IsIdentifier namespace n) → AreIdentified
+identified are alone stay others preprint preprint_uri page mention =
+    record {
+      are = are;
+      alone = alone;
+      stay = stay;
+      others = others;
+      preprint = preprint;
+      preprint_uri = preprint_uri;
+      page = page;
+      mention = mention;
+    }

@@ -1,6 +1,6 @@
--- Each identifier that is found was read in one value of the request.
-use Rattle.std.proofs.Common.{◌≡◌, List, [], ◌∷◌, ◌++◌, cond, not, Some, refl, sym, subst, ap, ◌∙◌, inl, inr, get_or, lit<}
-use Rattle.std.specs.Prelude.{◌≢◌, codes, Contains}
+-- Each identifier that is found was read in one value of the request, or in what is read of one as a title.
+use Rattle.std.proofs.Common.{◌≡◌, List, [], ◌∷◌, ◌++◌, true, cond, not, Some, refl, sym, subst, ap, ◌∙◌, inl, inr, get_or, lit<}
+use Rattle.std.specs.Prelude.{◌≢◌, codes}
 use Rattle.std.specs.List.{All, list_all}
 use Rattle.std.specs.Str.{bytes_eq}
 use Rattle.std.proofs.lemmas.Bool.{not-true}
@@ -14,14 +14,15 @@ use Rattle.work_identifiers.specs.Forms.{IsIdentifier}
 use Rattle.work_identifiers.specs.Uris.{uri_of, registered}
 use Rattle.openurl_reading.specs.Keys.{is_one_of}
 use Rattle.openurl_reading.specs.Steps.{taken, after}
-use Rattle.openurl_reading.specs.Texts.{text_steps}
+use Rattle.openurl_reading.specs.Retractions.{sent_titles}
+use Rattle.openurl_reading.specs.Texts.{title_texts, text_steps}
 use Rattle.openurl_reading.specs.Referrers.{referrer_step}
 use Rattle.openurl_reading.specs.Numbers.{issn_step, eissn_step, isbn_step}
 use Rattle.openurl_reading.specs.Dates.{date_step}
 use Rattle.openurl_reading.specs.Identifiers.{identifier_of, source_keys, identifier_keys, first_under, first_identifier, nameable, named, naming}
 use Rattle.openurl_reading.specs.Pages.{page_steps}
 use Rattle.openurl_reading.specs.Volumes.{volume_steps}
-use Rattle.openurl_reading.specs.Origins.{HasOrigin, identifier_in_value, uri_of_identifier}
+use Rattle.openurl_reading.specs.Origins.{IsTextOf, as_sent, HasOrigin, identifier_in_value, uri_of_identifier}
 use Rattle.openurl_reading.proofs.Apart.{same_or_apart, own_uris}
 use Rattle.openurl_reading.proofs.Each.{each_named}
 use Rattle.openurl_reading.proofs.FoundAre.{IsAll}
@@ -32,11 +33,11 @@ use Rattle.openurl_reading.proofs.NamedPreprints.{named-keeps}
 use Rattle.openurl_reading.proofs.Sent.{constant_keys, AreKept}
 use Rattle.openurl_reading.proofs.Values.{all_of-taken, all_of-taken-own}
 
--- it is read in a value of the request
+-- it is read in a value of the request, or in what is read of one as a title
 pub record IsRead (sent : List Text) (namespace : Namespace) (n : Text) : Type 0 where
   pub key : Text
   pub value : Text
-  pub is_sent : Contains sent value
+  pub is_sent : IsTextOf sent value
   pub is : identifier_of namespace key value ≡ Some n
 
 pub identifier_has_origin : (sent : List Text) (namespace : Namespace) (n : Text) → IsRead sent namespace n → HasOrigin sent n
@@ -52,25 +53,50 @@ GivesRead sent key value = (namespace : Namespace) → IsAll (IsRead sent namesp
 abbrev pub AreRead : List Text → List KeyValue → Type 0
 AreRead sent pairs = All (λ key. All (GivesRead sent key) (all_of pairs key)) identifier_keys
 
-pub sent_read : (sent : List Text) (pairs : List KeyValue) → All (λ key. All (Contains sent) (all_of pairs key)) identifier_keys
+pub sent_read : (sent : List Text) (pairs : List KeyValue) → All (λ key. All (IsTextOf sent) (all_of pairs key)) identifier_keys
     → AreRead sent pairs
 sent_read sent pairs all k d h j e g namespace n is =
     let key = get_or identifier_keys k d in
     record { key = key; value = get_or (all_of pairs key) j e; is_sent = all k d h j e g; is = is }
 
--- after the steps before those that name works, each value is one of the request
+-- the keys of identifiers before those of titles, and the keys of titles in OpenURL 0.1
+abbrev first_keys : List Text
+first_keys =
+    codes "rft_id" ∷ codes "id" ∷ codes "rft.doi" ∷ codes "doi" ∷ codes "pmid" ∷ codes "rft.pmid" ∷ codes "pmcid" ∷ codes "rft.pmcid" ∷
+    codes "rft.identifier" ∷ codes "url" ∷ []
+
+abbrev old_titles : List Text
+old_titles = codes "atitle" ∷ codes "jtitle" ∷ codes "btitle" ∷ codes "title" ∷ []
+
+-- the values of each key are texts of the request
+abbrev AreTexts : List Text → List KeyValue → List Text → Type 0
+AreTexts sent pairs keys = All (λ key. All (IsTextOf sent) (all_of pairs key)) keys
+
+kept_texts : (sent : List Text) (copied : List KeyValue) (keys : List Text) → AreKept sent copied
+    → list_all (λ key. not (is_one_of constant_keys key)) keys ≡ true
+    → list_all (λ key. list_all (λ step. not (bytes_eq step.key key)) text_steps) keys ≡ true → AreTexts sent copied keys
+kept_texts sent copied keys is others unread k d h j e g =
+    let key = get_or keys k d in
+    as_sent (get_or (all_of copied key) j e)
+    (is key (
+      not-true _ (AllPass-from_list_all (λ key. not (is_one_of constant_keys key)) keys others k d h),
+      AllPass-from_list_all (λ key. list_all (λ step. not (bytes_eq step.key key)) text_steps) keys unread k d h,
+    ) j e g)
+
+-- after the steps before those that name works, each value is one of the request, or what is read of one as a title
 pub identifiers_under : (sent : List Text) (copied : List KeyValue) → AreKept sent copied
+    → All (λ key. All (IsTextOf sent) (all_of copied key)) title_texts
     → AreRead sent (after (referrer_step ∷ issn_step ∷ eissn_step ∷ isbn_step ∷ date_step ∷ volume_steps ++ page_steps) copied)
-identifiers_under sent copied is =
+identifiers_under sent copied is titles =
+    let P : Text → Type 0 = λ key. All (IsTextOf sent) (all_of copied key) in
+    let known : AreTexts sent copied identifier_keys =
+    All-append P first_keys sent_titles (kept_texts sent copied first_keys is refl refl)
+    (All-append P title_texts old_titles titles (kept_texts sent copied old_titles is refl refl)) in
     let steps = referrer_step ∷ issn_step ∷ eissn_step ∷ isbn_step ∷ date_step ∷ volume_steps ++ page_steps in
     sent_read sent (after steps copied) (λ k d h.
     let key = get_or identifier_keys k d in
-    subst (All (Contains sent)) (sym (same_after steps copied key (AllPass-from_list_all (λ key. list_all (λ step. not (bytes_eq step.key key)) steps)
-    identifier_keys refl k d h)))
-    (is key (
-      not-true _ (AllPass-from_list_all (λ key. not (is_one_of constant_keys key)) identifier_keys refl k d h),
-      AllPass-from_list_all (λ key. list_all (λ step. not (bytes_eq step.key key)) text_steps) identifier_keys refl k d h,
-    )))
+    subst (All (IsTextOf sent)) (sym (same_after steps copied key (AllPass-from_list_all (λ key. list_all (λ step. not (bytes_eq step.key key)) steps)
+    identifier_keys refl k d h))) (known k d h))
 
 -- ---- what a request has
 
@@ -96,9 +122,9 @@ nameable_read sent namespace pairs all = nameable_is (IsRead sent namespace) nam
 -- ---- after a step
 
 -- the values of `rft_id`
-pub named_values : (namespace : Namespace) (pairs : List KeyValue) → all_of (taken pairs (naming namespace)) (codes "rft_id")
+pub source_values : (namespace : Namespace) (pairs : List KeyValue) → all_of (taken pairs (naming namespace)) (codes "rft_id")
     ≡ (named namespace (nameable namespace pairs) (all_of pairs (codes "rft_id"))).values ++ all_of pairs (codes "rft_id")
-named_values namespace pairs =
+source_values namespace pairs =
     let values = all_of pairs (codes "rft_id") in
     let found = nameable namespace pairs in
     all_of-taken-own (naming namespace) pairs
@@ -153,7 +179,7 @@ naming_gives laws sent namespace apart pairs all =
     let key = codes "rft_id" in
     let values = all_of pairs key in
     let P : Text → Type 0 = GivesRead sent key in
-    subst (All P) (sym (named_values namespace pairs))
+    subst (All P) (sym (source_values namespace pairs))
     (All-append P (named namespace (nameable namespace pairs) values).values values
     (each_named P namespace (nameable namespace pairs) values
     (λ n e. uri_read laws sent namespace apart n (nameable_identifier laws namespace pairs n e) (nameable_read sent namespace pairs all n e)))

@@ -12,25 +12,27 @@ use Rattle.openurl_reading.specs.Steps.{Step, unchanged, replacing, taken, after
 use Rattle.openurl_reading.specs.Values.{most_values}
 use Rattle.openurl_reading.specs.Versions.{is_other, correction}
 use Rattle.openurl_reading.specs.OldKeys.{OldKey, old_keys, copies, copied, copying}
-use Rattle.openurl_reading.specs.DublinCore.{is_core, creator, is_typed, core_type, is_sourced, core_source, of_core_title}
-use Rattle.openurl_reading.specs.DublinCore.{is_in_journal, is_of_core_book, core_titles, core_steps}
+use Rattle.openurl_reading.specs.IdentifiedNumbers.{identified_steps}
+use Rattle.openurl_reading.specs.DublinCore.{is_core, creator, is_typed, core_type, core_journal, core_source, core_part, core_year, year_step}
+use Rattle.openurl_reading.specs.DublinCore.{core_parts, of_core_title, is_in_journal, is_of_core_book, core_titles, core_steps}
 use Rattle.openurl_reading.specs.Titles.{is_titled, title_key, title_keys, of_title, titling, titlings}
 use Rattle.openurl_reading.specs.Formats.{formatted, format_of, format_step}
 use Rattle.openurl_reading.specs.Kinds.{kind_of}
-use Rattle.openurl_reading.specs.Citations.{citing_steps}
+use Rattle.openurl_reading.specs.Citations.{without_date, citing_steps}
 use Rattle.openurl_reading.specs.Texts.{text_steps}
 use Rattle.openurl_reading.specs.Referrers.{referrer_of, referrer_step}
 use Rattle.openurl_reading.specs.Numbers.{first_issn, first_eissn, first_isbn, issn_step, eissn_step, isbn_step}
-use Rattle.openurl_reading.specs.Dates.{date_step}
+use Rattle.openurl_reading.specs.Dates.{date_keys, first_date, date_step}
 use Rattle.work_identifiers.specs.declared.namespace.Namespace.{Namespace}
 use Rattle.work_identifiers.specs.declared.namespace.Namespace.TheVariants.{Doi, Pmid, Oclc, Pmc, Arxiv}
 use Rattle.openurl_reading.specs.Identifiers.{nameable, naming, namings}
 use Rattle.openurl_reading.specs.Pages.{first_page, last_page, first_page_step, last_page_step}
-use Rattle.openurl_reading.specs.Volumes.{added_issue, volume, issue, added_issue_step, volume_step, issue_step}
-use Rattle.openurl_reading.proofs.CitingKeeps.{citing_keep}
+use Rattle.openurl_reading.specs.Volumes.{filling, added_issue, volume, issue, added_issue_step, volume_step, issue_step}
+use Rattle.openurl_reading.proofs.CitingKeeps.{filling_keeps, citing_keep}
 use Rattle.openurl_reading.proofs.Copied.{copied-keeps, copying_keeps}
 use Rattle.openurl_reading.proofs.Each.{one_has}
 use Rattle.openurl_reading.proofs.Filled.{MakesSome, KeepsKey, filled_unchanged, filled-keeps, all_keep_filled, copies_fill}
+use Rattle.openurl_reading.proofs.IdentifiedNumbers.{identified_steps_keep}
 use Rattle.openurl_reading.proofs.Led.{led-keeps}
 use Rattle.openurl_reading.proofs.NamedPreprints.{named-keeps}
 use Rattle.openurl_reading.proofs.Others.{bytes_eq-same}
@@ -110,16 +112,28 @@ titlings_keep key = All-map (KeepsKey key) titling title_keys (λ k d h. titling
 pub format_keeps : (key : Text) → KeepsKey key format_step
 format_keeps key = inr (λ p. inl (formatted-keeps p))
 
+pub core_parts_keep : (key : Text) → All (KeepsKey key) core_parts
+core_parts_keep key =
+    let volume = filling (codes "rft.volume") (core_part (λ found. found.volume)) in
+    let issue = filling (codes "rft.issue") (core_part (λ found. found.issue)) in
+    let pages = filling (codes "rft.pages") (core_part (λ found. found.pages)) in
+    All-cons (KeepsKey key) volume (issue ∷ pages ∷ year_step ∷ []) (filling_keeps key (codes "rft.volume") (core_part (λ found. found.volume)))
+    (All-cons (KeepsKey key) issue (pages ∷ year_step ∷ []) (filling_keeps key (codes "rft.issue") (core_part (λ found. found.issue)))
+    (All-cons (KeepsKey key) pages (year_step ∷ []) (filling_keeps key (codes "rft.pages") (core_part (λ found. found.pages)))
+    (one_has (KeepsKey key) year_step
+    (inr (λ p. inl (led-keeps (without_date (first_date date_keys p) (core_year p)) (first_of p (codes "rft.date"))))))))
+
 core_steps_keep : (key : Text) → All (KeepsKey key) core_steps
 core_steps_keep key =
-    All-cons (KeepsKey key) (copying is_core creator) (copying is_typed core_type ∷ copying is_sourced core_source ∷ core_titles)
+    All-cons (KeepsKey key) (copying is_core creator) (copying is_typed core_type ∷ core_source ∷ core_parts ++ core_titles)
     (copying_keeps key is_core creator)
-    (All-cons (KeepsKey key) (copying is_typed core_type) (copying is_sourced core_source ∷ core_titles) (copying_keeps key is_typed core_type)
-    (All-cons (KeepsKey key) (copying is_sourced core_source) core_titles (copying_keeps key is_sourced core_source)
+    (All-cons (KeepsKey key) (copying is_typed core_type) (core_source ∷ core_parts ++ core_titles) (copying_keeps key is_typed core_type)
+    (All-cons (KeepsKey key) core_source (core_parts ++ core_titles) (filling_keeps key (codes "rft.jtitle") core_journal)
+    (All-append (KeepsKey key) core_parts core_titles (core_parts_keep key)
     (All-cons (KeepsKey key) (copying is_in_journal (of_core_title (codes "rft.atitle"))) (copying is_of_core_book (of_core_title (codes "rft.btitle")) ∷ [])
     (copying_keeps key is_in_journal (of_core_title (codes "rft.atitle")))
     (one_has (KeepsKey key) (copying is_of_core_book (of_core_title (codes "rft.btitle")))
-    (copying_keeps key is_of_core_book (of_core_title (codes "rft.btitle")))))))
+    (copying_keeps key is_of_core_book (of_core_title (codes "rft.btitle"))))))))
 
 pub last_keep : (key : Text) → bytes_eq (codes "rft.date") key ≡ false → All (KeepsKey key) last_steps
 last_keep key h =
@@ -136,10 +150,12 @@ after_core_keep key h =
     (All-cons (KeepsKey key) format_step last_steps (format_keeps key) (last_keep key h))
 
 abbrev pub later_steps : List Step
-later_steps = core_steps ++ after_core
+later_steps = identified_steps ++ core_steps ++ after_core
 
 pub later_keep : (key : Text) → bytes_eq (codes "rft.date") key ≡ false → All (KeepsKey key) later_steps
-later_keep key h = All-append (KeepsKey key) core_steps after_core (core_steps_keep key) (after_core_keep key h)
+later_keep key h =
+    All-append (KeepsKey key) identified_steps (core_steps ++ after_core) (identified_steps_keep key)
+    (All-append (KeepsKey key) core_steps after_core (core_steps_keep key) (after_core_keep key h))
 
 old_apart : All (λ key. list_all (λ step. not (bytes_eq step.key key.old)) later_steps ≡ true) old_keys
 old_apart = AllPass-from_list_all (λ key. list_all (λ step. not (bytes_eq step.key key.old)) later_steps) old_keys refl

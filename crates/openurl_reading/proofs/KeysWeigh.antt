@@ -15,7 +15,8 @@ use Rattle.openurl_reading.specs.declared.kinds.Kind.TheVariants.{Book, Disserta
 use Rattle.openurl_reading.specs.Kinds.{kind_of}
 use Rattle.openurl_reading.specs.Fields.{number_fields, identifier_fields, fields}
 use Rattle.openurl_reading.specs.OldKeys.{OldKey, old_keys, copy, copying, copies}
-use Rattle.openurl_reading.specs.DublinCore.{is_core, creator, is_typed, core_type, is_sourced, core_source, core_titles, core_steps}
+use Rattle.openurl_reading.specs.IdentifiedNumbers.{identified, number_key, own_numbers, identified_step, identified_steps}
+use Rattle.openurl_reading.specs.DublinCore.{is_core, creator, is_typed, core_type, core_source, core_parts, core_titles, core_steps}
 use Rattle.openurl_reading.specs.Titles.{title_key, of_title, titlings}
 use Rattle.openurl_reading.specs.Formats.{format_of, format_step}
 use Rattle.openurl_reading.specs.Values.{most_values}
@@ -24,16 +25,21 @@ use Rattle.openurl_reading.specs.Texts.{text_steps}
 use Rattle.openurl_reading.specs.Referrers.{namespace, referrer_of, referrer_step}
 use Rattle.work_identifiers.specs.declared.namespace.Namespace.{Namespace}
 use Rattle.work_identifiers.specs.declared.namespace.Namespace.TheVariants.{Doi, Pmid, Oclc, Pmc, Arxiv}
+use Rattle.work_identifiers.specs.declared.numbers.StandardNumber.{StandardNumber}
+use Rattle.work_identifiers.specs.declared.numbers.StandardNumber.TheVariants.{Issn, Isbn}
 use Rattle.work_identifiers.specs.Forms.{IsIdentifier}
 use Rattle.work_identifiers.specs.Uris.{uri_of}
 use Rattle.openurl_reading.proofs.Additions.{AreDaysAll}
 use Rattle.openurl_reading.proofs.Cited.{AreCitedLight, citing_weighs}
 use Rattle.openurl_reading.proofs.Copied.{IsCopyOf, no_copy, one_copy}
-use Rattle.openurl_reading.proofs.CoreCopied.{creator-is, type-is, source-is, titles-is}
+use Rattle.openurl_reading.proofs.CoreCopied.{creator-is, type-is, titles-is}
 use Rattle.openurl_reading.proofs.FieldsCopied.{number-is, identifier-is}
 use Rattle.openurl_reading.proofs.FoundAre.{AreFound}
 use Rattle.openurl_reading.proofs.Identified.{IsPlain, AreIdentified}
+use Rattle.openurl_reading.proofs.IdentifiedNumbers.{led_alone_weighs}
 use Rattle.openurl_reading.proofs.KeysSettle.{all_apart, same_after}
+use Rattle.openurl_reading.proofs.PartsSourced.{ArePlacedLight, parts_weigh}
+use Rattle.openurl_reading.proofs.Sourced.{AreNamesLight, source_step_weighs}
 use Rattle.openurl_reading.proofs.Stages.{kind_steps}
 use Rattle.openurl_reading.proofs.TextsWeigh.{AreTextsLight, texts_weigh}
 use Rattle.openurl_reading.proofs.Titled.{titlings-are}
@@ -49,6 +55,7 @@ pub record AreLight (g : Text → ℕ) (m : ℕ) (u : Namespace → ℕ) : Type 
   pub days : (pairs : List KeyValue) → AreDaysAll (λ n. g n ≤ m) pairs
   pub version : g version ≤ m
   pub source : (sid : Text) → g (referrer_of sid) ≤ m + g sid
+  pub journal : AreNamesLight g
   pub text : AreTextsLight g
   pub identified : AreIdentified
   pub identifier : (namespace : Namespace) (n : Text) → IsPlain namespace → IsIdentifier namespace n → g n ≤ u namespace
@@ -133,25 +140,36 @@ fields_weigh g pairs =
       same,
     )
 
-core_weighs : (g : Text → ℕ) (pairs : List KeyValue) → total g (after core_steps pairs)
+number_weighs : (g : Text → ℕ) (m : ℕ) (u : Namespace → ℕ) → AreLight g m u → (number : StandardNumber) (pairs : List KeyValue)
+    → total g (taken pairs (identified_step number)) ≤ m + total g pairs
+number_weighs g m u light number pairs =
+    omega (
+      arith,
+      total_taken g (identified_step number) pairs,
+      led_alone_weighs g m (own_numbers number pairs) (identified number pairs) (first_of pairs (number_key number)) (light.found.identified number pairs),
+    )
+
+core_weighs : (g : Text → ℕ) (w : ℕ) → AreNamesLight g → ArePlacedLight g w → (pairs : List KeyValue) → total g (after core_steps pairs)
     ≤ sum_by g (all_of pairs (codes "rft.creator")) + sum_by g (all_of pairs (codes "rft.type")) + sum_by g (all_of pairs (codes "rft.source"))
-    + sum_by g (all_of pairs (codes "rft.title")) + total g pairs
-core_weighs g pairs =
+    + sum_by g (all_of pairs (codes "rft.title")) + 4 * w + total g pairs
+core_weighs g w light placed pairs =
     let first = taken pairs (copying is_core creator) in
     let second = taken first (copying is_typed core_type) in
-    let third = taken second (copying is_sourced core_source) in
+    let third = taken second core_source in
+    let fourth = after core_parts third in
     let types : sum_by g (all_of first (codes "rft.type")) ≡ sum_by g (all_of pairs (codes "rft.type")) =
     ap (sum_by g) (same_after (copying is_core creator ∷ []) pairs (codes "rft.type") refl) in
     let sources : sum_by g (all_of second (codes "rft.source")) ≡ sum_by g (all_of pairs (codes "rft.source")) =
     ap (sum_by g) (same_after (copying is_core creator ∷ copying is_typed core_type ∷ []) pairs (codes "rft.source") refl) in
-    let titles : sum_by g (all_of third (codes "rft.title")) ≡ sum_by g (all_of pairs (codes "rft.title")) =
-    ap (sum_by g) (same_after (copying is_core creator ∷ copying is_typed core_type ∷ copying is_sourced core_source ∷ []) pairs (codes "rft.title") refl) in
+    let titles : sum_by g (all_of fourth (codes "rft.title")) ≡ sum_by g (all_of pairs (codes "rft.title")) =
+    ap (sum_by g) (same_after (copying is_core creator ∷ copying is_typed core_type ∷ core_source ∷ core_parts) pairs (codes "rft.title") refl) in
     omega (
       arith,
       copy_of_weighs g (codes "rft.creator") pairs first (creator-is pairs),
       copy_of_weighs g (codes "rft.type") first second (type-is first),
-      copy_of_weighs g (codes "rft.source") second third (source-is second),
-      copy_of_weighs g (codes "rft.title") third (after core_titles third) (titles-is third),
+      source_step_weighs g light second,
+      parts_weigh g w placed third,
+      copy_of_weighs g (codes "rft.title") fourth (after core_titles fourth) (titles-is fourth),
       types,
       sources,
       titles,
@@ -163,13 +181,15 @@ olds_after_fields g pairs =
     shares-same g (olds old_keys) (after fields pairs) pairs (λ k d h. same_after fields pairs (get_or (olds old_keys) k d)
     (AllPass-from_list_all (λ key. list_all (λ step. not (bytes_eq step.key key)) fields) (olds old_keys) refl k d h))
 
-pub keys_weigh : (g : Text → ℕ) (m f w : ℕ) (u : Namespace → ℕ) → AreLight g m u → AreFormatsLight g f → AreCitedLight g w → (before : List KeyValue)
+pub keys_weigh : (g : Text → ℕ) (m f w : ℕ) (u : Namespace → ℕ) → AreLight g m u → AreFormatsLight g f → AreCitedLight g w → ArePlacedLight g w
+    → (before : List KeyValue)
     → total g (taken (after text_steps (after citing_steps (after kind_steps (after copies (after fields before))))) referrer_step)
-    ≤ m + f + 5 * w + 2 * total g before
-keys_weigh g m f w u light formats cited before =
+    ≤ 3 * m + f + 9 * w + 2 * total g before
+keys_weigh g m f w u light formats cited sourced before =
     let pairs = after fields before in
     let copied = after copies pairs in
-    let core = after core_steps copied in
+    let numbered = after identified_steps copied in
+    let core = after core_steps numbered in
     let titled = after titlings core in
     let kinds = taken titled format_step in
     let placed = after citing_steps kinds in
@@ -181,11 +201,12 @@ keys_weigh g m f w u light formats cited before =
     ap (sum_by g) (same_after text_steps placed (codes "sid") refl ∙ same_after citing_steps kinds (codes "sid") refl
     ∙ same_after kind_steps copied (codes "sid") refl ∙ same_after copies pairs (codes "sid") refl
     ∙ same_after fields before (codes "sid") refl) in
-    let under : (key : Text) → list_all (λ step. not (bytes_eq step.key key)) copies ≡ true → list_all (λ step. not (bytes_eq step.key key)) fields ≡ true
-    → sum_by g (all_of copied key) ≡ sum_by g (all_of before key) =
-    λ key h i. ap (sum_by g) (same_after copies pairs key h ∙ same_after fields before key i) in
+    let under : (key : Text) → list_all (λ step. not (bytes_eq step.key key)) identified_steps ≡ true
+    → list_all (λ step. not (bytes_eq step.key key)) copies ≡ true → list_all (λ step. not (bytes_eq step.key key)) fields ≡ true
+    → sum_by g (all_of numbered key) ≡ sum_by g (all_of before key) =
+    λ key k h i. ap (sum_by g) (same_after identified_steps copied key k ∙ same_after copies pairs key h ∙ same_after fields before key i) in
     let titles : sum_by g (all_of core (codes "title")) ≡ sum_by g (all_of before (codes "title")) =
-    ap (sum_by g) (same_after core_steps copied (codes "title") refl) ∙ under (codes "title") refl refl in
+    ap (sum_by g) (same_after core_steps numbered (codes "title") refl) ∙ under (codes "title") refl refl refl in
     let each = shares-le g
     (codes "number" ∷ codes "identifier" ∷ codes "rft.creator" ∷ codes "rft.type" ∷ codes "rft.source" ∷ codes "rft.title" ∷ codes "title" ∷ codes "sid" ∷
     olds old_keys)
@@ -201,11 +222,13 @@ keys_weigh g m f w u light formats cited before =
       format_weighs g f formats titled,
       titlings_weigh g core,
       titles,
-      core_weighs g copied,
-      under (codes "rft.creator") refl refl,
-      under (codes "rft.type") refl refl,
-      under (codes "rft.source") refl refl,
-      under (codes "rft.title") refl refl,
+      core_weighs g w light.journal sourced numbered,
+      number_weighs g m u light Issn copied,
+      number_weighs g m u light Isbn (taken copied (identified_step Issn)),
+      under (codes "rft.creator") refl refl refl,
+      under (codes "rft.type") refl refl refl,
+      under (codes "rft.source") refl refl refl,
+      under (codes "rft.title") refl refl refl,
       copies_weigh g old_keys pairs all_apart,
       olds_after_fields g before,
       fields_weigh g before,

@@ -11,13 +11,17 @@ pub mod CitedParts
 pub mod CitingKeeps
 pub mod Copied
 pub mod CoreCopied
+pub mod CoreParts
+pub mod CoreYear
 pub mod CoreFalls
 pub mod CoreSettles
 pub mod CountedPairs
 pub mod DateLed
 pub mod Each
+pub mod Ends
 pub mod FieldsCopied
 pub mod Filled
+pub mod Fillings
 pub mod Firsts
 pub mod Formatted
 pub mod FoundAgain
@@ -27,6 +31,10 @@ pub mod IdentifierForms
 pub mod IdentifierOrigins
 pub mod PreprintOrigins
 pub mod Identified
+pub mod IdentifiedNumbers
+pub mod IdentifiedAgain
+pub mod IdentifiedSettle
+pub mod IdentifiedOrigins
 pub mod KeysSettle
 pub mod KeysWeigh
 pub mod KindStays
@@ -42,6 +50,9 @@ pub mod Others
 pub mod PagesFound
 pub mod PagesLed
 pub mod PagesStay
+pub mod PartsPass
+pub mod PartsSettle
+pub mod PartsSourced
 pub mod Passing
 pub mod PlainNumbers
 pub mod ReadOnce
@@ -59,6 +70,8 @@ pub mod TextsRead
 pub mod TextsSome
 pub mod TextsWeigh
 pub mod Titled
+pub mod SoughtTexts
+pub mod Sourced
 pub mod Totals
 pub mod Values
 pub mod VolumeLaws

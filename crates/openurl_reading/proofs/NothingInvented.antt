@@ -1,5 +1,5 @@
 -- Each value of a reading has an origin.
-use Rattle.std.proofs.Common.{◌≡◌, List, [], ◌∷◌, true, not, Option, Some, None, refl, sym, subst, get_or, lit<}
+use Rattle.std.proofs.Common.{◌≡◌, List, [], ◌∷◌, ◌++◌, true, not, Option, Some, None, refl, sym, subst, get_or, lit<}
 use Rattle.std.specs.Prelude.{codes, Contains, option_and_then}
 use Rattle.std.specs.List.{All, list_all}
 use Rattle.std.specs.Str.{bytes_eq}
@@ -11,16 +11,18 @@ use Rattle.kev_read.specs.Pairs.{KeyValue, all_of, first_of}
 use Rattle.openurl_reading.specs.Counting.{counting}
 use Rattle.openurl_reading.specs.Keys.{is_one_of}
 use Rattle.openurl_reading.specs.Steps.{taken, after}
-use Rattle.openurl_reading.specs.OldKeys.{old_keys, copies}
-use Rattle.openurl_reading.specs.DublinCore.{core_steps}
+use Rattle.openurl_reading.specs.OldKeys.{old_keys, copies, copying}
+use Rattle.openurl_reading.specs.IdentifiedNumbers.{identified_step, identified_steps}
+use Rattle.openurl_reading.specs.DublinCore.{is_core, creator, is_typed, core_type, core_journal, core_source, core_steps}
 use Rattle.openurl_reading.specs.Titles.{titlings}
 use Rattle.openurl_reading.specs.Citations.{citing_steps}
-use Rattle.openurl_reading.specs.Texts.{text_steps}
+use Rattle.openurl_reading.specs.Texts.{title_texts, text_steps}
 use Rattle.openurl_reading.specs.Referrers.{referrer_step}
 use Rattle.openurl_reading.specs.Numbers.{first_number, issn_step, eissn_step, isbn_step}
 use Rattle.openurl_reading.specs.Dates.{date_step}
 use Rattle.work_identifiers.specs.declared.namespace.Namespace.{Namespace}
 use Rattle.work_identifiers.specs.declared.namespace.Namespace.TheVariants.{Doi, Pmid, Oclc, Pmc, Arxiv}
+use Rattle.work_identifiers.specs.declared.numbers.StandardNumber.TheVariants.{Issn, Isbn}
 use Rattle.openurl_reading.specs.Identifiers.{first_under, nameable, naming, namings}
 use Rattle.openurl_reading.specs.EncodedDois.{encoded_doi}
 use Rattle.work_identifiers.specs.Uris.{uri_of}
@@ -29,7 +31,7 @@ use Rattle.openurl_reading.specs.ArticleNumbers.{article_in}
 use Rattle.openurl_reading.specs.Pages.{first_page, last_page, first_page_step, last_page_step, page_steps}
 use Rattle.openurl_reading.specs.Volumes.{added_issue, volume, issue, added_issue_step, volume_step, issue_step, volume_steps}
 use Rattle.openurl_reading.specs.Reading.{normal_form, issns_of, derived, with_derived}
-use Rattle.openurl_reading.specs.Origins.{HasOrigin, from_request, encoding_of_doi, all_values, read_values}
+use Rattle.openurl_reading.specs.Origins.{IsTextOf, HasOrigin, from_request, encoding_of_doi, all_values, read_values, sourced_values}
 use Rattle.openurl_reading.proofs.Additions.{AreDaysAll, derived_values}
 use Rattle.openurl_reading.proofs.Apart.{apart}
 use Rattle.openurl_reading.proofs.CitedParts.{more_values, cited_sent, cited_have}
@@ -38,24 +40,23 @@ use Rattle.openurl_reading.proofs.Each.{each_led, each_named}
 use Rattle.openurl_reading.proofs.Firsts.{of_first}
 use Rattle.openurl_reading.proofs.FoundAgain.{AreFoundAgain, first_has}
 use Rattle.openurl_reading.proofs.Identified.{IsPlain, AreIdentified}
-use Rattle.openurl_reading.proofs.IdentifierOrigins.{AreRead, IsApart, identifiers_under, nameable_read, naming_read}
-use Rattle.openurl_reading.proofs.PreprintOrigins.{HaveOrigins}
-use Rattle.openurl_reading.proofs.IdentifierOrigins.{uri_has_origin}
-use Rattle.openurl_reading.proofs.PreprintOrigins.{preprint_origins, doi_origins, first_origin, referent_origin}
+use Rattle.openurl_reading.proofs.IdentifierOrigins.{uri_has_origin, AreRead, IsApart, identifiers_under, nameable_read, naming_read}
+use Rattle.openurl_reading.proofs.PreprintOrigins.{HaveOrigins, preprint_origins, doi_origins, first_origin, referent_origin}
 use Rattle.openurl_reading.proofs.KeysSettle.{same_after}
-use Rattle.openurl_reading.proofs.Origins.{no_number}
-use Rattle.openurl_reading.proofs.Origins.{isbn_has}
+use Rattle.openurl_reading.proofs.IdentifiedOrigins.{issns_give, isbns_give, identified_have}
+use Rattle.openurl_reading.proofs.Origins.{GivesIssns, GivesIsbns, no_number, isbn_has}
 use Rattle.openurl_reading.proofs.Origins.{GivesPage, page_keys, first_page_has, last_page_has, issns_have, second_has}
-use Rattle.openurl_reading.proofs.Sent.{constant_keys, IsUnread, AreKept, counting_values, kind_sent}
-use Rattle.openurl_reading.proofs.Stages.{kind_steps, led_steps, with_versions, with_fields, normal_form-led}
-use Rattle.openurl_reading.proofs.TextOrigins.{texts_kept, texts_have, pages_give}
+use Rattle.openurl_reading.proofs.PartsSourced.{IsPlaced, place_map}
+use Rattle.openurl_reading.proofs.Sent.{constant_keys, IsUnread, AreKept, counting_values, copied_sent, stated_sent, identified_sent, kind_sent}
+use Rattle.openurl_reading.proofs.Sent.{source_more, journal_sent, parts_sent, typed_sent}
+use Rattle.openurl_reading.proofs.Stages.{kind_steps, titled_steps, led_steps, with_versions, with_fields, normal_form-led}
+use Rattle.openurl_reading.proofs.TextOrigins.{texts_kept, texts_have, titles_give, pages_give}
 use Rattle.openurl_reading.proofs.VolumesFound.{AreNumbersAgain}
 use Rattle.openurl_reading.proofs.VolumeOrigins.{GivesIssues, issues_give, added_has, volume_has, issue_has}
 use Rattle.openurl_reading.proofs.Values.{all_of-taken, all_of-taken-own}
 use Rattle.openurl_reading.proofs.ReadValues.{HaveOrigin, versions_have, copies_have, fields_have, core_has, titlings_have, format_has}
 use Rattle.openurl_reading.proofs.ReadValues.{Reads, other_reads, referrer_reads, issn_reads}
-use Rattle.openurl_reading.proofs.ReadValues.{eissn_reads}
-use Rattle.openurl_reading.proofs.ReadValues.{isbn_reads, dates_under, date_reads}
+use Rattle.openurl_reading.proofs.ReadValues.{eissn_reads, isbn_reads, dates_under, date_reads}
 
 -- ---- volume and issue
 
@@ -168,8 +169,10 @@ namings_read identified sent pairs reads =
     (apart_reads identified sent Oclc (refl, apart Oclc Doi refl) pairs reads))))
 
 last_reads : AreFoundAgain → AreNumbersAgain → AreIdentified → (sent : List Text) (copied : List KeyValue) → AreKept sent copied
-    → All (GivesPage sent) (all_of copied (codes "rft.pages")) → HaveOrigin sent copied → HaveAll sent (after led_steps copied)
-last_reads laws numbers identified sent copied is pages all =
+    → All (GivesPage sent) (all_of copied (codes "rft.pages")) → All (GivesIssns sent) (all_of copied (codes "rft.issn"))
+    → All (GivesIsbns sent) (all_of copied (codes "rft.isbn")) → All (λ key. All (IsTextOf sent) (all_of copied key)) title_texts
+    → HaveOrigin sent copied → HaveAll sent (after led_steps copied)
+last_reads laws numbers identified sent copied is pages issns isbns titles all =
     namings_read identified sent _ record {
       numbers = pages_read sent _ (pages_under sent copied is)
           (subst (All (GivesPage sent))
@@ -177,8 +180,8 @@ last_reads laws numbers identified sent copied is pages all =
           (volumes_read numbers sent _ (sent_before sent copied is (codes "rft.volume") (refl, refl) refl)
           (sent_before sent copied is (codes "rft.issue") (refl, refl) refl)
           (date_reads sent _ (dates_under sent copied is)
-          (isbn_reads laws sent _ (eissn_reads laws sent _ (issn_reads laws sent _ (referrer_reads sent copied is all))))));
-      identifiers = identifiers_under sent copied is;
+          (isbn_reads laws sent _ (eissn_reads laws sent _ (issn_reads laws sent _ (referrer_reads sent copied is issns isbns all))))));
+      identifiers = identifiers_under sent copied is titles;
     }
 
 -- ---- all
@@ -211,18 +214,37 @@ nothing_invented laws numbers identified request =
     let first = counting request in
     let known = counting_values request in
     let origins : HaveOrigin sent first =
-    λ k d h. let value = (get_or first k d).value in from_request value (more_values request value (known k d h)) in
+    λ k d h. let value = (get_or first k d).value in from_request value (more_values request value (source_more request value (known k d h))) in
     let versions = versions_have sent first origins in
     let copied = after copies (with_fields first) in
-    let core = after core_steps copied in
+    let stated = copied_sent sent first
+    (λ k d h. let value = (get_or first k d).value in more_values request value (source_more request value (known k d h))) in
+    let numbered = after identified_steps copied in
+    let core = after core_steps numbered in
+    let all = all_values request in
+    let typed = typed_sent all numbered (identified_sent all copied (stated_sent all copied (copied_sent all first known))) in
+    let second = taken (taken numbered (copying is_core creator)) (copying is_typed core_type) in
+    let journal : (n : Text) → core_journal second ≡ Some n → HasOrigin sent n =
+    λ n e. from_request n (more_values request n (journal_sent request second typed n e)) in
+    let placed : IsPlaced (HasOrigin sent) (taken second core_source) =
+    λ found e. place_map (Contains (sourced_values request)) (HasOrigin sent) found (λ n c. from_request n (more_values request n c))
+    (parts_sent request second typed found e) in
     let origins' = format_has sent (after titlings core)
-    (titlings_have sent core (core_has sent copied (copies_have sent old_keys (with_fields first) (fields_have sent (with_versions first) versions)))) in
+    (titlings_have sent core (core_has sent numbered journal placed
+    (identified_have sent copied (stated_sent sent copied stated)
+    (copies_have sent old_keys (with_fields first) (fields_have sent (with_versions first) versions))))) in
     let kinds = after kind_steps copied in
-    let values = kind_sent (all_values request) first known in
+    let values = kind_sent request first known in
     let cited = after citing_steps kinds in
     let is = cited_sent request kinds values in
     let kept = texts_kept sent cited is in
-    let reads = last_reads laws numbers identified sent (after text_steps cited) kept (pages_give sent cited is)
+    let texts = after text_steps cited in
+    let issns = subst (All (GivesIssns sent))
+    (sym (same_after (identified_step Isbn ∷ titled_steps ++ citing_steps ++ text_steps) (taken copied (identified_step Issn)) (codes "rft.issn") refl))
+    (issns_give laws sent copied stated) in
+    let isbns = subst (All (GivesIsbns sent)) (sym (same_after (titled_steps ++ citing_steps ++ text_steps) numbered (codes "rft.isbn") refl))
+    (isbns_give laws sent copied stated) in
+    let reads = last_reads laws numbers identified sent texts kept (pages_give sent cited is) issns isbns (titles_give sent cited is)
     (texts_have sent cited is (cited_have request kinds values origins')) in
-    let days = days_have laws sent (after text_steps cited) kept in
+    let days = days_have laws sent texts kept in
     subst (λ pairs. HaveOrigin sent (with_derived pairs)) (sym (normal_form-led first)) (derived_have sent _ reads days)

@@ -18,7 +18,7 @@ use Rattle.openurl_reading.proofs.FoundAre.{IsAll}
 use Rattle.openurl_reading.proofs.Identified.{IsPlain, AreIdentified, found_is, nameable_identifier, uri_has_none, some_same, none_given}
 use Rattle.openurl_reading.proofs.Named.{plain_has}
 use Rattle.openurl_reading.proofs.IdentifierOrigins.{identifier_has_origin, uri_has_origin, GivesRead, AreRead}
-use Rattle.openurl_reading.proofs.IdentifierOrigins.{nameable_read, named_values, with_values}
+use Rattle.openurl_reading.proofs.IdentifierOrigins.{nameable_read, source_values, with_values}
 
 -- ---- what has its origin in the request, also after the steps of DOIs and of arXiv
 
@@ -77,7 +77,7 @@ preprint_gives laws sent pairs all =
     let key = codes "rft_id" in
     let values = all_of pairs key in
     let P : Text → Type 0 = GivesOrigin sent key in
-    subst (All P) (sym (named_values Arxiv pairs))
+    subst (All P) (sym (source_values Arxiv pairs))
     (All-append P (named Arxiv (nameable Arxiv pairs) values).values values
     (each_named P Arxiv (nameable Arxiv pairs) values
     (λ n e.
@@ -106,7 +106,7 @@ doi_gives laws sent pairs all =
     let key = codes "rft_id" in
     let values = all_of pairs key in
     let P : Text → Type 0 = GivesOrigin sent key in
-    subst (All P) (sym (named_values Doi pairs))
+    subst (All P) (sym (source_values Doi pairs))
     (All-append P (named Doi (nameable Doi pairs) values).values values
     (each_named P Doi (nameable Doi pairs) values
     (λ n e. let has = first_origin sent pairs all n e in doi_origin laws sent (uri_of Doi n) n refl (nameable_identifier laws Doi pairs n e) has.0 has.1))

@@ -15,14 +15,16 @@ use Rattle.openurl_reading.specs.Referrers.{referrer_of, referrer_step}
 use Rattle.openurl_reading.specs.Numbers.{first_issn, first_eissn, first_isbn, issn_step, eissn_step, isbn_step}
 use Rattle.openurl_reading.specs.Dates.{date_keys, first_date, led_or_none, date_step}
 use Rattle.openurl_reading.specs.Kinds.{kind_of}
-use Rattle.openurl_reading.specs.DublinCore.{is_core, creator, is_typed, core_type, is_sourced, core_source, core_titles, core_steps}
+use Rattle.openurl_reading.specs.DublinCore.{is_core, creator, is_typed, core_type, core_journal, core_source, core_parts, core_titles, core_steps}
 use Rattle.openurl_reading.specs.Titles.{title_key, of_title, titlings}
 use Rattle.openurl_reading.specs.Formats.{format_of, format_step}
 use Rattle.openurl_reading.specs.Origins.{HasOrigin, version_of_openurl, encoding_of_readings, format_of_kind, source_in}
 use Rattle.openurl_reading.proofs.Copied.{IsCopyOf, no_copy, one_copy}
-use Rattle.openurl_reading.proofs.CoreCopied.{creator-is, type-is, source-is, titles-is}
+use Rattle.openurl_reading.proofs.CoreCopied.{creator-is, type-is, titles-is}
 use Rattle.openurl_reading.proofs.Each.{none_has, one_has, each_taken, each_of_key, each_filled, each_led}
 use Rattle.openurl_reading.proofs.FieldsCopied.{number-is, identifier-is}
+use Rattle.openurl_reading.proofs.Fillings.{each_filling}
+use Rattle.openurl_reading.proofs.PartsSourced.{IsPlaced, each_parts}
 use Rattle.openurl_reading.proofs.FoundAgain.{AreFoundAgain, issn_among_again, eissn_among_again, isbn_among_again}
 use Rattle.openurl_reading.proofs.KeysSettle.{same_after}
 use Rattle.openurl_reading.proofs.Origins.{number_keys, no_number}
@@ -79,14 +81,18 @@ fields_have sent pairs all =
     copy_of_has sent (codes "identifier") next (after identifier_fields next) (identifier-is next)
     (copy_of_has sent (codes "number") pairs next (number-is pairs) all)
 
-pub core_has : (sent : List Text) (pairs : List KeyValue) → HaveOrigin sent pairs → HaveOrigin sent (after core_steps pairs)
-core_has sent pairs all =
+pub core_has : (sent : List Text) (pairs : List KeyValue) → let second = taken (taken pairs (copying is_core creator)) (copying is_typed core_type) in
+    ((n : Text) → core_journal second ≡ Some n → HasOrigin sent n) → IsPlaced (HasOrigin sent) (taken second core_source)
+    → HaveOrigin sent pairs → HaveOrigin sent (after core_steps pairs)
+core_has sent pairs journal placed all =
     let first = taken pairs (copying is_core creator) in
     let second = taken first (copying is_typed core_type) in
-    let third = taken second (copying is_sourced core_source) in
-    copy_of_has sent (codes "rft.title") third (after core_titles third) (titles-is third)
-    (copy_of_has sent (codes "rft.source") second third (source-is second)
-    (copy_of_has sent (codes "rft.type") first second (type-is first) (copy_of_has sent (codes "rft.creator") pairs first (creator-is pairs) all)))
+    let third = taken second core_source in
+    let fourth = after core_parts third in
+    copy_of_has sent (codes "rft.title") fourth (after core_titles fourth) (titles-is fourth)
+    (each_parts (λ pair. HasOrigin sent pair.value) (HasOrigin sent) (λ key v may has. has) third placed
+    (each_filling (λ pair. HasOrigin sent pair.value) (codes "rft.jtitle") core_journal second journal
+    (copy_of_has sent (codes "rft.type") first second (type-is first) (copy_of_has sent (codes "rft.creator") pairs first (creator-is pairs) all))))
 
 pub titlings_have : (sent : List Text) (pairs : List KeyValue) → HaveOrigin sent pairs → HaveOrigin sent (after titlings pairs)
 titlings_have sent pairs all =
@@ -126,10 +132,10 @@ pub record Reads (sent : List Text) (pairs : List KeyValue) : Type 0 where
   pub eisbns : All (GivesIsbns sent) (all_of pairs (codes "rft.eisbn"))
   pub all : HaveOrigin sent pairs
 
-give_issns : (sent values : List Text) → All (Contains sent) values → All (GivesIssns sent) values
+pub give_issns : (sent values : List Text) → All (Contains sent) values → All (GivesIssns sent) values
 give_issns sent values all k d h = sent_gives_issns sent (get_or values k d) (all k d h)
 
-give_isbns : (sent values : List Text) → All (Contains sent) values → All (GivesIsbns sent) values
+pub give_isbns : (sent values : List Text) → All (Contains sent) values → All (GivesIsbns sent) values
 give_isbns sent values all k d h = sent_gives_isbns sent (get_or values k d) (all k d h)
 
 -- a step of another key leaves what is read under a key
@@ -150,14 +156,15 @@ step_reads sent step pairs apart values reads issns eissns isbns = record {
   all = step_has sent step pairs values reads.all;
 }
 
-pub referrer_reads : (sent : List Text) (pairs : List KeyValue) → AreKept sent pairs → HaveOrigin sent pairs → Reads sent (taken pairs referrer_step)
-referrer_reads sent pairs is all =
+pub referrer_reads : (sent : List Text) (pairs : List KeyValue) → AreKept sent pairs → All (GivesIssns sent) (all_of pairs (codes "rft.issn"))
+    → All (GivesIsbns sent) (all_of pairs (codes "rft.isbn")) → HaveOrigin sent pairs → Reads sent (taken pairs referrer_step)
+referrer_reads sent pairs is issns isbns all =
     let under : (key : Text) → IsUnread key → All (Contains sent) (all_of pairs key) = λ key other. is key other in
     record {
-      issns = kept_under (GivesIssns sent) referrer_step pairs (codes "rft.issn") refl (give_issns sent _ (under (codes "rft.issn") (refl, refl)));
+      issns = kept_under (GivesIssns sent) referrer_step pairs (codes "rft.issn") refl issns;
       eissns = kept_under (GivesIssns sent) referrer_step pairs (codes "rft.eissn") refl
           (give_issns sent _ (under (codes "rft.eissn") (refl, refl)));
-      isbns = kept_under (GivesIsbns sent) referrer_step pairs (codes "rft.isbn") refl (give_isbns sent _ (under (codes "rft.isbn") (refl, refl)));
+      isbns = kept_under (GivesIsbns sent) referrer_step pairs (codes "rft.isbn") refl isbns;
       eisbns = kept_under (GivesIsbns sent) referrer_step pairs (codes "rft.eisbn") refl
           (give_isbns sent _ (under (codes "rft.eisbn") (refl, refl)));
       all = referrer_has sent pairs is all;

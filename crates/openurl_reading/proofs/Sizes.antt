@@ -1,9 +1,9 @@
 -- How large a reading is.
-use Rattle.std.proofs.Common.{◌≡◌, ℕ, ◌+◌, ◌≤◌, ◌*◌, List, [], ◌∷◌, ◌++◌, Bool, true, false, cond}
+use Rattle.std.proofs.Common.{◌≡◌, ℕ, ◌+◌, ◌≤◌, ◌*◌, List, [], ◌∷◌, Bool, true, false, cond}
 use Rattle.std.proofs.Common.{map, Option, Some, None, refl, subst, sym, length, arith}
 use Rattle.std.specs.Prelude.{codes}
 use Rattle.std.specs.List.{sum_by}
-use Rattle.std.proofs.lemmas.List.Sums.{sum_by-take-le, sum_by-cons, sum_by-append}
+use Rattle.std.proofs.lemmas.List.Sums.{sum_by-take-le, sum_by-cons}
 use Rattle.text_model.specs.Texts.{Text}
 use Rattle.kev_read.specs.Pairs.{KeyValue, all_of, first_of}
 use Rattle.openurl_reading.specs.Counting.{is_accepted, most_pairs, accepted, counting}
@@ -32,6 +32,7 @@ use Rattle.openurl_reading.proofs.KeysWeigh.{AreLight, AreFormatsLight, all_thre
 use Rattle.openurl_reading.proofs.VolumeLaws.{AreFoundNumbers, added_issue_is, found_volume_is, found_issue_is}
 use Rattle.openurl_reading.proofs.ArticlesFound.{article_short}
 use Rattle.openurl_reading.proofs.PagesFound.{ArePagesShort, first_page_is, last_page_is}
+use Rattle.openurl_reading.proofs.PartsSourced.{ArePlacedLight}
 use Rattle.openurl_reading.proofs.Stages.{after_dates, kind_steps, led_steps, with_versions, normal_form-led}
 use Rattle.openurl_reading.proofs.Totals.{total, total_taken, led_weighs, named_weighs}
 
@@ -141,10 +142,10 @@ last_weigh g m r p q u light numbers pages pairs =
 
 -- twice the request, and some numbers, dates and identifiers
 pub reading_weighs : (g : Text → ℕ) (m x f w r p q : ℕ) (u : Namespace → ℕ) → AreLight g m u → AreEncodedLight g x → AreFormatsLight g f
-    → AreCitedLight g w → AreFoundNumbers (λ t. g t ≤ r) → ArePagesLight g p q → (pairs : List KeyValue)
+    → AreCitedLight g w → ArePlacedLight g w → AreFoundNumbers (λ t. g t ≤ r) → ArePagesLight g p q → (pairs : List KeyValue)
     → total g (with_derived (normal_form pairs))
-    ≤ 2 * total g pairs + 14 * m + x + 2 * g encoding + f + 5 * w + 3 * r + p + q + 2 * all_three u + both_others u
-reading_weighs g m x f w r p q u light small formats cited numbers pages pairs =
+    ≤ 2 * total g pairs + 16 * m + x + 2 * g encoding + f + 9 * w + 3 * r + p + q + 2 * all_three u + both_others u
+reading_weighs g m x f w r p q u light small formats cited placed numbers pages pairs =
     let first = taken pairs (correction (codes "ctx_ver") version) in
     let stated = taken first (correction (codes "url_ver") version) in
     let second = with_versions pairs in
@@ -152,13 +153,13 @@ reading_weighs g m x f w r p q u light small formats cited numbers pages pairs =
     let texts = after text_steps (after citing_steps kinds) in
     let named = taken texts referrer_step in
     subst (λ normal. total g (with_derived normal)
-    ≤ 2 * total g pairs + 14 * m + x + 2 * g encoding + f + 5 * w + 3 * r + p + q + 2 * all_three u + both_others u)
+    ≤ 2 * total g pairs + 16 * m + x + 2 * g encoding + f + 9 * w + 3 * r + p + q + 2 * all_three u + both_others u)
     (sym (normal_form-led pairs))
     (omega (
       arith,
       derived_weigh g m x u light small (after led_steps texts),
       last_weigh g m r p q u light numbers pages named,
-      keys_weigh g m f w u light formats cited second,
+      keys_weigh g m f w u light formats cited placed second,
       correction_weighs g (codes "ctx_enc") encoding stated,
       correction_weighs g (codes "url_ver") version first,
       correction_weighs g (codes "ctx_ver") version pairs,

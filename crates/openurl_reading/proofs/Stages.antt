@@ -7,6 +7,7 @@ use Rattle.openurl_reading.specs.Steps.{Step, taken, after}
 use Rattle.openurl_reading.specs.Versions.{versions}
 use Rattle.openurl_reading.specs.Fields.{fields}
 use Rattle.openurl_reading.specs.OldKeys.{copies}
+use Rattle.openurl_reading.specs.IdentifiedNumbers.{identified_steps}
 use Rattle.openurl_reading.specs.DublinCore.{core_steps}
 use Rattle.openurl_reading.specs.Titles.{titlings}
 use Rattle.openurl_reading.specs.Formats.{format_step}
@@ -35,8 +36,12 @@ abbrev pub last_steps : List Step
 last_steps = citing_steps ++ text_steps ++ led_steps
 
 -- those that ask for the kind or the format
+abbrev pub titled_steps : List Step
+titled_steps = core_steps ++ titlings ++ format_step ∷ []
+
+-- with those before them, which may say what the kind is
 abbrev pub kind_steps : List Step
-kind_steps = core_steps ++ titlings ++ format_step ∷ []
+kind_steps = identified_steps ++ titled_steps
 
 abbrev pub with_versions : List KeyValue → List KeyValue
 with_versions pairs = after versions pairs

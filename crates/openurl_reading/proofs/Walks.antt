@@ -1,7 +1,7 @@
 -- One value more of those that a loop goes over, or one pair more.
 use Rattle.std.proofs.Common.{◌≡◌, ℕ, ◌+◌, ◌<◌, ◌≤◌, List, [], ◌∷◌, ◌++◌, Bool, true, false, cond, not, ◌&&◌, ◌||◌, Option, Some, None}
-use Rattle.std.proofs.Common.{length, get_or, take, drop, filter, map, sym, ap, ◌∙◌, append-nil}
-use Rattle.std.specs.Prelude.{◌==◌}
+use Rattle.std.proofs.Common.{length, get_or, take, drop, filter, map, refl, sym, ap, ◌∙◌, append-nil}
+use Rattle.std.specs.Prelude.{◌==◌, slice_get}
 use Rattle.std.specs.Borrow.{Bor}
 use Rattle.std.specs.Char.{to_ascii_uppercase}
 use Rattle.std.specs.List.{flat_map, list_all, list_any}
@@ -18,7 +18,7 @@ use Rattle.openurl_reading.proofs.Identified.{first_found, found-cons}
 
 -- ---- what is found in values
 
-flat_more : (f : Text → List Text) (texts : List (Bor Text)) (i : ℕ) (d : Bor Text) → i < length texts
+flat_more : {Y : Type 0} (f : Text → List Y) (texts : List (Bor Text)) (i : ℕ) (d : Bor Text) → i < length texts
     → flat_map f (texts_of (take (i + 1) texts)) ≡ flat_map f (texts_of (take i texts)) ++ f (get_or texts i d).now
 flat_more f texts i d h =
     let value = (get_or texts i d).now in
@@ -27,13 +27,13 @@ flat_more f texts i d h =
     ∙ ap (flat_map f) (map_push (λ (b : Bor Text). b.now) (take i texts) (get_or texts i d))
     ∙ flat_map-append f (texts_of (take i texts)) (value ∷ []) ∙ ap (λ l. so_far ++ l) (append-nil (f value))
 
-pub flat_pushed : (f : Text → List Text) (texts : List (Bor Text)) (i : ℕ) (d : Bor Text) (found pushed more : List Text) → i < length texts
+pub flat_pushed : {Y : Type 0} (f : Text → List Y) (texts : List (Bor Text)) (i : ℕ) (d : Bor Text) (found pushed more : List Y) → i < length texts
     → pushed ≡ found ++ more → more ≡ f (get_or texts i d).now → found ≡ flat_map f (texts_of (take i texts))
     → pushed ≡ flat_map f (texts_of (take (i + 1) texts))
 flat_pushed f texts i d found pushed more h p e so_far =
     p ∙ ap (λ l. l ++ more) so_far ∙ ap (λ l. flat_map f (texts_of (take i texts)) ++ l) e ∙ sym (flat_more f texts i d h)
 
-pub flat_all : (f : Text → List Text) (texts : List (Bor Text)) (i : ℕ) (found : List Text) → length texts ≤ i
+pub flat_all : {Y : Type 0} (f : Text → List Y) (texts : List (Bor Text)) (i : ℕ) (found : List Y) → length texts ≤ i
     → found ≡ flat_map f (texts_of (take i texts)) → found ≡ flat_map f (texts_of texts)
 flat_all f texts i found h so_far = so_far ∙ ap (λ l. flat_map f (texts_of l)) (take_all i texts h)
 
@@ -42,24 +42,35 @@ flat_all f texts i found h so_far = so_far ∙ ap (λ l. flat_map f (texts_of l)
 split : (texts : List (Bor Text)) (i : ℕ) (d : Bor Text) → i < length texts → texts_of (drop i texts) ≡ (get_or texts i d).now ∷ texts_of (drop (i + 1) texts)
 split texts i d h = ap texts_of (drop_more texts i d h)
 
-found_split : (find : Text → Option Text) (texts : List (Bor Text)) (i : ℕ) (d : Bor Text) → i < length texts
+found_split : {X : Type 0} (find : Text → Option X) (texts : List (Bor Text)) (i : ℕ) (d : Bor Text) → i < length texts
     → first_found find (texts_of (drop i texts)) ≡ option_or (find (get_or texts i d).now) (first_found find (texts_of (drop (i + 1) texts)))
 found_split find texts i d h =
     ap (first_found find) (split texts i d h) ∙ found-cons find (get_or texts i d).now (texts_of (drop (i + 1) texts))
 
-pub found_later : (find : Text → Option Text) (texts : List (Bor Text)) (i : ℕ) (d : Bor Text) (all : Option Text) → i < length texts
+pub found_later : {X : Type 0} (find : Text → Option X) (texts : List (Bor Text)) (i : ℕ) (d : Bor Text) (all : Option X) → i < length texts
     → None ≡ find (get_or texts i d).now → first_found find (texts_of (drop i texts)) ≡ all → first_found find (texts_of (drop (i + 1) texts)) ≡ all
 found_later find texts i d all h e so_far =
     ap (λ o. option_or o (first_found find (texts_of (drop (i + 1) texts)))) e ∙ sym (found_split find texts i d h) ∙ so_far
 
-pub found_here : (find : Text → Option Text) (texts : List (Bor Text)) (i : ℕ) (d : Bor Text) (n : Text) (all : Option Text) → i < length texts
+pub found_here : {X : Type 0} (find : Text → Option X) (texts : List (Bor Text)) (i : ℕ) (d : Bor Text) (n : X) (all : Option X) → i < length texts
     → Some n ≡ find (get_or texts i d).now → first_found find (texts_of (drop i texts)) ≡ all → Some n ≡ all
 found_here find texts i d n all h e so_far =
     ap (λ o. option_or o (first_found find (texts_of (drop (i + 1) texts)))) e ∙ sym (found_split find texts i d h) ∙ so_far
 
-pub found_nowhere : (find : Text → Option Text) (texts : List (Bor Text)) (i : ℕ) (all : Option Text) → length texts ≤ i
+pub found_nowhere : {X : Type 0} (find : Text → Option X) (texts : List (Bor Text)) (i : ℕ) (all : Option X) → length texts ≤ i
     → first_found find (texts_of (drop i texts)) ≡ all → None ≡ all
 found_nowhere find texts i all h so_far = ap (λ l. first_found find (texts_of l)) (sym (drop_all i texts h)) ∙ so_far
+
+-- the first of lists is the first of firsts
+first_both : {X : Type 0} (xs ys : List X) → slice_get (xs ++ ys) 0 ≡ option_or (slice_get xs 0) (slice_get ys 0)
+first_both [] ys = refl
+first_both (x ∷ xs) ys = refl
+
+pub first_of_all : {X : Type 0} (f : Text → List X) (texts : List Text) → first_found (λ t. slice_get (f t) 0) texts ≡ slice_get (flat_map f texts) 0
+first_of_all {X} f [] = refl
+first_of_all {X} f (t ∷ ts) =
+    let find : Text → Option X = λ t. slice_get (f t) 0 in
+    found-cons find t ts ∙ ap (option_or (find t)) (first_of_all f ts) ∙ sym (first_both (f t) (flat_map f ts))
 
 -- ---- a test of texts
 
@@ -159,7 +170,7 @@ steps_more f step keys i d pairs now next h e so_far =
     ∙ ap (λ steps. after steps pairs) (sym (map_push step known key)
     ∙ ap (map step) (sym (map_push f (take i keys) (get_or keys i d)) ∙ ap (map f) (sym (take_more keys i d h))))
 
-pub texts_pushed : (f : Text → Text) (texts : List (Bor Text)) (i : ℕ) (d : Bor Text) (found pushed : List Text) (x : Text) → i < length texts
+pub texts_pushed : {Y : Type 0} (f : Text → Y) (texts : List (Bor Text)) (i : ℕ) (d : Bor Text) (found pushed : List Y) (x : Y) → i < length texts
     → pushed ≡ found ++ x ∷ [] → x ≡ f (get_or texts i d).now → found ≡ map f (texts_of (take i texts))
     → pushed ≡ map f (texts_of (take (i + 1) texts))
 texts_pushed f texts i d found pushed x h p e so_far =

@@ -6,6 +6,7 @@ use Rattle.standard_numbers.specs.Issn.{IsIssn, is_doubtful}
 use Rattle.standard_numbers.specs.Isbn.{IsIsbn}
 use Rattle.publication_dates.specs.Forms.{IsDate}
 use Rattle.work_identifiers.specs.declared.namespace.Namespace.{Namespace}
+use Rattle.work_identifiers.specs.declared.numbers.StandardNumber.{StandardNumber}
 use Rattle.work_identifiers.specs.Forms.{IsIdentifier}
 use Rattle.work_identifiers.specs.Uris.{uri_of}
 use Rattle.article_places.specs.Enumerations.{alone, short_supplement}
@@ -18,6 +19,7 @@ use Rattle.openurl_reading.specs.Kinds.{has}
 use Rattle.openurl_reading.specs.DublinCore.{is_core}
 use Rattle.openurl_reading.specs.OldKeys.{old_keys}
 use Rattle.openurl_reading.specs.Identifiers.{identifier_of, source_keys}
+use Rattle.openurl_reading.specs.IdentifiedNumbers.{identified, number_key}
 use Rattle.openurl_reading.specs.ArticleNumbers.{article_in}
 use Rattle.openurl_reading.specs.Pages.{read_pages}
 use Rattle.openurl_reading.specs.Texts.{title_texts, other_texts}
@@ -86,6 +88,10 @@ pub data ArePagesApart (pairs : List KeyValue) : Type 0 where
   first_page_apart : (page : Text) → first_of pairs (codes "rft.spage") ≡ Some page → read_pages page ≡ Some (only page) → ArePagesApart pairs
   no_page : Under pairs (codes "rft.pages") HasNoPage → Under pairs (codes "rft.artnum") HasNoArticle → ArePagesApart pairs
 
+-- an ISSN or an ISBN is among the identifiers only if there is one under its own key
+abbrev pub IsUnderItsKey : List KeyValue → StandardNumber → Type 0
+IsUnderItsKey pairs number = (identified number pairs ≡ None) ⊎ (has pairs (number_key number) ≡ true)
+
 pub record IsCanonical (pairs : List KeyValue) : Type 0 where
   pub context : Under pairs (codes "ctx_ver") IsVersion
   pub transport : Under pairs (codes "url_ver") IsVersion
@@ -108,3 +114,4 @@ pub record IsCanonical (pairs : List KeyValue) : Type 0 where
   pub pages : ArePagesApart pairs
   pub referents : Under pairs (codes "rft_id") IsReferentUri
   pub no_other_identifiers : All (λ key. Under pairs key (HasNoIdentifier key)) source_keys
+  pub identified : (number : StandardNumber) → IsUnderItsKey pairs number

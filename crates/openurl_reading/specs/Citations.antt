@@ -5,7 +5,7 @@ use Rattle.std.specs.Char.{is_ascii_alphabetic}
 use Rattle.std.specs.List.{list_any}
 use Rattle.std.specs.Option.{option_and_then, option_map}
 use Rattle.text_model.specs.Texts.{Text}
-use Rattle.kev_read.specs.Pairs.{KeyValue, all_of, first_of}
+use Rattle.kev_read.specs.Pairs.{KeyValue, first_of}
 use Rattle.journal_references.specs.References.{Reference, reference_in}
 use Rattle.written_texts.specs.declared.readings.Role.TheVariants.{Title}
 use Rattle.written_texts.specs.Readings.{written}
@@ -13,7 +13,7 @@ use Rattle.openurl_reading.specs.Counting.{is_blank}
 use Rattle.openurl_reading.specs.Dates.{date_keys, first_date}
 use Rattle.openurl_reading.specs.Steps.{Step}
 use Rattle.openurl_reading.specs.Values.{led}
-use Rattle.openurl_reading.specs.Volumes.{without_own}
+use Rattle.openurl_reading.specs.Volumes.{filling}
 
 -- ---- the reference
 
@@ -50,8 +50,7 @@ cited part pairs = option_and_then unless_blank (option_and_then part (citation 
 
 -- a part is for a key that has no value
 abbrev pub citing : Text → (Reference → Option Text) → Step
-citing key part =
-    record { key = key; change = λ pairs. led (without_own (all_of pairs key) (cited part pairs)) (first_of pairs key) }
+citing key part = filling key (cited part)
 
 -- the year, unless the request has a date
 abbrev pub without_date : Option Text → Option Text → Option Text

@@ -1,15 +1,19 @@
 -- Simple Dublin Core (the format of it in the registry of OpenURL 1.0): some elements give their values to keys of other formats.
-use Rattle.std.specs.Prelude.{Bool, true, false, not, ◌&&◌, ◌||◌, ◌-◌, List, [], ◌∷◌, codes, drop, length, nat_le, count_by}
-use Rattle.std.specs.List.{list_any}
-use Rattle.std.specs.Option.{is_some, option_map_or}
+use Rattle.std.specs.Prelude.{Bool, true, false, not, ◌&&◌, ◌||◌, ◌-◌, List, [], ◌∷◌, ◌++◌, codes, drop, length, Option, Some, None, if◌then◌else◌}
+use Rattle.std.specs.Option.{is_some, option_and_then, option_map_or}
 use Rattle.std.specs.Str.{str_eq_ignore_ascii_case}
 use Rattle.text_model.specs.Texts.{Text}
 use Rattle.kev_read.specs.Pairs.{KeyValue, first_of}
-use Rattle.uri_text.specs.AnyCase.{begins_in_any_case}
-use Rattle.openurl_reading.specs.Citations.{is_letter}
+use Rattle.publication_dates.specs.Dates.{date_in}
+use Rattle.journal_references.specs.References.{Reference}
+use Rattle.openurl_reading.specs.Citations.{unless_blank, without_date}
+use Rattle.openurl_reading.specs.Dates.{date_keys, first_date}
 use Rattle.openurl_reading.specs.Kinds.{has, kind_named, kind_of}
 use Rattle.openurl_reading.specs.OldKeys.{OldKey, copying}
+use Rattle.openurl_reading.specs.Sources.{first_journal, first_reference}
 use Rattle.openurl_reading.specs.Steps.{Step}
+use Rattle.openurl_reading.specs.Values.{searched, led}
+use Rattle.openurl_reading.specs.Volumes.{filling}
 use Rattle.openurl_reading.specs.declared.kinds.Kind.{Kind}
 use Rattle.openurl_reading.specs.declared.kinds.Kind.TheVariants.{Book, Dissertation, Journal}
 
@@ -45,24 +49,36 @@ is_typed pairs = is_core pairs && option_map_or is_genre (first_of pairs (codes 
 
 -- ---- source
 
--- the journal of an article, often with volume, issue and pages after its name, which are read later
-abbrev pub core_source : OldKey
-core_source = record { old = codes "rft.source"; new = codes "rft.jtitle" }
+-- the journal of an article
+abbrev pub core_journal : List KeyValue → Option Text
+core_journal pairs = if is_core pairs then first_journal pairs else None
 
--- what texts begin with that are no names: addresses, numbers and identifiers
-abbrev pub no_names : List Text
-no_names =
-    codes "http:" ∷ codes "https:" ∷ codes "issn" ∷ codes "isbn" ∷ codes "arxiv:" ∷ codes "doi:" ∷ codes "doi " ∷ codes "doi.org/" ∷
-    codes "dx.doi.org/" ∷ codes "10." ∷ codes "info:" ∷ codes "urn:" ∷ codes "pmid" ∷ codes "pmcid" ∷ codes "pmc:" ∷ codes "hdl:" ∷
-    codes "oai:" ∷ []
+abbrev pub core_source : Step
+core_source = filling (codes "rft.jtitle") core_journal
 
--- a text with two letters, and none of these
-abbrev pub is_journal : Text → Bool
-is_journal source = nat_le 2 (count_by is_letter source) && not (list_any (begins_in_any_case source) no_names)
+-- the reference, whose parts are for keys that have no value
+abbrev pub core_reference : List KeyValue → Option Reference
+core_reference pairs = if is_core pairs then first_reference pairs else None
 
--- the first source is one
-abbrev pub is_sourced : List KeyValue → Bool
-is_sourced pairs = is_core pairs && option_map_or is_journal (first_of pairs (codes "rft.source")) false
+abbrev pub core_part : (Reference → Option Text) → List KeyValue → Option Text
+core_part part pairs = option_and_then unless_blank (option_and_then part (core_reference pairs))
+
+-- a year that is read as a date
+abbrev pub dated : Text → Option Text
+dated year = if is_some (date_in (searched year)) then Some year else None
+
+abbrev pub core_year : List KeyValue → Option Text
+core_year pairs = option_and_then dated (core_part (λ found. found.year) pairs)
+
+-- the year, unless the request has a date
+abbrev pub year_step : Step
+year_step =
+    record { key = codes "rft.date"; change = λ pairs. led (without_date (first_date date_keys pairs) (core_year pairs)) (first_of pairs (codes "rft.date")) }
+
+abbrev pub core_parts : List Step
+core_parts =
+    filling (codes "rft.volume") (core_part (λ found. found.volume)) ∷ filling (codes "rft.issue") (core_part (λ found. found.issue)) ∷
+    filling (codes "rft.pages") (core_part (λ found. found.pages)) ∷ year_step ∷ []
 
 -- ---- title
 
@@ -89,4 +105,4 @@ core_titles = copying is_in_journal (of_core_title (codes "rft.atitle")) ∷ cop
 -- ---- all
 
 abbrev pub core_steps : List Step
-core_steps = copying is_core creator ∷ copying is_typed core_type ∷ copying is_sourced core_source ∷ core_titles
+core_steps = copying is_core creator ∷ copying is_typed core_type ∷ core_source ∷ core_parts ++ core_titles

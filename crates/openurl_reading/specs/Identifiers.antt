@@ -9,11 +9,13 @@ use Rattle.kev_read.specs.Pairs.{KeyValue, all_of}
 use Rattle.work_identifiers.specs.declared.namespace.Namespace.{Namespace}
 use Rattle.work_identifiers.specs.declared.namespace.Namespace.TheVariants.{Doi, Pmid, Oclc, Pmc, Arxiv}
 use Rattle.work_identifiers.specs.Addresses.{doi_in_address}
+use Rattle.work_identifiers.specs.Mentions.{mention_in}
 use Rattle.work_identifiers.specs.Places.{identifier_in, identifier_alone}
 use Rattle.work_identifiers.specs.Uris.{uri_of}
 use Rattle.written_texts.specs.declared.readings.Role.TheVariants.{Identifier}
 use Rattle.written_texts.specs.Readings.{written}
 use Rattle.openurl_reading.specs.Keys.{is_one_of}
+use Rattle.openurl_reading.specs.Retractions.{sent_titles}
 use Rattle.openurl_reading.specs.Steps.{Change, Step, unchanged, leading}
 
 -- ---- the identifier in a value
@@ -53,10 +55,14 @@ is_page Oclc key = false
 is_page Pmc key = false
 is_page Arxiv key = false
 
--- an identifier that nothing in the text names
+-- an identifier of a text that is more than that: in the address of a page, or among the words of a title
+abbrev pub within : Namespace → Text → Text → Option Text
+within namespace key text =
+    if is_page namespace key then doi_in_address text else (if is_one_of sent_titles key then mention_in namespace text else None)
+
+-- or a number alone under a key that names it
 abbrev pub unnamed : Namespace → Text → Text → Option Text
-unnamed namespace key text =
-    if names namespace key then identifier_alone namespace text else (if is_page namespace key then doi_in_address text else None)
+unnamed namespace key text = if names namespace key then identifier_alone namespace text else within namespace key text
 
 -- the identifier in a text under a key, and that in a value
 abbrev pub identifier_under : Namespace → Text → Text → Option Text
@@ -67,15 +73,11 @@ identifier_of namespace key value = identifier_under namespace key (as_identifie
 
 -- ---- the first identifier of a request
 
--- the keys of titles in OpenURL 0.1, under which a reader of a form may paste an identifier
-abbrev pub pasted_keys : List Text
-pasted_keys = codes "title" ∷ codes "jtitle" ∷ codes "btitle" ∷ codes "atitle" ∷ []
-
 -- the keys under which sources send identifiers; that of OpenURL 1.0 comes first, then the address of a page, and titles last
 abbrev pub source_keys : List Text
 source_keys =
     codes "id" ∷ codes "rft.doi" ∷ codes "doi" ∷ codes "pmid" ∷ codes "rft.pmid" ∷ codes "pmcid" ∷ codes "rft.pmcid" ∷ codes "rft.identifier" ∷
-    codes "url" ∷ pasted_keys
+    codes "url" ∷ sent_titles
 
 abbrev pub identifier_keys : List Text
 identifier_keys = codes "rft_id" ∷ source_keys

@@ -5,6 +5,7 @@ pub mod Values
 pub mod Versions
 pub mod OldKeys
 pub mod Kinds
+pub mod Sources
 pub mod DublinCore
 pub mod Titles
 pub mod Formats
@@ -18,7 +19,9 @@ pub mod Citations
 pub mod ArticleNumbers
 pub mod Pages
 pub mod Identifiers
+pub mod Sought
 pub mod EncodedDois
+pub mod IdentifiedNumbers
 pub mod Retractions
 pub mod Reading
 pub mod Canonical

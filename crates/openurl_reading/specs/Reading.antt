@@ -9,6 +9,7 @@ use Rattle.openurl_reading.specs.Steps.{Step, after}
 use Rattle.openurl_reading.specs.Versions.{versions}
 use Rattle.openurl_reading.specs.Fields.{fields}
 use Rattle.openurl_reading.specs.OldKeys.{copies}
+use Rattle.openurl_reading.specs.IdentifiedNumbers.{identified_steps}
 use Rattle.openurl_reading.specs.DublinCore.{core_steps}
 use Rattle.openurl_reading.specs.Titles.{titlings}
 use Rattle.openurl_reading.specs.Formats.{format_step}
@@ -25,8 +26,8 @@ use Rattle.openurl_reading.specs.Retractions.{is_retracted}
 
 unfoldable pub steps : List Step
 steps =
-    versions ++ fields ++ copies ++ core_steps ++ titlings ++ format_step ∷ citing_steps ++ text_steps ++ referrer_step ∷ issn_step ∷ eissn_step ∷
-    isbn_step ∷ date_step ∷ volume_steps ++ page_steps ++ namings
+    versions ++ fields ++ copies ++ identified_steps ++ core_steps ++ titlings ++ format_step ∷ citing_steps ++ text_steps ++ referrer_step ∷
+    issn_step ∷ eissn_step ∷ isbn_step ∷ date_step ∷ volume_steps ++ page_steps ++ namings
 
 -- the pairs of OpenURL 1.0
 abbrev pub normal_form : List KeyValue → List KeyValue

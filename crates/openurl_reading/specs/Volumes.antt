@@ -75,6 +75,9 @@ abbrev pub without_own : List Text → Option Text → Option Text
 without_own [] found = found
 without_own (value ∷ values) found = None
 
+abbrev pub filling : Text → (List KeyValue → Option Text) → Step
+filling key find = record { key = key; change = λ pairs. led (without_own (all_of pairs key) (find pairs)) (first_of pairs key) }
+
 -- without a value of its own, the issue is that after the number of the volume
 abbrev pub added_issue : List KeyValue → Option Text
 added_issue pairs = without_own (all_of pairs (codes "rft.issue")) (option_and_then issue_after_volume (first_of pairs (codes "rft.volume")))

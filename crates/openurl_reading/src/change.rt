@@ -1,9 +1,10 @@
 //! What a step does with the values of its key.
 
 ghost use Rattle.std.specs.Prelude.{◌≡◌, ◌++◌, ◌∷◌, [], Some, IfOk, if◌then◌else◌};
-ghost use Rattle.kev_read.specs.Pairs.{first_of};
+ghost use Rattle.kev_read.specs.Pairs.{all_of, first_of};
 ghost use Rattle.openurl_reading.specs.Steps as spec;
 ghost use Rattle.openurl_reading.specs.Values.{led};
+ghost use Rattle.openurl_reading.specs.Volumes.{without_own};
 
 use crate::pairs::{Pair, Pairs, copy, push_pair};
 use std::alloc::{AllocError, Global};
@@ -68,6 +69,23 @@ pub(crate) fn lead(
         return Ok(pairs);
     }
     put_first(alloc, key, value, pairs)
+}
+
+/// What was found is for a key that has no value.
+#[tactic(auto, using(crate::proofs::CitingSteps::own_stays, crate::proofs::CitingSteps::none_own))]
+pub(crate) fn fill(
+    alloc: Global,
+    key: &str,
+    found: Option<Text>,
+    pairs: Pairs,
+) -> Result<Pairs, AllocError>
+    ensures { IfOk result (λ after. after ≡ spec.changed key.now
+        (led (without_own (all_of pairs key.now) found) (first_of pairs key.now)) pairs) }
+{
+    if pairs.first(key).is_some() {
+        return Ok(pairs);
+    }
+    lead(alloc, key, found, pairs)
 }
 
 /// Whether the value is the first one of the key.

@@ -10,7 +10,7 @@ ghost use Rattle.openurl_reading.specs.Steps as steps;
 ghost use Rattle.openurl_reading.specs.Values.{led};
 ghost use Rattle.openurl_reading.specs.Volumes.{without_own};
 
-use crate::change::lead;
+use crate::change::{fill, lead};
 use crate::counting::is_blank;
 use crate::dates::first_date;
 use crate::pairs::Pairs;
@@ -35,9 +35,9 @@ pub(crate) fn read_citation(alloc: Global, pairs: Pairs) -> Result<Pairs, AllocE
         pages: places,
         year,
     } = found;
-    let pairs = fill(alloc, "rft.volume", volume, pairs)?;
-    let pairs = fill(alloc, "rft.issue", issue, pairs)?;
-    let pairs = fill(alloc, "rft.pages", places, pairs)?;
+    let pairs = fill_part(alloc, "rft.volume", volume, pairs)?;
+    let pairs = fill_part(alloc, "rft.issue", issue, pairs)?;
+    let pairs = fill_part(alloc, "rft.pages", places, pairs)?;
     let pairs = fill_date(alloc, year, pairs)?;
     let pairs = lead(alloc, "rft.jtitle", Some(name), pairs)?;
     Ok(pairs)
@@ -68,7 +68,7 @@ fn cited_in(alloc: Global, title: &str) -> Result<Option<Reference>, AllocError>
 }
 
 /// The reference in the text of a title.
-fn in_title(alloc: Global, title: &str) -> Result<Option<Reference>, AllocError>
+pub(crate) fn in_title(alloc: Global, title: &str) -> Result<Option<Reference>, AllocError>
     ensures { IfOk result (λ found. found ≡ spec.in_title title.now) }
 {
     let text = read(alloc, Role::Title, title)?;
@@ -87,7 +87,7 @@ fn is_name(alloc: Global, name: &str) -> Result<bool, AllocError>
     Ok(inner.is_none())
 }
 
-fn has_letter(name: &[u8]) -> bool
+pub(crate) fn has_letter(name: &[u8]) -> bool
     ensures { result ≡ list_any spec.is_letter name.now }
 {
     name.iter().any(|byte| is_letter(*byte))
@@ -101,17 +101,17 @@ pub(crate) fn is_letter(byte: u8) -> bool
 }
 
 /// A part of the reference, for a key that has no value.
-#[tactic(auto, using(crate::proofs::CitingSteps::own_stays, crate::proofs::CitingSteps::none_own))]
-fn fill(alloc: Global, key: &str, part: Option<Text>, pairs: Pairs) -> Result<Pairs, AllocError>
+pub(crate) fn fill_part(
+    alloc: Global,
+    key: &str,
+    part: Option<Text>,
+    pairs: Pairs,
+) -> Result<Pairs, AllocError>
     ensures { IfOk result (λ after. after ≡ steps.changed key.now
         (led (without_own (all_of pairs key.now) (option_and_then spec.unless_blank part)) (first_of pairs key.now))
         pairs) }
 {
-    if pairs.first(key).is_some() {
-        return Ok(pairs);
-    }
-    let pairs = lead(alloc, key, unless_blank(part), pairs)?;
-    Ok(pairs)
+    fill(alloc, key, unless_blank(part), pairs)
 }
 
 /// The year of the reference, if the request has no date.
@@ -126,7 +126,7 @@ fn fill_date(alloc: Global, year: Option<Text>, pairs: Pairs) -> Result<Pairs, A
     Ok(pairs)
 }
 
-fn without_date(date: Option<Text>, year: Option<Text>) -> Option<Text>
+pub(crate) fn without_date(date: Option<Text>, year: Option<Text>) -> Option<Text>
     ensures { result ≡ spec.without_date date year }
 {
     match date {
@@ -135,7 +135,7 @@ fn without_date(date: Option<Text>, year: Option<Text>) -> Option<Text>
     }
 }
 
-fn unless_blank(part: Option<Text>) -> Option<Text>
+pub(crate) fn unless_blank(part: Option<Text>) -> Option<Text>
     ensures { result ≡ option_and_then spec.unless_blank part }
 {
     let text = part?;

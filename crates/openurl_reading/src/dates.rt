@@ -52,7 +52,7 @@ fn date_under(alloc: Global, pairs: &Pairs, key: &str) -> Result<Option<Text>, A
 }
 
 /// The date in a value.
-fn date_of(alloc: Global, value: &str) -> Result<Option<Text>, AllocError>
+pub(crate) fn date_of(alloc: Global, value: &str) -> Result<Option<Text>, AllocError>
     ensures { IfOk result (λ date. date ≡ date_in (searched value.now)) }
 {
     let text = in_ascii(alloc, value)?;

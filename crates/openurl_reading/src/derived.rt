@@ -1,18 +1,20 @@
 //! Keys that the resolver adds for the rules of targets.
 
-ghost use Rattle.std.specs.Prelude.{◌≡◌, ◌++◌, IfOk, OnOk, Some, codes};
+ghost use Rattle.std.specs.Prelude.{◌≡◌, ◌++◌, IfOk, OnOk, Some, codes, option_and_then};
 ghost use Rattle.std.specs.Option.{option_map};
-ghost use Rattle.openurl_reading.specs.Identifiers.{first_under};
+ghost use Rattle.openurl_reading.specs.EncodedDois.{encoded_doi};
+ghost use Rattle.openurl_reading.specs.Sought.{first_in};
 ghost use Rattle.openurl_reading.specs.Reading as spec;
 ghost use Rattle.openurl_reading.specs.Values.{searched};
 ghost use Rattle.publication_dates.specs.Dates.{date_in};
 ghost use Rattle.publication_dates.specs.Days.{first_and_last};
 
 use crate::encoded_dois::encoded_doi;
-use crate::identifiers::first_under;
+use crate::identifiers::first_in;
 use crate::numbers::{first, first_isbn, issns_under, other_than, push_all};
 use crate::pairs::{Pair, Pairs, push_pair, push_text};
 use crate::searched::{in_ascii, searched};
+use crate::sought::sought_under;
 use publication_dates::{Days, days_in};
 use std::alloc::{AllocError, Global};
 use uri_text::Text;
@@ -29,46 +31,45 @@ pub(crate) fn with_derived(alloc: Global, pairs: Pairs) -> Result<Pairs, AllocEr
 }
 
 /// The pairs that are derived from others.
+#[tactic(auto, using(crate::proofs::SoughtTexts::first_is_under))]
 fn derived(alloc: Global, pairs: &Pairs) -> Result<Vec<Pair>, AllocError>
     ensures { IfOk result (λ list. list.items ≡ spec.derived pairs.now) }
 {
     let mut list = Vec::new(alloc);
-    push_identifier(alloc, &mut list, "x.doi", Namespace::Doi, pairs)?;
-    push_identifier(alloc, &mut list, "x.pmid", Namespace::Pmid, pairs)?;
-    push_identifier(alloc, &mut list, "x.oclc", Namespace::Oclc, pairs)?;
+    let texts = sought_under(alloc, pairs, "rft_id")?;
+    let doi = first_in(alloc, Namespace::Doi, &texts)?;
+    let encoded = doi_encoded(alloc, &doi)?;
+    push_added(alloc, &mut list, "x.doi", doi)?;
+    push_identifier(alloc, &mut list, "x.pmid", Namespace::Pmid, &texts)?;
+    push_identifier(alloc, &mut list, "x.oclc", Namespace::Oclc, &texts)?;
     push_added(alloc, &mut list, "x.issn", first(issns_of(alloc, pairs)?))?;
     push_added(alloc, &mut list, "x.eissn", second_issn(alloc, pairs)?)?;
     push_added(alloc, &mut list, "x.isbn", first_isbn(alloc, pairs)?)?;
     push_days(alloc, &mut list, pairs)?;
-    push_added(
-        alloc,
-        &mut list,
-        "x.doi_encoded",
-        doi_encoded(alloc, pairs)?,
-    )?;
+    push_added(alloc, &mut list, "x.doi_encoded", encoded)?;
     Ok(list)
 }
 
-/// Appends a pair of the key for the first identifier of a namespace in `rft_id`, if there is one.
+/// Appends a pair of the key for the first identifier of a namespace in texts, if there is one.
 fn push_identifier(
     alloc: Global,
     list: &mut Vec<Pair>,
     key: &str,
     namespace: Namespace,
-    pairs: &Pairs,
+    texts: &[Pair],
 ) -> Result<(), AllocError>
     ensures { OnOk result (list.new.items
-        ≡ list.old.items ++ spec.added key.now (first_under namespace pairs.now (codes "rft_id"))) }
+        ≡ list.old.items ++ spec.added key.now (first_in namespace texts.now)) }
 {
-    let identifier = first_under(alloc, namespace, pairs, "rft_id")?;
+    let identifier = first_in(alloc, namespace, texts)?;
     push_added(alloc, list, key, identifier)
 }
 
-/// The DOI of a request, if it has to be encoded for a proxy.
-fn doi_encoded(alloc: Global, pairs: &Pairs) -> Result<Option<Text>, AllocError>
-    ensures { IfOk result (λ doi. doi ≡ spec.doi_encoded pairs.now) }
+/// A DOI, if it has to be encoded for a proxy.
+fn doi_encoded(alloc: Global, doi: &Option<Text>) -> Result<Option<Text>, AllocError>
+    ensures { IfOk result (λ encoded. encoded ≡ option_and_then encoded_doi doi.now) }
 {
-    match first_under(alloc, Namespace::Doi, pairs, "rft_id")? {
+    match doi {
         Some(doi) => encoded_doi(alloc, doi.as_str()),
         None => Ok(None),
     }

@@ -1,34 +1,38 @@
 //! Requests in simple Dublin Core.
 
-ghost use Rattle.std.specs.Prelude.{◌≡◌, IfOk, codes, count_by, false};
-ghost use Rattle.std.specs.List.{list_any};
-ghost use Rattle.std.specs.Option.{option_map_or};
-ghost use Rattle.text_model.specs.Texts.{texts_of};
-ghost use Rattle.uri_text.specs.AnyCase.{begins_in_any_case};
+ghost use Rattle.std.specs.Prelude.{◌≡◌, IfOk, codes, false};
+ghost use Rattle.std.specs.Option.{option_and_then, option_map_or};
 ghost use Rattle.kev_read.specs.Pairs.{first_of};
-ghost use Rattle.openurl_reading.specs.Citations.{is_letter};
-ghost use Rattle.openurl_reading.specs.Steps.{after, taken};
+ghost use Rattle.openurl_reading.specs.Citations.{unless_blank, without_date};
+ghost use Rattle.openurl_reading.specs.Dates.{date_keys, first_date};
+ghost use Rattle.openurl_reading.specs.Steps.{after, changed, taken};
+ghost use Rattle.openurl_reading.specs.Values.{led};
 ghost use Rattle.openurl_reading.specs.OldKeys.{copying};
 ghost use Rattle.openurl_reading.specs.DublinCore as spec;
 
-use crate::citations::is_letter;
+use crate::change::{fill, lead};
+use crate::citations::{fill_part, unless_blank, without_date};
+use crate::dates::{date_of, first_date};
 use crate::kinds::{Kind, kind_named, kind_of};
 use crate::old_keys::copy_key_if;
 use crate::pairs::Pairs;
+use crate::sources::{first_journal, first_reference};
+use journal_references::Reference;
 use std::alloc::{AllocError, Global};
-use uri_text::begins_in_any_case;
+use uri_text::Text;
 
 /// The end of the name of its format.
 const FORMAT_END: &[u8] = b":dc";
 
-/// Creator, type, source and title give their values to keys of the formats for articles and books, unless these have
-/// some.
+/// Creator, type, source and title give their values, or what is read in them, to keys of the formats for articles and
+/// books, unless these have some.
 pub(crate) fn copy_elements(alloc: Global, pairs: Pairs) -> Result<Pairs, AllocError>
     ensures { IfOk result (λ copied. copied ≡ after spec.core_steps pairs) }
 {
     let pairs = copy_creator(alloc, pairs)?;
     let pairs = copy_type(alloc, pairs)?;
     let pairs = copy_source(alloc, pairs)?;
+    let pairs = copy_parts(alloc, pairs)?;
     let pairs = copy_titles(alloc, pairs)?;
     Ok(pairs)
 }
@@ -47,11 +51,85 @@ fn copy_type(alloc: Global, pairs: Pairs) -> Result<Pairs, AllocError>
     copy_key_if(alloc, is_typed, "rft.type", "rft.genre", pairs)
 }
 
+/// The journal of an article, if the request has no title of a journal.
 fn copy_source(alloc: Global, pairs: Pairs) -> Result<Pairs, AllocError>
-    ensures { IfOk result (λ copied. copied ≡ taken pairs (copying spec.is_sourced spec.core_source)) }
+    ensures { IfOk result (λ copied. copied ≡ taken pairs spec.core_source) }
 {
-    let is_sourced = is_sourced(&pairs);
-    copy_key_if(alloc, is_sourced, "rft.source", "rft.jtitle", pairs)
+    let journal = core_journal(alloc, &pairs)?;
+    let pairs = fill(alloc, "rft.jtitle", journal, pairs)?;
+    Ok(pairs)
+}
+
+/// The journal in the sources of a request in Dublin Core.
+fn core_journal(alloc: Global, pairs: &Pairs) -> Result<Option<Text>, AllocError>
+    ensures { IfOk result (λ journal. journal ≡ spec.core_journal pairs.now) }
+{
+    if is_core(pairs) {
+        first_journal(alloc, pairs)
+    } else {
+        Ok(None)
+    }
+}
+
+/// The parts of a reference in a source, for the keys that have no value.
+#[tactic(auto, using(crate::proofs::CoreParts::unfound_same))]
+fn copy_parts(alloc: Global, pairs: Pairs) -> Result<Pairs, AllocError>
+    ensures { IfOk result (λ copied. copied ≡ after spec.core_parts pairs) }
+{
+    let Some(found) = core_reference(alloc, &pairs)? else {
+        return Ok(pairs);
+    };
+    let Reference {
+        name: _,
+        volume,
+        issue,
+        pages: places,
+        year,
+    } = found;
+    let pairs = fill_part(alloc, "rft.volume", volume, pairs)?;
+    let pairs = fill_part(alloc, "rft.issue", issue, pairs)?;
+    let pairs = fill_part(alloc, "rft.pages", places, pairs)?;
+    let pairs = fill_year(alloc, year, pairs)?;
+    Ok(pairs)
+}
+
+/// The reference in the sources of a request in Dublin Core.
+fn core_reference(alloc: Global, pairs: &Pairs) -> Result<Option<Reference>, AllocError>
+    ensures { IfOk result (λ found. found ≡ spec.core_reference pairs.now) }
+{
+    if is_core(pairs) {
+        first_reference(alloc, pairs)
+    } else {
+        Ok(None)
+    }
+}
+
+/// The year of the reference, if the request has no date.
+fn fill_year(alloc: Global, year: Option<Text>, pairs: Pairs) -> Result<Pairs, AllocError>
+    ensures { IfOk result (λ after. after ≡ changed (codes "rft.date")
+        (led (without_date (first_date date_keys pairs)
+        (option_and_then spec.dated (option_and_then unless_blank year)))
+        (first_of pairs (codes "rft.date"))) pairs) }
+{
+    let date = first_date(alloc, &pairs)?;
+    let year = dated(alloc, unless_blank(year))?;
+    let found = without_date(date, year);
+    let pairs = lead(alloc, "rft.date", found, pairs)?;
+    Ok(pairs)
+}
+
+/// The year, if it is read as a date.
+fn dated(alloc: Global, year: Option<Text>) -> Result<Option<Text>, AllocError>
+    ensures { IfOk result (λ dated. dated ≡ option_and_then spec.dated year) }
+{
+    let Some(text) = year else {
+        return Ok(None);
+    };
+    if date_of(alloc, text.as_str())?.is_some() {
+        Ok(Some(text))
+    } else {
+        Ok(None)
+    }
 }
 
 fn copy_titles(alloc: Global, pairs: Pairs) -> Result<Pairs, AllocError>
@@ -88,7 +166,7 @@ fn is_book(kind: Kind) -> bool
 }
 
 /// Whether a request is in Dublin Core.
-fn is_core(pairs: &Pairs) -> bool
+pub(crate) fn is_core(pairs: &Pairs) -> bool
     ensures { result ≡ spec.is_core pairs.now }
 {
     match pairs.first("rft_val_fmt") {
@@ -111,72 +189,6 @@ fn has_element(pairs: &Pairs) -> bool
     ensures { result ≡ spec.has_element pairs.now }
 {
     pairs.has("rft.creator") || pairs.has("rft.source") || pairs.has("rft.identifier")
-}
-
-/// Whether the first source is the name of a journal.
-fn is_sourced(pairs: &Pairs) -> bool
-    ensures { result ≡ spec.is_sourced pairs.now }
-{
-    is_core(pairs) && has_journal_as_source(pairs)
-}
-
-fn has_journal_as_source(pairs: &Pairs) -> bool
-    ensures { result ≡ option_map_or spec.is_journal (first_of pairs.now (codes "rft.source")) false }
-{
-    match pairs.first("rft.source") {
-        Some(source) => is_journal(source.as_bytes()),
-        None => false,
-    }
-}
-
-/// Whether a text has two letters, and is neither an address nor a number or an identifier.
-fn is_journal(source: &[u8]) -> bool
-    ensures { result ≡ spec.is_journal source.now }
-{
-    count_of_letters(source) >= 2 && !begins_otherwise(source)
-}
-
-fn count_of_letters(source: &[u8]) -> usize
-    ensures { result ≡ count_by is_letter source.now }
-{
-    source.iter().filter(|byte| is_letter(**byte)).count()
-}
-
-/// Whether a text begins as no name does.
-fn begins_otherwise(source: &[u8]) -> bool
-    ensures { result ≡ list_any (begins_in_any_case source.now) spec.no_names }
-{
-    for beginning in no_names() {
-        if begins_in_any_case(source, beginning.as_bytes()) {
-            return true;
-        }
-    }
-    false
-}
-
-/// What addresses, numbers and identifiers begin with.
-fn no_names() -> &'static [&'static str]
-    ensures { texts_of result.now ≡ spec.no_names }
-{
-    &[
-        "http:",
-        "https:",
-        "issn",
-        "isbn",
-        "arxiv:",
-        "doi:",
-        "doi ",
-        "doi.org/",
-        "dx.doi.org/",
-        "10.",
-        "info:",
-        "urn:",
-        "pmid",
-        "pmcid",
-        "pmc:",
-        "hdl:",
-        "oai:",
-    ]
 }
 
 /// Whether the type is a genre of one kind.

@@ -11,39 +11,44 @@ ghost use Rattle.work_identifiers.specs.declared.namespace.Namespace.TheVariants
 ghost use Rattle.work_identifiers.specs.Places.{identifier_in};
 ghost use Rattle.work_identifiers.specs.Uris.{uri_of};
 ghost use Rattle.openurl_reading.specs.Identifiers as spec;
+ghost use Rattle.openurl_reading.specs.Sought.{first_in};
 
-use crate::change::put_first;
 use crate::keys::is_one_of;
-use crate::pairs::{Pairs, ascii_text, copy};
+use crate::pairs::{Pair, Pairs, ascii_text, copy};
+use crate::retractions::sent_titles;
+use crate::sought::Sought;
 use std::alloc::{AllocError, Global};
 use uri_text::Text;
-use work_identifiers::{Namespace, doi_in_address, identifier_alone, identifier_in, uri_of};
+use work_identifiers::{
+    Namespace, doi_in_address, identifier_alone, identifier_in, mention_in, uri_of,
+};
 use written_texts::{Role, read};
 
 /// The first identifier of each namespace is in `rft_id` as its URI.
 pub(crate) fn name_works(alloc: Global, pairs: Pairs) -> Result<Pairs, AllocError>
     ensures { IfOk result (λ named. named ≡ after spec.namings pairs) }
 {
+    let pairs = Sought::new(alloc, pairs)?;
     let pairs = name_work(alloc, Namespace::Oclc, pairs)?;
     let pairs = name_work(alloc, Namespace::Pmc, pairs)?;
     let pairs = name_work(alloc, Namespace::Pmid, pairs)?;
     let pairs = name_work(alloc, Namespace::Arxiv, pairs)?;
     let pairs = name_work(alloc, Namespace::Doi, pairs)?;
-    Ok(pairs)
+    Ok(pairs.into_pairs())
 }
 
 /// The first identifier of a namespace is in `rft_id` as its URI.
-fn name_work(alloc: Global, namespace: Namespace, pairs: Pairs) -> Result<Pairs, AllocError>
+fn name_work(alloc: Global, namespace: Namespace, pairs: Sought) -> Result<Sought, AllocError>
     ensures { IfOk result (λ after. after ≡ taken pairs (spec.naming namespace)) }
 {
     let Some(uri) = nameable_uri(alloc, namespace, &pairs)? else {
         return Ok(pairs);
     };
-    let is_known = is_known(alloc, uri.as_str(), &pairs)?;
+    let is_known = is_known(alloc, uri.as_str(), pairs.pairs())?;
     if is_known {
         return Ok(pairs);
     }
-    put_first(alloc, "rft_id", uri, pairs)
+    pairs.after_uri(alloc, uri)
 }
 
 /// Whether the URI is in `rft_id`.
@@ -58,7 +63,7 @@ fn is_known(alloc: Global, uri: &str, pairs: &Pairs) -> Result<bool, AllocError>
 fn nameable_uri(
     alloc: Global,
     namespace: Namespace,
-    pairs: &Pairs,
+    pairs: &Sought,
 ) -> Result<Option<Text>, AllocError>
     ensures { IfOk result (λ uri. uri ≡ option_map (uri_of namespace) (spec.nameable namespace pairs.now)) }
 {
@@ -72,7 +77,7 @@ fn nameable_uri(
 }
 
 /// The identifier that a step names: one of arXiv only if the request has no DOI.
-fn nameable(alloc: Global, namespace: Namespace, pairs: &Pairs) -> Result<Option<Text>, AllocError>
+fn nameable(alloc: Global, namespace: Namespace, pairs: &Sought) -> Result<Option<Text>, AllocError>
     ensures value { IfOk result (λ found. found ≡ spec.nameable namespace pairs.now) }
     ensures ascii { IfOk result (λ found. IfSome found (λ identifier. IsAscii identifier)) }
 {
@@ -85,7 +90,7 @@ fn nameable(alloc: Global, namespace: Namespace, pairs: &Pairs) -> Result<Option
 }
 
 /// The first identifier of arXiv, if the request has no DOI.
-fn preprint(alloc: Global, pairs: &Pairs) -> Result<Option<Text>, AllocError>
+fn preprint(alloc: Global, pairs: &Sought) -> Result<Option<Text>, AllocError>
     ensures value { IfOk result (λ found. found ≡ spec.nameable Arxiv pairs.now) }
     ensures ascii { IfOk result (λ found. IfSome found (λ identifier. IsAscii identifier)) }
 {
@@ -99,49 +104,29 @@ fn preprint(alloc: Global, pairs: &Pairs) -> Result<Option<Text>, AllocError>
 fn first_identifier(
     alloc: Global,
     namespace: Namespace,
-    pairs: &Pairs,
+    pairs: &Sought,
 ) -> Result<Option<Text>, AllocError>
     ensures value { IfOk result (λ found. found ≡ spec.first_identifier namespace pairs.now) }
     ensures ascii { IfOk result (λ found. IfSome found (λ identifier. IsAscii identifier)) }
 {
-    for key in identifier_keys() {
-        if let Some(identifier) = first_under(alloc, namespace, pairs, key)? {
+    first_in(alloc, namespace, pairs.texts())
+}
+
+/// The first identifier of a namespace in texts under their keys.
+pub(crate) fn first_in(
+    alloc: Global,
+    namespace: Namespace,
+    texts: &[Pair],
+) -> Result<Option<Text>, AllocError>
+    ensures value { IfOk result (λ found. found ≡ first_in namespace texts.now) }
+    ensures ascii { IfOk result (λ found. IfSome found (λ identifier. IsAscii identifier)) }
+{
+    for text in texts {
+        if let Some(identifier) = identifier_under(alloc, namespace, text.key(), text.value())? {
             return Ok(Some(identifier));
         }
     }
     Ok(None)
-}
-
-/// The first identifier of a namespace under a key.
-pub(crate) fn first_under(
-    alloc: Global,
-    namespace: Namespace,
-    pairs: &Pairs,
-    key: &str,
-) -> Result<Option<Text>, AllocError>
-    ensures value { IfOk result (λ found. found ≡ spec.first_under namespace pairs.now key.now) }
-    ensures ascii { IfOk result (λ found. IfSome found (λ identifier. IsAscii identifier)) }
-{
-    for value in &pairs.all(alloc, key)? {
-        if let Some(identifier) = identifier_of(alloc, namespace, key, value)? {
-            return Ok(Some(identifier));
-        }
-    }
-    Ok(None)
-}
-
-/// The identifier in a value of a key, as a text of its own.
-fn identifier_of(
-    alloc: Global,
-    namespace: Namespace,
-    key: &str,
-    value: &str,
-) -> Result<Option<Text>, AllocError>
-    ensures value { IfOk result (λ found. found ≡ spec.identifier_of namespace key.now value.now) }
-    ensures ascii { IfOk result (λ found. IfSome found (λ identifier. IsAscii identifier)) }
-{
-    let text = as_identifier(alloc, value)?;
-    identifier_under(alloc, namespace, key, text.as_str())
 }
 
 /// The identifier in a text under a key, as a text of its own.
@@ -162,7 +147,7 @@ fn identifier_under(
 
 /// A value in which an identifier is found as it is; any other one without what a layout has put into it, and decoded
 /// again.
-fn as_identifier(alloc: Global, value: &str) -> Result<Text, AllocError>
+pub(crate) fn as_identifier(alloc: Global, value: &str) -> Result<Text, AllocError>
     ensures { IfOk result (λ text. text ≡ spec.as_identifier value.now) }
 {
     let text = read(alloc, Role::Identifier, value)?;
@@ -219,22 +204,43 @@ fn part_of<'a>(
 {
     match identifier_in(alloc, namespace, text)? {
         Some(identifier) => Ok(Some(identifier)),
-        None => Ok(unnamed(namespace, key, text)),
+        None => unnamed(alloc, namespace, key, text),
     }
 }
 
-/// An identifier that nothing in the text names: a number alone under a key that names it, or a DOI in the address of
-/// a page.
-fn unnamed<'a>(namespace: Namespace, key: &str, text: &'a [u8]) -> Option<&'a [u8]>
-    ensures value { option_copied result ≡ spec.unnamed namespace key.now text.now }
-    ensures ascii { IfSome result (λ identifier. IsAscii identifier.now) }
+/// A number alone under a key that names it, or an identifier within the text.
+fn unnamed<'a>(
+    alloc: Global,
+    namespace: Namespace,
+    key: &str,
+    text: &'a [u8],
+) -> Result<Option<&'a [u8]>, AllocError>
+    ensures value { IfOk result (λ found. option_copied found ≡ spec.unnamed namespace key.now text.now) }
+    ensures ascii { IfOk result (λ found. IfSome found (λ identifier. IsAscii identifier.now)) }
 {
     if names(namespace, key) {
-        identifier_alone(namespace, text)
-    } else if is_page(namespace, key) {
-        doi_in_address(text)
+        Ok(identifier_alone(namespace, text))
     } else {
-        None
+        within(alloc, namespace, key, text)
+    }
+}
+
+/// A DOI in the address of a page, or an identifier among the words of a title.
+fn within<'a>(
+    alloc: Global,
+    namespace: Namespace,
+    key: &str,
+    text: &'a [u8],
+) -> Result<Option<&'a [u8]>, AllocError>
+    ensures value { IfOk result (λ found. option_copied found ≡ spec.within namespace key.now text.now) }
+    ensures ascii { IfOk result (λ found. IfSome found (λ identifier. IsAscii identifier.now)) }
+{
+    if is_page(namespace, key) {
+        Ok(doi_in_address(text))
+    } else if is_one_of(sent_titles(), key) {
+        mention_in(alloc, namespace, text)
+    } else {
+        Ok(None)
     }
 }
 
@@ -274,7 +280,7 @@ fn central_keys() -> &'static [&'static str]
 }
 
 /// The keys of identifiers, that of OpenURL 1.0 first, then that of a page, and those of titles last.
-fn identifier_keys() -> &'static [&'static str]
+pub(crate) fn identifier_keys() -> &'static [&'static str]
     ensures { texts_of result.now ≡ spec.identifier_keys }
 {
     &[
@@ -288,9 +294,13 @@ fn identifier_keys() -> &'static [&'static str]
         "rft.pmcid",
         "rft.identifier",
         "url",
-        "title",
+        "rft.atitle",
+        "rft.jtitle",
+        "rft.btitle",
+        "rft.title",
+        "atitle",
         "jtitle",
         "btitle",
-        "atitle",
+        "title",
     ]
 }

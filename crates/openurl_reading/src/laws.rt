@@ -6,6 +6,7 @@ ghost use Rattle.kev_read.specs.Pairs.{KeyValue, first_of, value_bytes};
 ghost use Rattle.kev_read.specs.Refusal.{states_other_version};
 ghost use Rattle.openurl_reading.specs.Canonical.{IsCanonical};
 ghost use Rattle.openurl_reading.specs.Counting.{counting, is_added_key, is_column, most_pairs};
+ghost use Rattle.openurl_reading.specs.Keys.{key_of};
 ghost use Rattle.openurl_reading.specs.Origins.{HasOrigin, read_values};
 ghost use Rattle.openurl_reading.specs.Reading.{derived, normal_form, reading_of, with_derived};
 ghost use Rattle.openurl_reading.specs.Retractions.{is_retracted};
@@ -52,6 +53,11 @@ pub fn readings_state_the_version()
 pub fn readings_name_their_encoding()
     ensures { (pairs : List KeyValue)
         → is_other encoding (first_of (reading_of pairs).pairs (codes "ctx_enc")) ≡ false }
+{}
+
+/// A known key is in small letters in a reading, however the source wrote it.
+pub fn known_keys_are_in_small_letters()
+    ensures { (pairs : List KeyValue) → All (λ pair. key_of pair.key ≡ pair.key) (reading_of pairs).pairs }
 {}
 
 /// A request that is OpenURL 1.0 stays as it is. If all its pairs count, its reading has them after the derived ones.
@@ -109,7 +115,8 @@ pub fn readings_are_read_as_they_are()
 
 /// Nothing is invented: each value of a reading is one of the request, the version of OpenURL, the encoding, one of
 /// three formats, or what is read in one value of the request, an identifier also as its URI, one of arXiv as its DOI,
-/// and a page also in the text that is read. The parts of a reference in a value count as values of the request.
+/// and an identifier or a page also in the text that is read. The parts of a reference in a value count as values of
+/// the request, and so does the name of a journal in a source of Dublin Core.
 pub fn nothing_is_invented()
     ensures { (pairs : List KeyValue)
         → All (λ pair. HasOrigin (read_values pairs) pair.value) (reading_of pairs).pairs }
@@ -139,10 +146,10 @@ pub fn nothing_is_invented()
 /// A reading has at most twice the pairs that count, of which there are at most 300, and twice the bytes of the values
 /// of the request, and what the resolver adds.
 pub fn readings_are_bounded()
-    ensures few { (pairs : List KeyValue) → length (reading_of pairs).pairs ≤ 2 * length (counting pairs) + 36 }
+    ensures few { (pairs : List KeyValue) → length (reading_of pairs).pairs ≤ 2 * length (counting pairs) + 42 }
     ensures counting { (pairs : List KeyValue) → length (counting pairs) ≤ most_pairs }
     ensures bytes { (pairs : List KeyValue)
-        → value_bytes (reading_of pairs).pairs ≤ 2 * value_bytes pairs + 7305 }
+        → value_bytes (reading_of pairs).pairs ≤ 2 * value_bytes pairs + 9331 }
 {
     issns_are_issns();
     isbns_are_isbns();

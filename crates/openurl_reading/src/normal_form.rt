@@ -8,6 +8,7 @@ use crate::dates::lead_date;
 use crate::dublin_core::copy_elements;
 use crate::fields::copy_fields;
 use crate::formats::name_format;
+use crate::identified_numbers::lead_identified;
 use crate::identifiers::name_works;
 use crate::numbers::{lead_eissn, lead_isbn, lead_issn};
 use crate::old_keys::copy_old_keys;
@@ -27,6 +28,7 @@ pub(crate) fn normal_form(alloc: Global, pairs: Pairs) -> Result<Pairs, AllocErr
     let pairs = correct_versions(alloc, pairs)?;
     let pairs = copy_fields(alloc, pairs)?;
     let pairs = copy_old_keys(alloc, pairs)?;
+    let pairs = lead_identified(alloc, pairs)?;
     let pairs = copy_elements(alloc, pairs)?;
     let pairs = copy_title(alloc, pairs)?;
     let pairs = name_format(alloc, pairs)?;

@@ -65,7 +65,7 @@ pub(crate) fn first_isbn(alloc: Global, pairs: &Pairs) -> Result<Option<Text>, A
 }
 
 /// The ISSNs in a value.
-fn issns_of(alloc: Global, value: &str) -> Result<Vec<Text>, AllocError>
+pub(crate) fn issns_of(alloc: Global, value: &str) -> Result<Vec<Text>, AllocError>
     ensures { IfOk result (λ issns. issns.items ≡ issns_in (searched value.now)) }
 {
     let text = in_ascii(alloc, value)?;

@@ -41,7 +41,7 @@ fn has_remark(alloc: Global, title: &str) -> Result<bool, AllocError>
 }
 
 /// The keys of titles, in OpenURL 1.0 and in OpenURL 0.1.
-fn sent_titles() -> &'static [&'static str]
+pub(crate) fn sent_titles() -> &'static [&'static str]
     ensures { texts_of result.now ≡ spec.sent_titles }
 {
     &[

@@ -36,13 +36,19 @@ pub unknown_leads : (namespace : Namespace) (pairs : List KeyValue) (uri : Text)
 unknown_leads namespace pairs uri e is =
     ap (λ b. changed (codes "rft_id") (cond b unchanged (leading (uri ∷ []))) pairs) (sym is) ∙ by_uri namespace pairs (Some uri) e
 
+known_in : (pairs others : List KeyValue) (uri : Text) → pairs ≡ others
+    → is_one_of (all_of pairs (codes "rft_id")) uri ≡ is_one_of (all_of others (codes "rft_id")) uri
+known_in pairs others uri e = ap (λ p. is_one_of (all_of p (codes "rft_id")) uri) e
+
 pub returns-then-is_known : goal.returns-then-is_known
 returns-then-is_known c =
     known_stays c.args.namespace c.args.pairs c.in-Some.uri (sym c.in-Some.is ∙ c.in_ok-uri.ensures)
-    (ap (is_one_of (all_of c.args.pairs (codes "rft_id"))) (sym c.as_str.ensures) ∙ sym c.in_ok-is_known.ensures ∙ c.if-is_known.true)
+    (ap (is_one_of (all_of c.args.pairs (codes "rft_id"))) (sym c.as_str.ensures)
+    ∙ known_in c.args.pairs _ _ (sym c.pairs-2.ensures) ∙ sym c.in_ok-is_known.ensures ∙ c.if-is_known.true)
 
 pub returns : goal.returns
 returns c =
-    subst (λ after. IfOk c.put_first.result (λ led. led ≡ after))
+    subst (λ after. IfOk c.after_uri.result (λ led. led ≡ after))
     (unknown_leads c.args.namespace c.args.pairs c.in-Some.uri (sym c.in-Some.is ∙ c.in_ok-uri.ensures)
-    (ap (is_one_of (all_of c.args.pairs (codes "rft_id"))) (sym c.as_str.ensures) ∙ sym c.in_ok-is_known.ensures ∙ c.if-is_known.false)) c.put_first.ensures
+    (ap (is_one_of (all_of c.args.pairs (codes "rft_id"))) (sym c.as_str.ensures)
+    ∙ known_in c.args.pairs _ _ (sym c.pairs-2.ensures) ∙ sym c.in_ok-is_known.ensures ∙ c.if-is_known.false)) c.after_uri.ensures

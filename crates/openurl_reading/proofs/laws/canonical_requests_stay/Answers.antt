@@ -39,10 +39,11 @@ returns-clause-steps c pairs is =
       spages = is.spages;
       epages = is.epages;
       pages = is.pages;
+      identified = is.identified;
       works = canonical_named
           (identified c.identifiers_are_identifiers.ensures.named c.identifiers_are_identifiers.ensures.alone c.identifiers_stay.ensures.named
           c.uris_have_one_namespace.ensures c.preprints_have_dois.ensures.doi c.preprints_have_dois.ensures.uri
-          c.dois_in_addresses_are_dois.ensures.are)
+          c.dois_in_addresses_are_dois.ensures.are c.identifiers_are_identifiers.ensures.mentioned)
           pairs is.referents is.no_other_identifiers;
     })
 

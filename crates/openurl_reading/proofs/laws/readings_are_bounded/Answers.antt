@@ -15,6 +15,9 @@ use Rattle.openurl_reading.proofs.VolumeForms.{numbers_short}
 use Rattle.openurl_reading.proofs.VolumeLaws.{AreFoundNumbers}
 use Rattle.openurl_reading.proofs.KeysWeigh.{AreLight, formats_short, source_short}
 use Rattle.openurl_reading.proofs.DerivedWeigh.{encoded_short}
+use Rattle.openurl_reading.proofs.PartsPass.{parts_short}
+use Rattle.openurl_reading.proofs.PartsSourced.{ArePlacedLight}
+use Rattle.openurl_reading.proofs.Sourced.{names_short}
 use Rattle.openurl_reading.proofs.Sizes.{ArePagesLight, pages_light, reading_weighs, counting_weighs, total-one}
 use Rattle.openurl_reading.proofs.laws.readings_are_bounded.Goals as goal
 
@@ -31,15 +34,22 @@ returns-clause-few c pairs =
       days = λ pairs date e. (omega arith, omega arith);
       version = omega arith;
       source = λ sid. omega arith;
+      journal = λ v n e. omega arith;
       text = λ role text. omega arith;
       identified = identified c.identifiers_are_identifiers.ensures.named c.identifiers_are_identifiers.ensures.alone
           c.identifiers_stay.ensures.named c.uris_have_one_namespace.ensures c.preprints_have_dois.ensures.doi c.preprints_have_dois.ensures.uri
-          c.dois_in_addresses_are_dois.ensures.are;
+          c.dois_in_addresses_are_dois.ensures.are c.identifiers_are_identifiers.ensures.mentioned;
       identifier = λ namespace n plain is. omega arith;
       uri = λ namespace n is. omega arith;
     } in
     let cited : AreCitedLight (λ n. 1) 1 = λ pairs found e. record {
       name = omega arith;
+      volume = λ n g b. omega arith;
+      issue = λ n g b. omega arith;
+      pages = λ n g b. omega arith;
+      year = λ n g b. omega arith;
+    } in
+    let placed : ArePlacedLight (λ n. 1) 1 = λ pairs found e. record {
       volume = λ n g b. omega arith;
       issue = λ n g b. omega arith;
       pages = λ n g b. omega arith;
@@ -53,7 +63,7 @@ returns-clause-few c pairs =
     } in
     omega (
       arith,
-      reading_weighs (λ n. 1) 1 1 1 1 1 1 1 (λ namespace. 1) light (λ doi encoded is e. omega arith) (λ kind. omega arith) cited numbers pages counted,
+      reading_weighs (λ n. 1) 1 1 1 1 1 1 1 (λ namespace. 1) light (λ doi encoded is e. omega arith) (λ kind. omega arith) cited placed numbers pages counted,
       total-one counted,
       total-one (with_derived (normal_form counted)),
     )
@@ -69,14 +79,16 @@ returns-clause-bytes c pairs =
       days = days_short c.dates_are_read.ensures c.days_are_days.ensures.first c.days_are_days.ensures.last;
       version = omega arith;
       source = source_short;
+      journal = names_short;
       text = c.texts_are_bounded.ensures;
       identified = identified c.identifiers_are_identifiers.ensures.named c.identifiers_are_identifiers.ensures.alone
           c.identifiers_stay.ensures.named c.uris_have_one_namespace.ensures c.preprints_have_dois.ensures.doi c.preprints_have_dois.ensures.uri
-          c.dois_in_addresses_are_dois.ensures.are;
+          c.dois_in_addresses_are_dois.ensures.are c.identifiers_are_identifiers.ensures.mentioned;
       identifier = identifier_short c.uris_are_short.ensures;
       uri = c.uris_are_short.ensures;
     } in
     let cited = cited_short c.references_are_parts.ensures.name c.references_are_parts.ensures.pieces in
+    let placed = parts_short c.references_are_parts.ensures.pieces in
     let short = pages_short c.pages_are_parts.ensures.first c.pages_are_parts.ensures.last c.parts_are_short.ensures.part
     c.parts_are_short.ensures.last in
     let pages : ArePagesLight (λ n. length n) 200 400 = pages_light short in
@@ -97,6 +109,6 @@ returns-clause-bytes c pairs =
     omega (
       arith,
       reading_weighs (λ n. length n) 13 1527 33 500 407 200 400 longest_uri light
-          (encoded_short c.uris_are_short.ensures c.writing_at_most_triples.ensures) formats_short cited numbers pages counted,
+          (encoded_short c.uris_are_short.ensures c.writing_at_most_triples.ensures) formats_short cited placed numbers pages counted,
       counting_weighs (λ n. length n) pairs,
     )

@@ -40,14 +40,14 @@ returns-clause-steps c =
     }))
     (identified c.identifiers_are_identifiers.ensures.named c.identifiers_are_identifiers.ensures.alone c.identifiers_stay.ensures.named
     c.uris_have_one_namespace.ensures c.preprints_have_dois.ensures.doi c.preprints_have_dois.ensures.uri
-    c.dois_in_addresses_are_dois.ensures.are)
+    c.dois_in_addresses_are_dois.ensures.are c.identifiers_are_identifiers.ensures.mentioned)
 
 pub returns-clause-reading : goal.returns-clause-reading
 returns-clause-reading c pairs few =
     reading_again c.texts_are_not_blank.ensures
     (identified c.identifiers_are_identifiers.ensures.named c.identifiers_are_identifiers.ensures.alone c.identifiers_stay.ensures.named
     c.uris_have_one_namespace.ensures c.preprints_have_dois.ensures.doi c.preprints_have_dois.ensures.uri
-    c.dois_in_addresses_are_dois.ensures.are)
+    c.dois_in_addresses_are_dois.ensures.are c.identifiers_are_identifiers.ensures.mentioned)
     (returns-clause-steps c)
     (found_are BeginsWithDigit (found_digits c.issns_are_issns.ensures c.isbns_are_isbns.ensures c.dates_are_read.ensures))
     (numbers_not_blank (record {
