@@ -1,3 +1,4 @@
 pub mod Accepted
 pub mod Fitting
+pub mod Queries
 pub mod ReadBack

@@ -10,7 +10,8 @@
 //! assert!(rt; any.first("rft.volume") == Some("12"));
 //! ```
 //!
-//! - The query is repaired and made UTF-8 (`source_queries`), and read as OpenURL 1.0 (`openurl_reading`).
+//! - The query is repaired and made UTF-8 (`source_queries`), and read as OpenURL 1.0 (`openurl_reading`). A reading
+//!   that is written as a query is read as it is (`laws`).
 //! - Its own request is for targets that have the cited title, and one is for those that answer every request; one with
 //!   a further number is for targets that have the title under this number, as another edition.
 //! - All have the pairs of the reading that fit into a query.
@@ -21,6 +22,7 @@ pub mod laws;
 mod reading;
 mod requests;
 mod sent_pair;
+mod utf8;
 
 pub use kev_read::{KevError, Request};
 pub use openurl_reading::{Pairs, Reading};
