@@ -1,7 +1,6 @@
 // Journals by an abbreviated title: its words are the beginnings of those of a title, in their order and equal in
 // number, or shortened within (`Natl`). The update makes the same words and keys, by its file short_titles.py, where
 // the rules have their comments. text.js says in which njs it runs.
-import dates from './dates.js';
 import index from './index.js';
 import texts from './text.js';
 import titles from './titles.js';
@@ -9,6 +8,7 @@ import titles from './titles.js';
 const is = texts.is;
 const NONE = [];
 const MOST_OF_A_PUBLISHER = 60;     // characters: the index has no more
+const YEAR = /^[12]\d{3}(?!\d)/;
 const BRACKETS = /[(\[][^()\[\]]*[)\]]/g;
 const APOSTROPHES = ["'", '`', '\u2018', '\u2019', '\xb4'];
 const STOP = ' a an and the of in on for to at by with from as or der die das des dem den und fur fuer im zur zum von'
@@ -62,7 +62,8 @@ function fitOf(words, others) {
 // Whether a request agrees with a title by more than its name: by the year, the publisher, or the DOI.
 function agrees(q, cells) {
     const years = cells[5].split(' ');
-    const year = dates.dateOf(q.first('rft.date')).slice(0, 4);
+    const date = q.first('rft.date');
+    const year = is(YEAR, date) ? date.slice(0, 4) : '';
     const isWithin = year !== '' && (years[0] === '-' || years[0] <= year) && (years[1] === '-' || year <= years[1]);
     const publisher = titles.keyOf(q.first('rft.pub').slice(0, MOST_OF_A_PUBLISHER));
     const prefix = q.first('x.doi').split('/')[0];

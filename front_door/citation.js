@@ -54,8 +54,8 @@ function citationHtml(c, site) {
     return `<p class="citation">${all || escape(word(site, 'noCitation'))}</p>`;
 }
 
-// The types of RIS for genres, for types of Dublin Core (those of OpenAIRE too), and for the format and kind of a
-// request that names neither. A paper of a conference is CONF, since Zotero and EndNote read that as one in published
+// The types of RIS for genres, for types of Dublin Core (those of OpenAIRE too), and for the format of a request that
+// names neither. A paper of a conference is CONF, since Zotero and EndNote read that as one in published
 // proceedings; CPAPER is an unpublished one for EndNote. A preprint is UNPB, which both read as an unpublished work:
 // RIS has no type for preprints, and JOUR would name a journal.
 const TYPES = {
@@ -69,11 +69,17 @@ const TYPES = {
 function typeNamed(name) {
     return texts.own(TYPES, texts.replaced(name.slice(name.lastIndexOf('/') + 1).toLowerCase(), /[^a-z]/g, ''));
 }
-function typeOf(q, kind) {
+// As the program finds the format of a request that has none.
+function isOfBook(q) {
+    const hasIsbn = q.has('rft.isbn') || q.has('rft.eisbn');
+    const hasIssn = q.has('rft.issn') || q.has('rft.eissn');
+    return (hasIsbn && !hasIssn) || (q.has('rft.btitle') && !q.has('rft.jtitle'));
+}
+function typeOf(q) {
     const format = q.first('rft_val_fmt');
     const named = typeNamed(q.first('rft.genre')) || typeNamed(q.first('rft.type'))
         || typeNamed(format.slice(format.lastIndexOf(':') + 1));
-    const type = named || typeNamed(kind);
+    const type = named || (isOfBook(q) ? 'BOOK' : 'JOUR');
     return type === 'BOOK' && q.has('rft.atitle') ? 'CHAP' : type;
 }
 // `clean` leaves no line end in a value, so no value begins a field of its own.
@@ -83,12 +89,12 @@ function authorsOf(q) {
     const name = [q.first('rft.aulast'), q.first('rft.aufirst') || q.first('rft.auinit')].filter(Boolean).join(', ');
     return authors.length > 0 ? authors : [name || q.first('rft.aucorp')];
 }
-function risOf(q, kind, site) {
+function risOf(q, site) {
     const c = citationOf(q, site);
     c.first = q.first('rft.spage');
     c.last = q.first('rft.epage');
     c.number = c.issn || c.isbn;
-    const lines = [`TY  - ${typeOf(q, kind)}`];
+    const lines = [`TY  - ${typeOf(q)}`];
     const put = (tag, value) => {
         const text = clean(String(value || '')).slice(0, 1000);
         if (text !== '') lines.push(`${tag}  - ${text}`);

@@ -6,13 +6,14 @@ import exchange from './exchange.js';
 import index from './index.js';
 import lookup from './lookup.js';
 import numbers from './numbers.js';
-import openurl from './openurl.js';
+import program from './program.js';
+import reading from './reading.js';
 import texts from './text.js';
 import titles from './titles.js';
 
 const is = texts.is;
 const NONE = [];
-const MOST_FURTHER = 2;  // queries beside the request's and the one for targets that answer every request
+const MOST_FURTHER = 3;  // numbers beside those of the request
 const MOST_MAYBE = 20;
 const MOST_SIMILAR = 16;  // keys of titles like those of a request
 const MOST_LETTERS = 250; // of a title that may be like others
@@ -33,10 +34,37 @@ function keysAsked(q) {
 }
 function ofKind(q, list) { return list.filter((it) => q.kind === '' || it.kind === q.kind); }
 
+// The kind of title that a request says it wants: `j`, `b`, or '' if it may be either.
+const KINDS = { book: 'b', bookitem: 'b', report: 'b', document: 'b', dissertation: 'b', article: 'j', journal: 'j',
+    issue: 'j', preprint: 'j' };
+function kindAsked(q) {
+    const kind = texts.own(KINDS, q.first('rft.genre').trim().toLowerCase());
+    if (kind) return kind;
+    const format = q.isSent('rft_val_fmt') ? q.first('rft_val_fmt') : '';
+    const named = texts.own(KINDS, format.slice(format.lastIndexOf(':') + 1));
+    if (named) return named;
+    return q.isSent('btitle') ? 'b' : q.isSent('jtitle') || q.isSent('stitle') ? 'j' : '';
+}
+
+// Readers paste ISBNs into the field of a title. One that the index knows counts; a title that is nothing else is none.
+const NO_TITLE = /^\W*(?:isbn(?:-1[03])?)?[\W\dx]*$/i;
+async function addIsbnOfTitle(r, q) {
+    const isbns = numbers.numbersIn(titlesAsked(q), numbers.ISBN, 1);
+    const known = isbns.length > 0 ? await index.titlesOf(r, isbns[0]) : NONE;
+    if (known.length === 0) return false;
+    const isNone = (key) => q.has(key) && is(NO_TITLE, q.first(key));
+    TITLE_KEYS[''].concat(['title']).filter(isNone).forEach((key) => { q.replace(key); });
+    q.put('rft.isbn', isbns);
+    q.readNumbers();
+    setKind(q, known[0]);
+    return true;
+}
+
 // A request without a number gets those of the one title of its kind that has its title. Returns the titles that the
 // index has for its titles, null if the request has a number.
 async function addNumbers(r, q) {
-    if (openurl.hasNumber(q)) return null;
+    const hasIsbn = !q.hasNumber() && await addIsbnOfTitle(r, q);
+    if (hasIsbn || q.hasNumber()) return null;
     const keys = keysAsked(q);
     let named = NONE;
     for (let i = 0; i < keys.length; i++) {
@@ -65,16 +93,16 @@ function addNumbersOf(q, title) {
     } else {
         q.put('rft.isbn', title.standard.slice(0, 1));
     }
+    q.readNumbers();
     setKind(q, title);
 }
-// The format and the key of the title, where the request does not say them.
+// The title under the key of its kind, where the request does not say the kind. The program reads the format then.
 function setKind(q, found) {
     if (q.kind !== '') return;
     const key = found.kind === 'b' ? 'rft.btitle' : 'rft.jtitle';
     const other = found.kind === 'b' ? 'rft.jtitle' : 'rft.btitle';
-    if (q.added[other]) q.drop(other);
-    if (!q.has(key)) q.add(key, found.title);
-    if (q.added.rft_val_fmt) q.set('rft_val_fmt', 'info:ofi/fmt:kev:mtx:' + (found.kind === 'b' ? 'book' : 'journal'));
+    if (!q.isSent(other.slice(4))) q.replace(other);
+    if (!q.has(key)) q.put(key, [found.title]);
 }
 
 // The ISBN in the DOI of a chapter or a book, such as 10.1007/978-.._3, 10.1016/B978-...00003-5, 10.1017/CBO978...004.
@@ -85,9 +113,7 @@ function isbnInDoi(q) {
     if (!name.includes('97') || !is(IN_DOI(), name)) return NONE;
     return numbers.numbersIn([IN_DOI().exec(name)[1]], numbers.ISBN, 1);
 }
-function numbersAsked(q) {
-    return [q.first('x.issn'), q.first('x.eissn')].concat(q.isbns).filter(Boolean);
-}
+function numbersAsked(q) { return q.issns.concat(q.isbns); }
 
 // The title of the numbers, and the other numbers of this title.
 async function addTitle(r, q) {
@@ -97,11 +123,12 @@ async function addTitle(r, q) {
     const known = sought.length > 0 ? await titlesFor(r, sought) : NONE;
     q.titles = known;
     if (known.length > 0) {
-        if (asked.length === 0) q.add('x.isbn', inDoi[0]);
+        if (asked.length === 0) q.put('rft.isbn', inDoi);
         if (TITLE_KEYS[''].every((key) => !q.has(key))) {
-            q.add(known[0].kind === 'b' ? 'rft.btitle' : 'rft.jtitle', known[0].title);
+            q.put(known[0].kind === 'b' ? 'rft.btitle' : 'rft.jtitle', [known[0].title]);
         }
-        q.further = furtherQueries(q, known);
+        q.readNumbers();
+        q.further = furtherNumbers(q, known);
     }
 }
 // The titles of the first number, and those of the numbers that these titles do not have.
@@ -114,27 +141,22 @@ async function titlesFor(r, sought) {
         && one.numbers.join(' ') === it.numbers.join(' '))));
 }
 
-// Puts the numbers in the form that the tables have, fills a free place for a second ISSN, and gives the further
-// queries: each has two ISSNs or one ISBN.
-function furtherQueries(q, known) {
-    const all = known.length === 1 ? known[0].numbers : known.reduce((list, it) => list.concat(it.numbers), []);
-    const first = q.first('x.isbn');
-    const forms = all.filter((it) => !numbers.isIssn(it) && numbers.standard(it) === first);
-    if (forms.length > 0 && !forms.includes(first)) q.lead('rft.isbn', forms[0]);
-    const sent = [q.first('rft.issn'), q.first('rft.eissn'), q.first('rft.isbn')];
-    if (all.every((it) => sent.includes(it))) return NONE;
-    const isNew = (it, i) => !sent.includes(it) && all.indexOf(it) === i;
-    const issns = all.filter((it, i) => numbers.isIssn(it) && isNew(it, i));
-    if (q.has('rft.issn') && !q.has('rft.eissn') && issns.length > 0) q.add('rft.eissn', issns.shift());
-    const isbns = q.isbns.concat(all).filter((it, i, list) => !numbers.isIssn(it) && !sent.includes(it)
-        && list.indexOf(it) === i && all.includes(it));
-    const queries = [];
-    for (let i = 0; i < issns.length; i += 2) {
-        const pair = issns.slice(i, i + 2);
-        queries.push({ first: 'rft.issn=' + pair.join('&rft.eissn='), numbers: pair });
+// The other numbers of the titles, in the form that the tables have; one of them fills the free place of a second ISSN.
+const NUMBER = /^[\dX-]{8,17}$/;
+function furtherNumbers(q, known) {
+    const isbn = q.isbns[0];
+    const sent = q.issns.concat(isbn === undefined ? NONE : [isbn]);
+    const all = known.reduce((list, it) => list.concat(it.numbers), []);
+    const others = all.filter((it, i) => is(NUMBER, it) && !sent.includes(it) && all.indexOf(it) === i);
+    const issns = others.filter(numbers.isIssn);
+    if (q.issns.length === 1 && issns.length > 0) {
+        if (q.first('rft.issn') !== sent[0]) q.put('rft.issn', [sent[0]]);
+        q.put('rft.eissn', [issns.shift()]);
     }
-    isbns.forEach((it) => { queries.push({ first: 'rft.isbn=' + it, numbers: [numbers.standard(it)] }); });
-    return queries.slice(0, MOST_FURTHER);
+    // Those of the request come first.
+    const isOwn = (it) => q.isbns.includes(numbers.standard(it));
+    const isbns = others.filter((it) => !numbers.isIssn(it));
+    return issns.concat(isbns.filter(isOwn), isbns.filter((it) => !isOwn(it))).slice(0, MOST_FURTHER);
 }
 
 // The titles that a request may mean, if its numbers are not known: those of its title, then those of a similar one,
@@ -194,9 +216,8 @@ async function addLookedUp(r, q) {
     const wasKnown = q.titles.length > 0;
     const fields = await lookup.more(r, q, titlesAsked(q).length > 0);
     if (fields === null) return;
-    q.kind = openurl.kindAsked(q);
-    if (!openurl.hasNumber(q)) await addNumbersNamed(r, q, fields);
-    openurl.finish(q);
+    q.kind = kindAsked(q);
+    if (!q.hasNumber()) await addNumbersNamed(r, q, fields);
     if (!wasKnown) await addTitle(r, q);
 }
 // The numbers of the one title that a reply names.
@@ -208,22 +229,26 @@ async function addNumbersNamed(r, q, fields) {
     if (found.length === 1) addNumbersOf(q, found[0]);
 }
 
-async function queryOf(r) {
-    const q = openurl.begun(exchange.argsOf(r));
-    let named = null;
-    let isLookedUp = false;
-    if (!q.isEmpty()) {
-        isLookedUp = await lookup.complete(r, q);
-        q.kind = openurl.kindAsked(q);
-        named = await addNumbers(r, q);
-    }
-    openurl.finish(q);
-    if (q.isEmpty()) return q;
+async function addFound(r, q) {
+    const isLookedUp = await lookup.complete(r, q);
+    q.kind = kindAsked(q);
+    const named = await addNumbers(r, q);
     await addTitle(r, q);
     if (!isLookedUp && lookup.mayAskMore(r, q)) await addLookedUp(r, q);
     await addMaybe(r, q, named);
-    q.knowledge = await knowledgeOf(r, q);
+}
+// The request as the program reads it at a place, `/_menu` or `/_read`, once more if the index or a service knows more.
+// Its status is not 200 if the program has not read it; a request without pairs is empty.
+async function queryOf(r, place) {
+    const q = new reading.Reading(exchange.argsOf(r));
+    if (q.args === '') return q;
+    await program.read(r, q, place, q.args);
+    if (q.status !== 200 || q.isEmpty()) return q;
+    await addFound(r, q);
+    const isMore = q.hasFound() || (place === '/_menu' && q.further.length > 0);
+    if (isMore) await program.read(r, q, place, q.textToRead());
+    if (q.status === 200) q.knowledge = await knowledgeOf(r, q);
     return q;
 }
 
-export default { queryOf };
+export default { queryOf, kindAsked };

@@ -1,13 +1,13 @@
 // What a reader sends and gets: the query of an address and a form, and replies in the reader's language. text.js says
 // in which njs it runs.
 import languages from './languages.js';
-import openurl from './openurl.js';
 import pages from './pages.js';
 import texts from './text.js';
 
 const is = texts.is;
 const own = texts.own;
 const NO_ASCII = /[^\x21-\x7e]/;
+const STRAY = /%(?![0-9a-f]{2})/i;
 
 // The library of a request, by the name in the sites of openlink-library; '' for that of openlink.conf. An object that
 // nginx has loaded for a library has its name at the end: `targets__NAME`, with `_` for each hyphen.
@@ -53,13 +53,11 @@ function sendFault(r, status, site) {
     if (is(/^\/find\.json(?:\?|$)/, String(r.variables.request_uri))) sendJson(r, status, { error: status }, site);
     else sendPage(r, status, pages.faultOf(status, site, status < 500 ? '' : doiOf(r)), site);
 }
-// The DOI of a request, or ''. Its rules may be what has failed.
+// The DOI of a request as it was sent, or '': the program, which reads requests, may be what has failed.
+const DOI = texts.lazy('10\\.\\d{4,9}(?:\\.\\d+)*(?:/|%2f)(?:[^&;+?#]|;(?![\\w.]+=))*[^&;+?#.,:]', 'i');
 function doiOf(r) {
-    try {
-        return openurl.begun(r.uri === '/fault' ? argsOfFault(r) : argsOf(r)).first('x.doi');
-    } catch (e) {
-        return '';
-    }
+    const args = r.uri === '/fault' ? argsOfFault(r) : argsOf(r);
+    return is(DOI(), args) ? DOI().exec(args)[0] : '';
 }
 
 // The query of the address and of a form, as ASCII. Every other byte is escaped, line ends first of all: a subrequest's
@@ -84,6 +82,17 @@ function taken(r, key) {
     if (found === undefined) return undefined;
     r.sent = pieces.filter((piece) => !isOf(piece)).join('&');
     return found.slice(key.length + 1);
+}
+// The first value of a key of a list, decoded; '' if it has none.
+function valueOf(r, key) {
+    const found = argsOf(r).split('&').find((piece) => piece.startsWith(key + '='));
+    if (found === undefined) return '';
+    const text = found.slice(key.length + 1).split('+').join(' ');
+    try {
+        return decodeURIComponent(is(STRAY, text) ? text.replace(/%(?![0-9a-f]{2})/gi, '%25') : text);
+    } catch (e) {
+        return '';  // no UTF-8
+    }
 }
 function bytesToText(r) {
     let bytes = r.rawVariables.args || Buffer.from('');
@@ -118,4 +127,4 @@ function guarded(handler) {
     };
 }
 
-export default { argsOf, siteOf, taken, send, sendIn, sendPage, sendJson, sendFault, guarded };
+export default { argsOf, siteOf, taken, valueOf, send, sendIn, sendPage, sendJson, sendFault, guarded };

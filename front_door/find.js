@@ -1,6 +1,6 @@
-// The front door of the link resolver: reads an OpenURL of any source, asks the program for its menu, and replies with
-// the reader's page, JSON or a redirect. An operator edits nothing here: labels are in targets.json, the page's texts
-// in words/. text.js says in which njs it runs.
+// The front door of the link resolver: has the program read a request of any source and find its links, and replies
+// with the reader's page, JSON or a redirect. An operator edits nothing here: labels are in targets.json, the page's
+// texts in words/. text.js says in which njs it runs.
 import browser from './browser.js';
 import citation from './citation.js';
 import completion from './completion.js';
@@ -13,25 +13,34 @@ import index from './index.js';
 import lists from './lists.js';
 import log from './log.js';
 import menu from './menu.js';
-import openurl from './openurl.js';
 import program from './program.js';
-import query from './query.js';
+import reading from './reading.js';
 import search from './search.js';
 import texts from './text.js';
 import titlePages from './title_pages.js';
 
-// Asks the program, unless the query is empty, and gives the groups and the site to `reply`.
-async function answer(r, q, reply) {
+// Reads a request at a place of the program, and gives it and the site to `reply`.
+async function ask(r, place, reply) {
     const site = exchange.siteOf(r);
+    const q = await completion.queryOf(r, place);
     r.variables.openlink_source = log.sourceOf(q);
-    if (q.isEmpty()) return reply(menu.groupsOf(query.NONE, site), site);
-    const menus = await program.menusOf(r, q);
-    if (menus.status !== 200) return exchange.sendFault(r, program.faultStatus(menus), site);
-    await heads.add(r, site, menus.links, q.titles);
-    const groups = menu.groupsOf(menus.links, site);
-    q.offered = await titlePages.offeredTo(r, q, groups, site);
-    logLinks(r, q, groups);
-    return reply(groups, site);
+    if (q.status !== 200) return exchange.sendFault(r, program.faultStatus(q.status), site);
+    return reply(q, site);
+}
+// The same for a page of links: `reply` gets the groups too, and is called once the free copy is known, if the page has
+// it.
+async function answer(r, hasCopy, reply) {
+    return ask(r, '/_menu', async (q, site) => {
+        const copy = hasCopy ? copies.find(r, q) : null;  // beside what follows
+        if (q.isEmpty()) return reply(q, menu.groupsOf(reading.NONE, site), site);
+        const links = program.linksOf(q);
+        await heads.add(r, site, links, q.titles);
+        const groups = menu.groupsOf(links, site);
+        q.offered = await titlePages.offeredTo(r, q, groups, site);
+        logLinks(r, q, groups);
+        if (copy !== null) await copy;
+        return reply(q, groups, site);
+    });
 }
 
 function logTargets(r, names) { r.variables.openlink_targets = names.join(','); }
@@ -51,18 +60,11 @@ function replyPage(r, q, groups, site) {
     const text = q.isEmpty() ? form.formOf(q, site, browser.bookmarkletHtml(r, site)) : menu.pageOf(q, groups, site);
     exchange.sendPage(r, 200, text, site);
 }
-// Replies once the free copy is known, at once if none was asked for.
-function after(copy, reply) { return copy === null ? reply() : copy.then(reply); }
 async function find(r) {
-    const q = await completion.queryOf(r);
-    const copy = copies.find(r, q);  // beside the menus
-    return answer(r, q, (groups, site) => after(copy, () => { replyPage(r, q, groups, site); }));
+    return answer(r, true, (q, groups, site) => { replyPage(r, q, groups, site); });
 }
 async function json(r) {
-    const q = await completion.queryOf(r);
-    const copy = copies.find(r, q);
-    const reply = (groups, site) => { exchange.sendJson(r, 200, menu.dataOf(q, groups, site), site); };
-    return answer(r, q, (groups, site) => after(copy, () => { reply(groups, site); }));
+    return answer(r, true, (q, groups, site) => { exchange.sendJson(r, 200, menu.dataOf(q, groups, site), site); });
 }
 const UNLOGGED = ['openlink_line', 'openlink_wanted', 'openlink_found', 'openlink_targets', 'openlink_source'];
 // Redirects to a link that the page has. It is one that a reader has followed, unless the method is HEAD: then it has a
@@ -79,25 +81,25 @@ function follow(r, q, link) {
     logTargets(r, [link.target]);
     r.return(302, link.url);
 }
+// The page, after the free copy, for which only a page asks.
+async function pageAfterCopy(r, q, groups, site) {
+    const copy = copies.find(r, q);
+    if (copy !== null) await copy;
+    replyPage(r, q, groups, site);
+}
 // The link of `target`, if the page has one. Without `target` the first link, if there is one alone in the first group
 // or `first=1` asks for it. Otherwise the page, and so if the request may mean several titles.
 async function go(r) {
     const target = exchange.taken(r, 'target');
-    const q = await completion.queryOf(r);
-    const isFirst = q.first('first') === '1';
-    q.drop('first');
-    q.drop('target');
-    return answer(r, q, (groups, site) => {
+    const isFirst = exchange.taken(r, 'first') === '1';
+    return answer(r, false, (q, groups, site) => {
         if (target !== undefined) {
             const link = menu.linkTo(q, groups, target);
-            if (link !== undefined) return follow(r, q, link);
-            return after(copies.find(r, q), () => { replyPage(r, q, groups, site); });
+            return link === undefined ? pageAfterCopy(r, q, groups, site) : follow(r, q, link);
         }
         const links = groups[0].links;
         const isOne = links.length === 1 || (isFirst && links.length > 0);
-        if (!isOne || q.maybe.length > 0) {
-            return after(copies.find(r, q), () => { replyPage(r, q, groups, site); });
-        }
+        if (!isOne || q.maybe.length > 0) return pageAfterCopy(r, q, groups, site);
         logTargets(r, [links[0].target]);
         r.return(302, links[0].url);
     });
@@ -105,16 +107,13 @@ async function go(r) {
 
 // The form, filled in with what is known of the request.
 async function cite(r) {
-    const site = exchange.siteOf(r);
-    const q = await completion.queryOf(r);
-    exchange.sendPage(r, 200, form.formOf(q, site, ''), site);
+    return ask(r, '/_read', (q, site) => { exchange.sendPage(r, 200, form.formOf(q, site, ''), site); });
 }
 async function ris(r) {
-    const site = exchange.siteOf(r);
-    const q = await completion.queryOf(r);
-    r.headersOut['Content-Disposition'] = 'attachment; filename="citation.ris"';
-    const text = citation.risOf(q, openurl.kindOf(q), site);
-    exchange.send(r, 200, 'application/x-research-info-systems', text);
+    return ask(r, '/_read', (q, site) => {
+        r.headersOut['Content-Disposition'] = 'attachment; filename="citation.ris"';
+        exchange.send(r, 200, 'application/x-research-info-systems', citation.risOf(q, site));
+    });
 }
 
 // Journals and books by letter, and those that a search finds.
@@ -128,10 +127,9 @@ async function list(r) {
     const kind = found[1] === 'books' ? 'b' : 'j';
     await heads.read(r, site);
     if (found[2] !== undefined) return letter(r, kind, found[2], Number(found[3]), site);
-    const q = new query.Query(exchange.argsOf(r));
-    const text = texts.clean(q.first('q').slice(0, MOST_SOUGHT));
+    const text = texts.clean(exchange.valueOf(r, 'q').slice(0, MOST_SOUGHT));
     if (text !== '') {
-        const titles = await search.search(r, kind, text, lists.pageIn(q.first('page')));
+        const titles = await search.search(r, kind, text, lists.pageIn(exchange.valueOf(r, 'page')));
         return exchange.sendPage(r, 200, lists.searchOf(kind, text, titles, site), site);
     }
     const letters = await index.lettersOf(r, kind);
@@ -149,10 +147,11 @@ async function letter(r, kind, name, page, site) {
 
 // For the operator: why each target has a link or none, for a query of any source.
 async function report(r) {
-    const q = await completion.queryOf(r);
-    const replies = await program.askAll(r, '/_report', program.queriesOf(q));
-    if (replies.status !== 200) return exchange.sendFault(r, program.faultStatus(replies), exchange.siteOf(r));
-    exchange.send(r, 200, 'text/plain', program.joinedReports(replies.texts));
+    return ask(r, '/_read', async (q, site) => {
+        const reports = await program.reportsOn(r, q.strictTexts());
+        if (reports.status !== 200) return exchange.sendFault(r, program.faultStatus(reports.status), site);
+        exchange.send(r, 200, 'text/plain', program.joinedReports(reports.texts));
+    });
 }
 
 // The site's search, for browsers.

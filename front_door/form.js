@@ -14,7 +14,7 @@ const DIGITS = 'inputmode="numeric" spellcheck="false"';
 const PART = 'autocapitalize="none" spellcheck="false"';
 const ISXN = 'autocapitalize="characters" spellcheck="false"';
 const ADDRESS = 'inputmode="url" autocapitalize="none" spellcheck="false"';
-// The name of each field in OpenURL 0.1, or of openurl.js's rule `fields`, and the keys that fill it in.
+// The name of each field in OpenURL 0.1, or `number` and `identifier`, and the keys that fill it in.
 const FIELDS = [
     ['title', 'rft.jtitle rft.btitle rft.title rft.stitle', WORDS], ['atitle', 'rft.atitle', WORDS],
     ['au', 'rft.au rft.aulast', NAMES], ['date', 'rft.date', DIGITS], ['volume', 'rft.volume', PART],

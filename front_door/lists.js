@@ -21,7 +21,7 @@ function titleAddress(it, args, site) {
     const number = it.numbers[0];
     const pair = (numbers.isIssn(number) ? 'rft.issn=' : 'rft.isbn=') + encodeURIComponent(numbers.standard(number));
     if (!args) return pages.addressOf('/find', `rft.genre=${it.kind === 'b' ? 'book' : 'journal'}&${pair}`, site);
-    const isOld = !args.includes('&') && args.includes(';');  // as query.js reads it
+    const isOld = !args.includes('&') && args.includes(';');  // as the program reads it
     return pages.addressOf('/find', pair + (isOld ? ';' : '&') + args, site);
 }
 // What targets have of a title, of all rows or of those for which `isShown` is true.

@@ -2,11 +2,9 @@
 // PMC. It is asked of a number that came without a number and a title of the journal or book, and, if the site wants
 // it, of one that came with a title or with an incomplete citation. What a request says stays. text.js says in which
 // njs it runs.
-import dates from './dates.js';
 import index from './index.js';
 import notices from './notices.js';
 import numbers from './numbers.js';
-import openurl from './openurl.js';
 import replies from './replies.js';
 import texts from './text.js';
 
@@ -96,13 +94,14 @@ function serviceOf(q) {
     const doi = q.first('x.doi');
     const pmid = q.first('x.pmid');
     if (doi !== '') {
-        const isPreprint = is(/^10\.48550\/arxiv\./i, doi);
         if (doi.length > replies.MOST_DOI) return null;
-        return { path: `${isPreprint ? 'arxiv' : 'doi'}?id=${encodeURIComponent(doi)}`,
-            read: isPreprint ? ofDatacite : ofCrossref };
+        if (!is(/^10\.48550\/arxiv\./i, doi)) return { path: `doi?id=${encodeURIComponent(doi)}`, read: ofCrossref };
+        const withoutVersion = doi.replace(/v\d{1,3}$/, '');  // DataCite has one DOI for all versions
+        return { path: `arxiv?id=${encodeURIComponent(withoutVersion)}`, read: ofDatacite };
     }
     if (is(PMID, pmid)) return { path: `pmid?id=${pmid}`, read: ofNcbi };
-    return q.pmc === '' ? null : { path: `pmc?id=${q.pmc}`, read: ofNcbi };
+    const pmc = q.pmc();
+    return pmc === '' ? null : { path: `pmc?id=${pmc}`, read: ofNcbi };
 }
 
 // The keys with which a request says what a field of a reply says.
@@ -114,11 +113,8 @@ const SAME = {
     'rft.jtitle': TITLES, 'rft.btitle': TITLES, 'rft.issn': NUMBERS, 'rft.eissn': NUMBERS, 'rft.isbn': NUMBERS,
     'rft.pages': PAGES, 'rft.aulast': AUTHORS, 'rft.aufirst': AUTHORS
 };
-function hasDate(q) {
-    return ['rft.date', 'rft.year'].some((key) => q.has(key) && dates.dateOf(q.first(key)) !== '');
-}
 function says(q, key) {
-    return key === 'rft.date' ? hasDate(q) : (SAME[key] || [key]).some((one) => q.has(one));
+    return key === 'rft.date' ? q.has('x.from') : (SAME[key] || [key]).some((one) => q.has(one));
 }
 function fill(q, fields) {
     const lacking = Object.keys(fields).filter((key) => !says(q, key));
@@ -126,15 +122,16 @@ function fill(q, fields) {
         const values = fields[key].filter(Boolean);
         if (values.length > 0) q.put(key, values);
     });
-    if (q.added.rft_val_fmt) q.set('rft_val_fmt', 'info:ofi/fmt:kev:mtx:' + openurl.kindOf(q));
+    q.readNumbers();
 }
 // The numbers of a reply beside those of the request, which no title of the index has.
 function addNumbers(q, fields) {
     const all = (key) => fields[key] || NONE;
     const issns = all('rft.issn').concat(all('rft.eissn')).filter((it) => !q.issns.includes(it));
     const isbns = all('rft.isbn').filter((it) => !q.isbns.includes(it));
-    if (q.issns.length === 1 && issns.length > 0) q.lead('rft.eissn', issns[0]);
+    if (q.issns.length === 1 && issns.length > 0) q.put('rft.eissn', [issns[0]]);
     if (q.isbns.length > 0 && isbns.length > 0) q.put('rft.isbn', q.all('rft.isbn').concat(isbns));
+    q.readNumbers();
 }
 
 // Fills in what a request lacks. Returns the fields of the reply, null if no service knows the number.
@@ -148,13 +145,12 @@ async function ask(r, q) {
         q.about = found.updates.about;
     }
     fill(q, found.fields);
-    openurl.readNumbers(q);
     return found.fields;
 }
 
 // The look-up of a number that came without a number and a title of the journal or book. Returns whether it was made.
 async function complete(r, q) {
-    if (!r.variables.openlink_lookup || openurl.hasNumber(q) || TITLE_KEYS.some((key) => q.has(key))) return false;
+    if (!r.variables.openlink_lookup || q.hasNumber() || TITLE_KEYS.some((key) => q.has(key))) return false;
     await ask(r, q);
     return true;
 }
@@ -175,7 +171,7 @@ async function lacksNamed(r, q) {
 }
 // Whether a number that came beside other things may be looked up.
 function mayAskMore(r, q) {
-    const hasNumber = q.has('x.doi') || q.has('x.pmid') || q.pmc !== '';
+    const hasNumber = q.has('x.doi') || q.has('x.pmid') || q.pmc() !== '';
     return hasNumber && r.variables.openlink_lookup_more === 'on' && Boolean(r.variables.openlink_lookup);
 }
 // Such a look-up, where the index knows no title of the request, which has one, or its citation lacks what the rules
@@ -186,7 +182,6 @@ async function more(r, q, hasTitle) {
     const fields = isWanted ? await ask(r, q) : null;
     if (fields === null || isKnown) return fields;
     addNumbers(q, fields);
-    openurl.readNumbers(q);
     return fields;
 }
 

@@ -1,5 +1,5 @@
 // Notices of retractions and corrections, as Crossref and PubMed have them in the record of an article, and in that of
-// the notice itself, which is not what was retracted. retractions.js knows the remarks that sources write into titles.
+// the notice itself, which is not what was retracted. The program knows the remarks that sources write into titles.
 // text.js says in which njs it runs.
 import pages from './pages.js';
 import replies from './replies.js';

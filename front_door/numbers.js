@@ -54,17 +54,6 @@ function isbn13(digits) {
     return body + (10 - sum % 10) % 10;
 }
 
-// Whether the last of ten or thirteen digits is the one that ISO 2108 gives.
-function isRight(digits) {
-    const isLong = digits.length === 13;
-    let sum = 0;
-    for (let i = 0; i < digits.length; i++) {
-        const digit = is(/x/i, digits.charAt(i)) ? 10 : Number(digits.charAt(i));
-        sum += digit * (isLong ? 1 + i % 2 * 2 : 10 - i);
-    }
-    return (isLong && sum % 10 === 0) || (digits.length === 10 && sum % 11 === 0);
-}
-
 // The first `count` different numbers of a kind in texts, written as the standards do.
 function numbersIn(values, kind, count) {
     const found = [];
@@ -84,4 +73,4 @@ function numbersIn(values, kind, count) {
 function standard(number) { return number.length === 10 ? isbn13(number) : number; }
 function isIssn(number) { return number.length === 9; }
 
-export default { plain, ascii, isRight, ISSN, ISBN, numbersIn, standard, isIssn };
+export default { ISSN, ISBN, numbersIn, standard, isIssn };

@@ -120,13 +120,14 @@ const MOST_DOI = 300;
 function doiLink(doi) {
     return anchor(`https://doi.org/${encodeURIComponent(doi).split('%2F').join('/')}`, `doi.org/${doi}`);
 }
+// The same of a DOI as a request has it, whose escapes are those of an address.
 function doiHtml(doi, site) {
     if (!doi || doi.length > MOST_DOI) return [];
-    const link = doiLink(doi);
+    const link = anchor(`https://doi.org/${doi}`, `doi.org/${doi}`);
     const text = words.filled(site, 'byDoi', '\t').split('\t').map(escape);
     return [`<p>${text.length > 1 ? text.join(link) : link}</p>`];
 }
-// The page of an error, for a request that may have a DOI.
+// The page of an error, for a request that may have a DOI, as it was sent.
 function faultOf(status, site, doi) {
     const title = word(site, faultName(status) + 'Title');
     return documentOf(title, title, [faultHtml(status, site)].concat(doiHtml(doi, site)), site);

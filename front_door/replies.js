@@ -1,7 +1,6 @@
 // The replies of the services that a look-up asks, by a proxy of the site: openlink.conf has it, and without it none is
 // asked. Every byte of a reply is a stranger's. One that is late or wrong is no reply, and a field of it counts if it
 // has the expected form. text.js says in which njs it runs.
-import identifying from './identifiers.js';
 import texts from './text.js';
 import titles from './titles.js';
 
@@ -20,10 +19,10 @@ function firstOf(value) { return textOf(Array.isArray(value) ? value[0] : value)
 function recordOf(value) { return texts.isObject(value) && !Array.isArray(value) ? value : {}; }
 function firstRecordOf(value) { return recordOf(Array.isArray(value) ? value[0] : undefined); }
 // A DOI without a prefix, '' if it is none. Old ones have `<` and `>`, which are no tags.
+const DOI = texts.lazy('^(?:doi: ?|https?://(?:dx\\.)?doi\\.org/)?(10\\.[\\d.]{4,20}/[^\\s]*[^\\s.,;:])[.,;:]*$', 'i');
 function doiOf(value) {
     const text = typeof value === 'string' && value.length <= MOST_DOI ? texts.clean(value) : '';
-    const found = text === '' ? null : identifying.identifierIn(text, '');
-    return found !== null && found[0] === 'x.doi' ? found[1] : '';
+    return text !== '' && texts.is(DOI(), text) ? DOI().exec(text)[1] : '';
 }
 
 // The milliseconds that the look-ups of a request still have.

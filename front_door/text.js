@@ -43,12 +43,6 @@ function clean(value) {
     const text = is(CONTROLS, value) ? replaced(value, CONTROLS, ' ') : value;
     return (text.includes('  ') ? replaced(text, /\s+/g, ' ') : text).trim();
 }
-// In njs `$` is also before a last line end, so no value of a request ends with one.
-function withoutLineEnds(text) {
-    let end = text.length;
-    while (end > 0 && text.charAt(end - 1) === '\n') end--;
-    return end === text.length ? text : text.slice(0, end);
-}
 // By `split`, since a long address may have thousands of them.
 const ENTITIES = [['&', '&amp;'], ['<', '&lt;'], ['>', '&gt;'], ['"', '&quot;'], ["'", '&#39;']];
 function escape(text) {
@@ -62,4 +56,4 @@ function escape(text) {
 // In njs the flag `i` takes U+212A for a `k`.
 function isWeb(link) { return is(/^[Hh][Tt][Tt][Pp][Ss]?:\/\/./, link) && !is(/[^\x21-\x7e]/, link); }
 
-export default { own, is, isObject, lazy, padded, replaced, clean, withoutLineEnds, escape, isWeb, targetOf };
+export default { own, is, isObject, lazy, padded, replaced, clean, escape, isWeb, targetOf };

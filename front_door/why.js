@@ -163,9 +163,11 @@ function pageOf(q, replies, site) {
 async function why(r) {
     const site = exchange.siteOf(r);
     site.isForStaff = true;
-    const q = await completion.queryOf(r);
-    const replies = await program.askAll(r, '/_report', program.queriesOf(q));
-    exchange.sendPage(r, replies.status === 200 ? 200 : program.faultStatus(replies), pageOf(q, replies, site), site);
+    const q = await completion.queryOf(r, '/_read');
+    const replies = q.status === 200 ? await program.reportsOn(r, q.strictTexts())
+        : { queries: [], status: q.status, texts: [''] };
+    const status = replies.status === 200 ? 200 : program.faultStatus(replies.status);
+    exchange.sendPage(r, status, pageOf(q, replies, site), site);
 }
 
 export default { registryOf, commandOf, quotedQuery, folderOf, why: exchange.guarded(why) };

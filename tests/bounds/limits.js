@@ -1,8 +1,7 @@
 // The limits of the front door's scripts: for each the last value that counts and the first one beyond it. Runs in njs,
-// which finds the modules and fold.js in a folder that test_javascript.py writes. Prints a line of JSON for each case:
-// the file whose limit it is and what it is, alone or with what it gives and what was expected; last how many there
-// are.
-import addresses from './addresses.js';
+// which finds the modules and what the program reads in a folder that fixtures/readings.py writes. Prints a line of
+// JSON for each case: the file whose limit it is and what it is, alone or with what it gives and what was expected;
+// last how many there are.
 import browser from './browser.js';
 import completion from './completion.js';
 import contact from './contact.js';
@@ -11,22 +10,17 @@ import door from './find.js';
 import exchange from './exchange.js';
 import folding from './fold.js';
 import form from './form.js';
-import identifying from './identifiers.js';
 import index from './index.js';
+import known from './known.js';
 import languages from './languages.js';
-import latex from './latex.js';
 import lists from './lists.js';
 import log from './log.js';
 import lookup from './lookup.js';
 import menus from './menu.js';
 import notices from './notices.js';
 import numbers from './numbers.js';
-import openurl from './openurl.js';
 import pages from './pages.js';
-import query from './query.js';
-import references from './references.js';
 import replies from './replies.js';
-import retractions from './retractions.js';
 import search from './search.js';
 import titlePages from './title_pages.js';
 
@@ -71,8 +65,9 @@ function requestWith(args, titles) {
     return {
         uri: '/journals', method: 'GET', headersIn: {}, headersOut: {}, variables: {},
         rawVariables: { args: Buffer.from(args) }, paths: [],
-        subrequest: function (path) {
+        subrequest: function (path, options) {
             this.paths.push(path);
+            if (known.isOfProgram(path)) return Promise.resolve(known.replyTo(options.args));
             return Promise.resolve({ status: 200, responseBuffer: Buffer.from(fileOf(path, titles)) });
         },
         return: function (status, text) { this.replied = text; }
@@ -85,32 +80,33 @@ async function testFurther(most, expected) {
     const all = counted(most, issn);
     const titles = {};
     titles[all[0]] = ['j\tTides\t' + all.join(' ') + '\t'];
-    const q = await completion.queryOf(requestWith('issn=' + all[0], titles));
-    expect('completion', most + ' numbers of a title', q.further.map((it) => it.numbers.join(' ')).join(), expected);
+    const q = await completion.queryOf(requestWith('issn=' + all[0], titles), '/_menu');
+    expect('completion', most + ' numbers of a title', q.further.join(' '), expected);
 }
 async function testMaybe(most, expected) {
     const titles = { '=tides': counted(most, (i) => 'j\tTides\t' + issn(i) + '\t') };
-    const q = await completion.queryOf(requestWith('rft.jtitle=Tides', titles));
+    const q = await completion.queryOf(requestWith('rft.jtitle=Tides', titles), '/_menu');
     expect('completion', most + ' titles of one name', q.maybe.length, expected);
 }
 // The first title has fourteen keys of similar titles, and the last key of the second one is in the index.
 async function testSimilar(name, keys, expected) {
     const args = 'rft.jtitle=T%C3%BCde+and+B+(a):+b&rft.stitle=' + name;
     const r = requestWith(args, { '~coast': ['j\tCoast\t1000-0010\t'] });
-    const q = await completion.queryOf(r);
+    const q = await completion.queryOf(r, '/_menu');
     expect('completion', keys + ' keys of similar titles', q.maybe.length, expected);
     // Those of both titles, the initials of the shorter one, and similar ones.
     expect('completion', 'keys that are sought, of ' + keys, readBelow(r, '/index/keys/'), 2 + 1 + 16);
 }
 async function testLetters(most, expected) {
     const title = 'Coast: ' + repeated('a', most - 7);
-    const q = await completion.queryOf(requestWith('rft.jtitle=' + title, { '=coast': ['j\tCoast\t1000-0010\t'] }));
+    const r = requestWith('rft.jtitle=' + title, { '=coast': ['j\tCoast\t1000-0010\t'] });
+    const q = await completion.queryOf(r, '/_menu');
     expect('completion', 'a title of ' + most + ' characters', q.maybe.length, expected);
 }
 async function testCompletion() {
-    const two = '1000-0030 1000-0040,1000-0050 1000-0060';
-    await testFurther(6, two);
-    await testFurther(7, two);
+    const three = '1000-0030 1000-0040 1000-0050';
+    await testFurther(5, three);
+    await testFurther(6, three);
     await testMaybe(20, 20);
     await testMaybe(21, 20);
     await testSimilar('Coast', 16, 1);
@@ -138,7 +134,7 @@ function replyAfter(milliseconds, work, data) {
 // A request of a site with the look-up, and what it is after a reply to a number that came alone.
 function requestOfLookup() { return { variables: { openlink_lookup: 'http://127.0.0.1:8078' }, rawVariables: {} }; }
 async function lookedUp(args) {
-    const q = openurl.begun(args || 'id=doi:10.5555/a');
+    const q = known.queryOf(args || 'id=doi:10.5555/a');
     await lookup.complete(requestOfLookup(), q);
     return q;
 }
@@ -166,9 +162,9 @@ async function testTimeOfAll(milliseconds, name, expected) {
     const clock = { time: 1000 };
     Date.now = () => clock.time;
     replyAfter(0, { title: ['Tides'] });
-    await lookup.complete(r, openurl.begun('id=doi:10.5555/a'));
+    await lookup.complete(r, known.queryOf('id=doi:10.5555/a'));
     clock.time += milliseconds;
-    const q = openurl.begun('id=doi:10.5555/a');
+    const q = known.queryOf('id=doi:10.5555/a');
     await lookup.complete(r, q);
     Date.now = now;
     expect('replies', name, q.first('rft.atitle'), expected);
@@ -187,7 +183,7 @@ async function testLookup() {
 async function testLongDois() {
     const site = { openlink_lookup: 'http://127.0.0.1:8078', openlink_free_copies: 'on' };
     for (let length = 300; length <= 301; length++) {
-        const ask = () => openurl.begun('id=doi:10.5555/' + repeated('a', length - 8));
+        const ask = () => known.queryOf('id=doi:10.5555/' + repeated('a', length - 8));
         const asked = length === 300 ? 1 : 0;
         replyAfter(0, {});
         await lookup.complete({ variables: site, rawVariables: {} }, ask());
@@ -238,27 +234,6 @@ function testNotices() {
 }
 
 // ---------------------------------------------------------------- Texts of a request
-function testIdentifiers() {
-    const doi = (length) => '10.5555/' + repeated('a', length - 8);
-    expect('identifiers', '500 characters', foundOrNone(identifying.identifierIn(doi(500), 'id')), 'found');
-    expect('identifiers', '501 characters', foundOrNone(identifying.identifierIn(doi(501), 'id')), 'none');
-    const divided = function (lines) {
-        return identifying.identifierIn('10.5555/' + counted(lines - 1, (i) => '\n' + i).join(''), 'id')[1];
-    };
-    expect('identifiers', '10 lines', divided(10), '10.5555/123456789');
-    expect('identifiers', '11 lines', divided(11), '10.5555/123456789');
-    const pasted = (length) => repeated('a ', (length - 13) / 2) + '10.5555/abcde';
-    expect('identifiers', '999 pasted characters', foundOrNone(identifying.pastedIn(pasted(999))), 'found');
-    expect('identifiers', '1000 pasted characters', foundOrNone(identifying.pastedIn(pasted(999) + 'f')), 'found');
-    expect('identifiers', '1001 pasted characters', foundOrNone(identifying.pastedIn(pasted(1001))), 'none');
-}
-function testAddresses() {
-    const address = (length) => 'https://e.org/' + repeated('a', length - 26) + '/10.5555/abc';
-    [[1999, 'found'], [2000, 'found'], [2001, 'none']].forEach((it) => {
-        const found = foundOrNone(addresses.identifierIn(address(it[0])));
-        expect('addresses', it[0] + ' characters', address(it[0]).length + ' ' + found, it[0] + ' ' + it[1]);
-    });
-}
 function testNumbers() {
     const within = (text) => numbers.numbersIn([text], numbers.ISSN, 1).length;
     expect('numbers', '200 characters', within(repeated('a', 190) + ' 2901-0012'), 1);
@@ -266,78 +241,31 @@ function testNumbers() {
     expect('numbers', '12 lines', within(repeated('a\n', 11) + '2901-0012'), 1);
     expect('numbers', '13 lines', within(repeated('a\n', 12) + '2901-0012'), 0);
 }
-function testOpenurl() {
-    const core = 'rft_val_fmt=info:ofi/fmt:kev:mtx:dc&rft.source=';
-    [500, 501].forEach((length) => {
-        const q = openurl.queryOf(core + repeated('a', length));
-        expect('openurl', 'a source of ' + length + ' characters', q.first('rft.jtitle').length, 500);
-    });
-    const after = (most) => openurl.queryOf(core + 'Tides' + repeated('&rft.source=Silt', most - 2)
-        + '&rft.source=Coast+12(3):45-67').first('rft.volume');
-    expect('openurl', '6 sources', after(6), '12');
-    expect('openurl', '7 sources', after(7), '');
+function testReading() {
     [4, 5].forEach((most) => {
         const isbns = counted(most, (i) => 'isbn=978000000000' + i);
-        expect('openurl', most + ' ISBNs', openurl.queryOf(isbns.join('&')).isbns.length, 4);
+        expect('reading', most + ' ISBNs', known.queryOf(isbns.join('&')).isbns.length, 4);
     });
-}
-function testQuery() {
-    [300, 301].forEach((most) => {
-        const q = new query.Query(counted(most, (i) => 'a=' + i).join('&'));
-        expect('query', most + ' pairs', q.given.a.length, 300);
-        // So do pairs of other forms, and those that are dropped.
-        ['B=%41', 'title_url=1'].forEach((pair) => {
-            const other = new query.Query(repeated(pair + '&', most - 1) + 'a=1');
-            expect('query', 'a pair after ' + (most - 1) + ' as ' + pair, other.first('a'), most > 300 ? '' : '1');
-        });
-    });
-    const sent = (length) => openurl.requestText(new query.Query('a=' + repeated('x', length - 6) + '&b=1'));
-    expect('query', '12000 bytes', sent(12000).length, 12000);
-    expect('query', '12001 bytes', sent(12001).length, 11997);
-    [[11979, 12000], [11980, 18]].forEach((it) => {
-        const q = new query.Query('issn=2901-0012&a=' + repeated('x', it[0]));
-        q.copy('issn', 'rft.issn');
-        expect('query', it[0] + ' bytes after a copied pair', openurl.requestText(q).length, it[1]);
+    [2, 3].forEach((most) => {
+        expect('reading', most + ' ISSNs', known.queryOf('issn=' + counted(most, issn).join(',')).issns.length, 2);
     });
     [20, 21].forEach((most) => {
-        const q = new query.Query(repeated('rft.au=Li&', most));
-        expect('query', most + ' values of a key', q.all('rft.au').length, 20);
+        const q = known.queryOf('rft_val_fmt=x&' + repeated('rft.au=Li&', most));
+        expect('reading', most + ' values of a key', q.all('rft.au').length, 20);
     });
-    [50, 51].forEach((most) => {
-        const q = new query.Query('rft.atitle=a' + repeated('&+b', most));
-        expect('query', most + ' parts of a title', q.first('rft.atitle').split('&').length, 51);
+    [14000, 14001].forEach((length) => {
+        const q = known.queryOf('b=1');
+        q.replace('b');
+        q.put('a', [repeated('x', length - 6)]);
+        q.put('c', ['1']);
+        expect('reading', length + ' bytes', q.textToRead().length, length === 14000 ? 14000 : 13997);
     });
-}
-function testReferences() {
-    const reference = ' 12(3):45-67';
-    const pagesIn = (length) => references.partsOf(repeated('a', length - 12) + reference, false).pages;
-    expect('references', '500 characters', pagesIn(500), '45-67');
-    expect('references', '501 characters', pagesIn(501), '45-6');
-    const yearOf = (before) => references.partsOf('2012 ' + repeated('a', before - 6) + ' v. 12 p. 4', false).year;
-    expect('references', 'a year that begins 14 characters before', yearOf(14), '2012');
-    expect('references', 'a year that begins 15 characters before', yearOf(15), undefined);
-    const nameIn = (dots) => references.partsOf('Tides' + repeated('.', dots) + 'v. 12 p. 4', false).name;
-    expect('references', '32 dots after a name', nameIn(32), 'Tides');
-    expect('references', '33 dots after a name', nameIn(33), 'Tides.');
-}
-function testRetractions() {
-    const longest = '(this article has been retracted conference paper see ';
-    const left = (length) => retractions.withoutRemark('Silt' + longest + repeated('a', length - 55) + ')').length;
-    expect('retractions', 'a remark of 200 characters', left(200), 4);
-    expect('retractions', 'a remark of 201 characters', left(201), 205);
-}
-function testLatex() {
-    const braces = (most) => latex.plain(repeated('{', most) + 'a' + repeated('}', most));
-    expect('latex', '4 braces in each other', braces(4), 'a');
-    expect('latex', '5 braces in each other', braces(5), '{a}');
-    expect('latex', '2000 characters', latex.plain('{' + repeated('a', 1998) + '}').length, 1998);
-    expect('latex', '2001 characters', latex.plain('{' + repeated('a', 1999) + '}').length, 2001);
 }
 function testLog() {
-    expect('log', 'a source without a host', log.sourceOf(new query.Query('rfr_id=info:sid/')), '');
-    expect('log', 'no source', log.sourceOf(new query.Query('a=b')), '');
+    expect('log', 'a source without a host', log.sourceOf(known.queryOf('rfr_id=info:sid/')), '');
+    expect('log', 'no source', log.sourceOf(known.queryOf('a=b')), '');
     [60, 61].forEach((length) => {
-        const q = new query.Query('rfr_id=info:sid/' + repeated('a', length));
+        const q = known.queryOf('rfr_id=info:sid/' + repeated('a', length));
         expect('log', 'a source of ' + length + ' characters', log.sourceOf(q), 'info:sid/' + repeated('a', 60));
     });
 }
@@ -378,7 +306,7 @@ function testLists() {
     });
 }
 function testTitlePages() {
-    const q = new query.Query('rft.issn=1000-0010');
+    const q = known.queryOf('rft.issn=1000-0010');
     [4, 5].forEach((most) => {
         const rows = counted(most, (i) => 't ' + i + ' 200' + i + ' 200' + i);
         q.titles = [{ kind: 'j', pages: [{ target: 't', url: 'https://e.org/' }], rows }];
@@ -404,7 +332,7 @@ function testMenu() {
     const texts = { fullText: '{}', others: '{} ..' };
     const site = languages.siteIn({ groups: [{ name: 'A' }], targets, words: texts }, '');
     const headingOf = function (args, links) {
-        const q = openurl.queryOf(args);
+        const q = known.queryOf(args);
         return /<h1>([^<]*)<\/h1>/.exec(menus.pageOf(q, menus.groupsOf(links, site), site))[1];
     };
     const linkOf = (i) => ({ target: 't' + i, url: 'https://e.org/', edition: null, row: null });
@@ -415,14 +343,14 @@ function testMenu() {
     expect('menu', '201 characters', headingOf('atitle=' + repeated('a', 201), []), repeated('a', 199) + '\u2026');
     site.isFollowed = true;
     [[2048, true], [2049, false]].forEach((it) => {
-        const q = openurl.queryOf('atitle=' + repeated('a', it[0] - 7));
+        const q = known.queryOf('atitle=' + repeated('a', it[0] - 7));
         const text = menus.pageOf(q, menus.groupsOf(found(32), site), site);
         expect('menu', '32 links of ' + it[0] + ' bytes', text.includes('"/go?target=t31&amp;atitle='), it[1]);
     });
 }
 function testForm() {
     [30, 31].forEach((length) => {
-        const text = form.formHtml(openurl.queryOf('genre=' + repeated('a', length)), languages.siteIn({}, ''));
+        const text = form.formHtml(known.queryOf('genre=' + repeated('a', length)), languages.siteIn({}, ''));
         const found = /name="genre" value="(.*)"/.exec(text);
         expect('form', 'a genre of ' + length + ' characters', found && found[1], repeated('a', 30));
     });
@@ -457,19 +385,13 @@ async function testSearch(words) {
         expect('search', most + ' numbers of each kind', readBelow(asked, '/index/keys/'), 4);
     }
     // The key of a title ends before its numbers.
-    const known = [{ lines: ['Tides\t1000-0010\t', 'Tides 05\t1000-0029\t'] }];
-    const first = await search.firstPlace({ known }, 0, 2, (key) => key < 'tides 05');
+    const pagesKnown = [{ lines: ['Tides\t1000-0010\t', 'Tides 05\t1000-0029\t'] }];
+    const first = await search.firstPlace({ known: pagesKnown }, 0, 2, (key) => key < 'tides 05');
     expect('search', 'the place of a title that begins as a shorter one', first, 1);
 }
 
-testIdentifiers();
-testAddresses();
 testNumbers();
-testOpenurl();
-testQuery();
-testReferences();
-testRetractions();
-testLatex();
+testReading();
 testLog();
 testContact();
 testLanguages();

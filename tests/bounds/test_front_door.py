@@ -23,21 +23,28 @@ from fixtures.patience import best_of_three
 from fixtures.patience import patience
 from fixtures.site_case import FORM
 from fixtures.site_case import SiteCase
-from fixtures.stand_in_processes import FOR_ANY
+from fixtures.stand_in_processes import ASKED_AGAIN
 from fixtures.stand_in_processes import HEAD
-from fixtures.stand_in_processes import LINE
+from fixtures.stand_in_processes import LINK
 from fixtures.stand_in_processes import QUERY
-from fixtures.stand_in_processes import WHOLE
 from fixtures.stand_in_processes import in_place
+from fixtures.stand_in_processes import menu
+from fixtures.stand_in_processes import reply_with
+from fixtures.stand_in_processes import whole
 from openlink_update.machines import library_files
 
 KB = 1024
 
 
-def menu(length: int) -> str:
-    """A reply of a process with a menu of that many bytes: a line that is none, and a link."""
-    text = "a" * (length - len(LINE) - 1) + "\n" + LINE
-    return HEAD.format(len(text)) + text
+def menu_of(length: int) -> str:
+    """A reply of a process with a menu of that many bytes, of which most are white space."""
+    return reply_with(menu(LINK).rjust(length))
+
+
+def reading_of_doi(request: str) -> str:
+    """A menu without links for a DOI, with the title that a service has found."""
+    found = {"rft.atitle": "Silt"} if "rft.atitle=Silt" in request else {}
+    return reply_with(menu(pairs={"x.doi": "10.5555/a", **found}))
 
 
 class Heads(SiteCase):
@@ -75,6 +82,19 @@ class Heads(SiteCase):
             volume = json.loads(reply.text).get("citation", {}).get("volume")
             self.expect(f"a form of {length} bytes", (reply.status, volume), expected)
 
+    def test_addresses_and_forms(self) -> None:
+        """Together they have 14,000 bytes, three of them for each that is escaped."""
+        address, start = "x=".ljust(7000, "a"), b"issn=2901-0012&y="
+        for form, status in (
+            (start.ljust(6999, b"a"), 200),
+            (start.ljust(7000, b"a"), 413),
+            (start + b"\xe9" * 2327, 200),
+            (start + b"\xe9" * 2328, 413),
+        ):
+            for path in ("/find", "/find.json"):
+                reply = self.site.get(f"{path}?{address}", "POST", form, FORM)
+                self.expect(f"{path}, a form of {len(form)} bytes", reply.status, status)
+
 
 class Replies(SiteCase):
     """What a process may reply. All have ended, and others are in their places."""
@@ -94,7 +114,7 @@ class Replies(SiteCase):
 
     def links(self, length: int) -> list[str] | str:
         """Those of a page if the menu of a process has that many bytes, or why there is no page."""
-        with in_place(self.site.ports, [lambda head: WHOLE if FOR_ANY in head else menu(length)]):
+        with in_place(self.site.ports, [lambda head: whole(head) if ASKED_AGAIN in head else menu_of(length)]):
             try:
                 groups = json.loads(self.site.get(f"/find.json?{QUERY}").text)["groups"]
             except OSError as fault:
@@ -113,7 +133,7 @@ class Replies(SiteCase):
         lookup = free_ports(1)[0]
         line = 'js_var $openlink_lookup "http://127.0.0.1:{}";'
         before = self.site.edit((f"#{line.format(8078)}", line.format(lookup)))
-        with in_place([*self.site.ports, lookup], [lambda _: WHOLE, lambda _: HEAD.format(length) + text]):
+        with in_place([*self.site.ports, lookup], [reading_of_doi, lambda _: HEAD.format(length) + text]):
             citation = json.loads(self.site.get("/find.json?id=doi:10.5555/a").text)["citation"]
         self.site.write_site(before)
         title: str | None = citation.get("title")
@@ -125,7 +145,7 @@ class Replies(SiteCase):
 
     def test_replies_for_health(self) -> None:
         def answers(length: int) -> bool:
-            with in_place(self.site.ports, [lambda _: menu(length)]):
+            with in_place(self.site.ports, [lambda _: menu_of(length)]):
                 lines = self.site.get("/health", port=self.site.report_port).text.splitlines()
             return f"port {self.site.ports[0]} answers" in lines
 
@@ -205,13 +225,13 @@ class Processes(Waiting):
 
     def test_replies(self) -> None:
         """A process that does not reply, and a service that does not."""
-        with in_place([*self.site.ports, self.lookup], [lambda _: WHOLE] * 2, patience(30)):
+        with in_place([*self.site.ports, self.lookup], [whole] * 2, patience(30)):
             self.check(
                 ("a process, for a reader", 3, "/openurl.txt", self.site.port),
                 ("a process, for the machine itself", 4, "/health", self.site.report_port),
                 ("a process, for the balancer", 0.5, "/health", self.balancer),
             )
-        with in_place([self.lookup], [lambda _: WHOLE], patience(30)), in_place(self.site.ports, [lambda _: WHOLE]):
+        with in_place([self.lookup], [whole], patience(30)), in_place(self.site.ports, [reading_of_doi]):
             self.check(("a look-up", 2, "/find?id=doi:10.5555/a", self.site.port))
 
     def test_connections(self) -> None:

@@ -1,8 +1,8 @@
 // What a request becomes by the library's index and by the services of a look-up, without nginx: both are stand-ins.
 import completion from './completion.js';
 import index from './index.js';
+import known from './known.js';
 import languages from './languages.js';
-import openurl from './openurl.js';
 import titlePages from './title_pages.js';
 
 // The file of an index at a path that has these lines by their keys.
@@ -19,7 +19,12 @@ function requestWith(args, titles, variables) {
     return {
         uri: '/find', method: 'GET', headersIn: {}, headersOut: {}, variables: variables || {},
         rawVariables: { args: Buffer.from(args) },
-        subrequest: function (path) {
+        places: [],
+        subrequest: function (path, options) {
+            if (known.isOfProgram(path)) {
+                this.places.push(path + '?' + options.args);
+                return Promise.resolve(known.replyTo(options.args));
+            }
             const text = titles === null ? '' : path === '/index/format' ? '6\n' : fileOf(path, titles);
             return Promise.resolve({ status: text === '' ? 404 : 200, responseBuffer: Buffer.from(text || '<p>No\n') });
         }
@@ -54,7 +59,7 @@ const TITLES = {
     '=sea and coast': ['j\tSea and coast\t2980-0016\t'], '=kuste': ['j\tK\u00fcste\t2990-0017\t'],
     '~tides studies': ['j\tTides studies: x\t2930-0018\t'], '~two': ['j\tTwo: x\t2920-0019\t'],
     '=sued': ['j\tSued\t2910-0011\t'], '2950-0013': ['j\tBoth\t2950-0013\t'],
-    9781234560874: ['b\tSeries\t9781234560874 2940-0011\t'],
+    9781234560874: ['b\tSeries\t9781234560874 2940-0011\t'], '=series': ['b\tSeries\t9781234560874 2940-0011\t'],
     '=three': [THREE], '2915-0016': [THREE],
     '2925-0019': ['j\tSeven\t2925-0019 2925-0027 2925-0035 2925-0043 2925-0051 2925-006X 2925-0078\t'],
     '2935-0011': ['j\tOne\t2935-0011 2935-0038\t', 'j\tOther\t2935-0011 2935-0038\t'],
@@ -121,7 +126,7 @@ function summary(more) { return { result: { uids: ['12'], 12: Object.assign({}, 
 const NCBI = [
     ['id=pmid:12', summary(),
         'genre=article|atitle=Silt|jtitle=Tides|issn=2901-0012|eissn=2908-0142|volume=12|issue=3|spage=45'
-        + '|date=2003-05|aulast=Li|x.doi=10.5555/abc|x.pmid=12'],
+        + '|date=2003-05+2003 May 1|aulast=Li|x.doi=10.5555/abc|x.pmid=12'],
     ['rft_id=PMC7', summary(), 'atitle=Silt|x.pmid=12|x.doi=10.5555/abc'],
     ['id=pmid:12', summary({ title: '' }), 'genre=|atitle='], ['id=pmid:12', summary({ title: 'Why?' }), 'atitle=Why?'],
     ['id=pmid:12', summary({ authors: [{ name: 'Tide Group' }] }), 'aulast=Tide Group'],
@@ -166,7 +171,7 @@ const INDEXED = [
     [DOI + '&rft.title=Nothing', work('book'), 'btitle=|title=Nothing|x.isbn=9780198534532'],
     // the numbers of the reply come after those of the request, each once
     [DOI + '&isbn=9781000000009&btitle=Nothing', work('book', { ISBN: ['9781000000009', '9780198534532'] }),
-        'isbn=9781000000009+9780198534532|x.isbn=9781000000009'],
+        'isbn=9781000000009+9780198534532+9781000000009|x.isbn=9781000000009'],
     ['id=pmid:12&issn=1000-0010&jtitle=Nothing', summary({ issn: '1000-0010' }), 'issn=1000-0010|eissn=2908-0142']
 ];
 // A request, the variables of the site, and the path of the proxy that is asked.
@@ -189,18 +194,18 @@ async function testServices(expect) {
     const all = CROSSREF.concat(NCBI, DATACITE);
     for (let i = 0; i < all.length; i++) {
         replyWith(all[i][1]);
-        const q = await completion.queryOf(requestWith(all[i][0], null, LOOKUP));
+        const q = await completion.queryOf(requestWith(all[i][0], null, LOOKUP), '/_menu');
         expect('looked up, ' + all[i][0] + ' ' + i, valuesOf(q, all[i][2]), all[i][2]);
     }
     for (let i = 0; i < INDEXED.length; i++) {
         replyWith(INDEXED[i][1]);
-        const q = await completion.queryOf(requestWith(INDEXED[i][0], TITLES, MORE));
+        const q = await completion.queryOf(requestWith(INDEXED[i][0], TITLES, MORE), '/_menu');
         expect('beside the index, ' + INDEXED[i][0] + ' ' + i, valuesOf(q, INDEXED[i][2]), INDEXED[i][2]);
         expect('asked once, ' + i, paths.length, 1);
     }
     for (let i = 0; i < ASKED.length; i++) {
         replyWith(null);
-        await completion.queryOf(requestWith(ASKED[i][0], null, ASKED[i][1]));
+        await completion.queryOf(requestWith(ASKED[i][0], null, ASKED[i][1]), '/_menu');
         expect('what is asked for ' + ASKED[i][0] + ' ' + i, paths.join(' '), ASKED[i][2]);
     }
 }
@@ -209,7 +214,7 @@ async function testServices(expect) {
 // A request, and what is known then. `known` is what is certain, and `meant` are the titles that it may mean.
 const COMPLETED = [
     ['jtitle=Tides', 'issn=2901-0012|eissn=2908-0142|x.issn=2901-0012|known=number|meant='],
-    ['btitle=Silt', 'isbn=0198534531|x.isbn=9780198534532|known=number|meant='],
+    ['btitle=Silt', 'isbn=9780198534532|x.isbn=9780198534532|further=0198534531|known=number|meant='],
     ['title=Silt', 'btitle=Silt|jtitle=|known=number'], ['title=Tides', 'jtitle=Tides|btitle=|known=number'],
     ['jtitle=Both', 'issn=2950-0013|known=number'], ['btitle=Both', 'x.isbn=9781234560102|known=number'],
     ['title=Both', 'issn=|x.isbn=|known=title|meant=Both Both'], ['jtitle=Two', 'issn=|known=title|meant=Two Two'],
@@ -233,37 +238,63 @@ const COMPLETED = [
     ['jtitle=K%C3%BCste', 'issn=2990-0017'], ['jtitle=Kueste', 'meant='], ['jtitle=Tides+studies',
         'meant=Tides studies: x'],
     ['jtitle=Tides+studies:+y', 'meant=Tides studies: x'], ['jtitle=Tides:+y', 'meant=Tides'],
-    // one number of each kind for the title, the others by two further queries of two ISSNs or one ISBN each
+    // one number of each kind for the title, and at most three others
     ['jtitle=Three', 'issn=2915-0016|eissn=2915-0024|further=2915-0032'],
-    ['issn=2925-0019', 'eissn=2925-0027|further=2925-0035 2925-0043,2925-0051 2925-006X'],
+    ['issn=2925-0019', 'eissn=2925-0027|further=2925-0035 2925-0043 2925-0051'],
     ['issn=2935-0011&eissn=1000-0029', 'titles=One Other|further=2935-0038'],
-    ['isbn=9780804429573', 'isbn=9780804429573|further=9780804429573'],
+    ['isbn=9780804429573', 'isbn=9780804429573|further=080442957X'],
     ['rft.isbn=9781234560874&rft.isbn=9781000000009', 'titles=Series|further=2940-0011'],
     ['rft.isbn=9781000000009&rft.isbn=9781234560102', 'titles=Both|further=9781234560102'],
     // the title that a DOI has by its ISBN comes after that of the numbers, which stay
-    ['issn=2901-0012&id=doi:10.1007/978-0-19-853453-2_3', 'x.isbn=|titles=Tides Silt|further=9780198534532'],
+    ['issn=2901-0012&id=doi:10.1007/978-0-19-853453-2_3', 'x.isbn=|titles=Tides Silt|further=0198534531'],
     ['id=doi:10.1007/12-9780198534532', 'x.isbn=|known=identifier'], ['id=doi:10.1007/19780198534532',
         'x.isbn=|known=identifier'],
     // what a request says of its format and its title stays, and each of its titles counts
     ['rft_val_fmt=info:ofi/fmt:kev:mtx:dc&title=Silt', 'rft_val_fmt=info:ofi/fmt:kev:mtx:dc|x.isbn=9780198534532'],
     ['issn=2901-0012&stitle=Tid', 'jtitle=|stitle=Tid'],
     ['genre=book&rft.title=Both&rft.btitle=Silt', 'x.isbn=9780198534532'],
-    ['jtitle=Nothing&title=Tides+studies', 'meant=Tides studies: x']
+    ['jtitle=Nothing&title=Tides+studies', 'meant=Tides studies: x'],
+    ['title=Series', 'rft_val_fmt=info:ofi/fmt:kev:mtx:book|btitle=Series|jtitle=|issn=2940-0011'],
+    // an online ISSN alone stays the first one, and the ISBN of a DOI is sent once
+    ['rft.eissn=2908-0142', 'issn=2908-0142|eissn=2901-0012+2908-0142|x.issn=2908-0142|x.eissn=2901-0012'],
+    ['id=doi:10.1017/CBO9781234560102.004', 'isbn=9781234560102|x.isbn=9781234560102|further=']
 ];
 async function testIndex(expect) {
     const read = (q, expected) => expected.split('|').map((pair) => pair.slice(0, pair.indexOf('='))).map((name) => {
         if (name === 'known') return 'known=' + q.knowledge;
         if (name === 'titles') return 'titles=' + q.titles.map((it) => it.title).join(' ');
-        if (name === 'further') return 'further=' + q.further.map((it) => it.numbers.join(' ')).join();
+        if (name === 'further') return 'further=' + q.further.join(' ');
         if (name === 'meant') return 'meant=' + q.maybe.map((it) => it.title).join(' ');
         return valuesOf(q, name + '=');
     }).join('|');
     for (let i = 0; i < COMPLETED.length; i++) {
-        const q = await completion.queryOf(requestWith(COMPLETED[i][0], TITLES));
+        const q = await completion.queryOf(requestWith(COMPLETED[i][0], TITLES), '/_menu');
         expect('by the index, ' + COMPLETED[i][0], read(q, COMPLETED[i][1]), COMPLETED[i][1]);
     }
-    const none = await completion.queryOf(requestWith('jtitle=Tides', null));
+    const none = await completion.queryOf(requestWith('jtitle=Tides', null), '/_menu');
     expect('no index', none.knowledge, 'unlisted');
+}
+
+// A request, where it is read, and what the program is asked: once more if something is found.
+const READ = [
+    ['', '/_menu', ''], ['rft_val_fmt=x&rft.volume=3', '/_menu', '/_menu?rft_val_fmt=x&rft.volume=3'],
+    ['a=', '/_menu', '/_menu?a='], ['issn=2901-0012&eissn=2908-0142&jtitle=Tides', '/_menu',
+        '/_menu?issn=2901-0012&eissn=2908-0142&jtitle=Tides'],
+    ['rft_val_fmt=x&rft.issn=2901-0012&rft.jtitle=A', '/_menu', '/_menu?rft_val_fmt=x&rft.issn=2901-0012&rft.jtitle=A'
+        + ' /_menu?rft.eissn=2908-0142&rft_val_fmt=x&rft.issn=2901-0012&rft.jtitle=A'],
+    ['rft_val_fmt=x&rft.isbn=9780804429573&rft.btitle=A', '/_menu', '/_menu?rft_val_fmt=x&rft.isbn=9780804429573'
+        + '&rft.btitle=A /_menu/080442957X?rft_val_fmt=x&rft.isbn=9780804429573&rft.btitle=A'],
+    ['rft_val_fmt=x&rft.isbn=9780804429573&rft.btitle=A', '/_read', '/_read?rft_val_fmt=x&rft.isbn=9780804429573'
+        + '&rft.btitle=A'],
+    ['rft_val_fmt=x&rft.jtitle=Three', '/_read', '/_read?rft_val_fmt=x&rft.jtitle=Three'
+        + ' /_read?rft.issn=2915-0016&rft.eissn=2915-0024&rft_val_fmt=x&rft.jtitle=Three']
+];
+async function testRead(expect) {
+    for (let i = 0; i < READ.length; i++) {
+        const r = requestWith(READ[i][0], TITLES);
+        await completion.queryOf(r, READ[i][1]);
+        expect('what the program is asked for ' + READ[i][0] + ' at ' + READ[i][1], r.places.join(' '), READ[i][2]);
+    }
 }
 
 // The page of a title is offered if nginx says that no new version is being put in use.
@@ -272,7 +303,7 @@ async function testOffers(expect) {
     const statuses = [204, 200, 404, 503];
     for (let i = 0; i < statuses.length; i++) {
         const title = { kind: 'j', rows: ['z 0'], pages: [{ target: 'z', url: 'https://z/' }] };
-        const q = Object.assign(openurl.queryOf('issn=2901-0012'), { titles: [title] });
+        const q = Object.assign(known.queryOf('issn=2901-0012'), { titles: [title] });
         const r = { places: [], subrequest: function (place) {
             this.places.push(place);
             return Promise.resolve({ status: statuses[i] });
@@ -290,6 +321,7 @@ async function run(expect) {
     globalThis.clearTimeout = () => undefined;
     await testServices(expect);
     await testIndex(expect);
+    await testRead(expect);
     await testOffers(expect);
     globalThis.setTimeout = before[0];
     globalThis.clearTimeout = before[1];

@@ -88,7 +88,7 @@ function ofFaults() {
         + ' title ' + it[1]])
         .concat([
             ['a DOI', asText(page('10.5555/a<b')), 'unavailable title unavailable By doi.org/10.5555/a&lt;b !'],
-            ['its address', page('10.5555/a<b/c').includes('href="https://doi.org/10.5555/a%3Cb/c"'), true],
+            ['its address', page('10.5555%2Fa%3Cb/c').includes('href="https://doi.org/10.5555%2Fa%3Cb/c"'), true],
             ['a text without a place for it', asText(page('10.5555/a', { byDoi: 'x' })),
                 'unavailable title unavailable doi.org/10.5555/a'],
             ['300 and 301 characters', [page(long), page(long + 'a')].map((it) => it.includes('doi.org')).join(),

@@ -1,10 +1,9 @@
 // The reader's page and its data, of a request and links that are given: groups, notices, actions, pages of titles.
 // Each case is its name, what the modules give, and what was expected.
 import citation from './citation.js';
+import known from './known.js';
 import languages from './languages.js';
 import menus from './menu.js';
-import openurl from './openurl.js';
-import program from './program.js';
 import titlePages from './title_pages.js';
 import wording from './words.js';
 
@@ -23,11 +22,11 @@ const TARGETS = { a: {}, b: { group: 'B', label: 'Beta', note: 'n < m' }, c: { g
 function siteOf(more, asked) {
     return languages.siteIn(Object.assign({ words: WORDS, groups: GROUPS, targets: TARGETS }, more), '', asked);
 }
-function queryOf(args, fields) { return Object.assign(openurl.queryOf(args), fields); }
+function queryOf(args, fields) { return Object.assign(known.queryOf(args), fields); }
 function titleOf(kind, title, numbers, rows, others) {
     return Object.assign({ kind, title, numbers, standard: numbers, rows, related: [], pages: [] }, others);
 }
-function linksOf(text) { return program.joined([text]); }
+function linksOf(text) { return known.linksOf(text); }
 function pageOf(q, links, site) { return menus.pageOf(q, menus.groupsOf(links, site), site); }
 function mainOf(html) { return html.slice(html.indexOf('<main>'), html.indexOf('</main>')); }
 function asText(html) { return html.replace(/<[^>]*>/g, ' ').replace(/\s+/g, ' ').trim(); }
@@ -315,7 +314,7 @@ function ofCitations() {
     const site = siteOf({ words });
     const ris = (args) => {
         const q = queryOf(args);
-        return citation.risOf(q, openurl.kindOf(q), site).split('\r\n');
+        return citation.risOf(q, site).split('\r\n');
     };
     return CITED.map((it) => {
         return ['the citation of ' + it[0], asText(citation.citationHtml(citation.citationOf(queryOf(it[0]), site),

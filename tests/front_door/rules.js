@@ -1,8 +1,8 @@
-// The unit tests of the module: the cases of cases.js, requests of good form, limits, menus and commands. Runs in njs
-// and in node, in a folder with the module and sample.js, which test_rules.py writes. Prints a line of JSON for each
-// case, its name alone, or with what it gives and what was expected; and a last line with the number of cases.
+// The unit tests of the module: requests, menus, pages and commands. Runs in njs and in node, in a folder with the
+// module and with what the program reads in its requests, which fixtures/readings.py writes. Prints a line of JSON for
+// each case, its name alone, or with what it gives and what was expected; and a last line with the number of cases.
 import citation from './citation.js';
-import dates from './dates.js';
+import completion from './completion.js';
 import exchange from './exchange.js';
 import door from './find.js';
 import health from './health.js';
@@ -10,62 +10,26 @@ import index from './index.js';
 import languages from './languages.js';
 import menus from './menu.js';
 import numbers from './numbers.js';
-import openurl from './openurl.js';
 import plurals from './plurals.js';
 import program from './program.js';
-import querying from './query.js';
-import references from './references.js';
 import texts from './text.js';
 import staff from './why.js';
 import wording from './words.js';
-import cases from './cases.js';
 import menuParts from './menu_parts.js';
 import pageParts from './page_parts.js';
-import parts from './parts.js';
-import freeForms from './free_forms.js';
 import flowParts from './flow_parts.js';
 import folding from './fold.js';
 import frameParts from './frame_parts.js';
-import ruleCases from './rule_cases.js';
-import sample from './sample.js';
+import known from './known.js';
+import languageParts from './language_parts.js';
 import values from './values.js';
 
-const FORMATS = {
-    J: 'info:ofi/fmt:kev:mtx:journal', B: 'info:ofi/fmt:kev:mtx:book', D: 'info:ofi/fmt:kev:mtx:dissertation'
-};
 globalThis.fold = folding;
 let count = 0;
 
 function expect(name, got, expected) {
     count++;
     console.log(JSON.stringify(got === expected ? [name] : [name, String(got), String(expected)]));
-}
-
-function written(pair) {
-    const at = pair.indexOf('=');
-    const value = pair.slice(at + 1).split('+').join(' ');
-    return pair.slice(0, at) + '=' + encodeURIComponent(pair.slice(0, at) === 'rft_val_fmt' ? FORMATS[value] : value);
-}
-
-// Without the row keys, as anyOf leaves them out.
-function other(text) {
-    return ['rft.issn=ANY'].concat(text.split('&').filter(function (pair) {
-        return pair !== '' && !/^rft\.(issn|eissn|isbn)=/.test(decodeURIComponent(pair.split('=')[0]) + '=');
-    })).join('&');
-}
-
-function testCases() {
-    const all = Object.assign({}, cases, ruleCases.cases);
-    Object.keys(all).forEach(function (rule) {
-        expect(rule + ' has three cases', all[rule].length >= 3, true);
-        all[rule].forEach(function (it) {
-            const added = it[2].split(' ').filter(Boolean).map(written);
-            const kept = it.length > 3 ? it[3] : it[1];
-            const expected = added.concat(kept === '' ? [] : [kept]).join('&');
-            expect(rule + ': ' + it[0], openurl.requestOf(it[1]), expected);
-            expect(rule + ': ' + it[0] + ', for any', openurl.anyOf(it[1]), other(expected));
-        });
-    });
 }
 
 // What is known of a request when its rules have run, beside its text: the kind of title that it wants, and others.
@@ -78,27 +42,75 @@ const ASKED = [
     ['rft_val_fmt=info:ofi/fmt:kev:mtx:dissertation', 'b'], ['rft_val_fmt=info:ofi/fmt:kev:mtx:dc', ''],
     ['btitle=Silt', 'b'], ['rft.btitle=Silt', 'b'], ['jtitle=Tides', 'j'], ['rft.jtitle=Tides', 'j'],
     ['stitle=Tid', 'j'], ['rft.stitle=Tid', 'j'], ['btitle=Silt&jtitle=Tides', 'b'], ['title=Tides', ''],
-    ['isbn=9781234560102&title=Tides', ''], ['genre=toString', '']
+    ['isbn=9781234560102&title=Tides', ''], ['genre=toString', ''], ['JTitle=Tides', 'j'],
+    ['RFT_VAL_FMT=info:ofi/fmt:kev:mtx:book', 'b']
 ];
 function testKnown() {
-    ASKED.forEach((it) => { expect('the kind that is wanted by ' + it[0], openurl.kindAsked(openurl.queryOf(it[0])),
-        it[1]); });
-    expect('the first number of PMC', openurl.queryOf('rft_id=PMC12&rft_id=PMC34').pmc, '12');
-    expect('no number of PMC', openurl.queryOf('rft_id=pmid:12').pmc, '');
-    expect('a plus sign in a DOI', openurl.queryOf('rft_id=info:doi/10.5555/a%2Bb').has('x.doi_encoded'), false);
-    const isEmpty = (text) => openurl.queryOf(text).isEmpty();
+    ASKED.forEach((it) => {
+        expect('the kind that is wanted by ' + it[0], completion.kindAsked(known.queryOf(it[0])), it[1]);
+    });
+    expect('the first number of PMC', known.queryOf('rft_id=PMC12&rft_id=PMC34').pmc(), '12');
+    expect('no number of PMC', known.queryOf('rft_id=pmid:12').pmc(), '');
+    const isEmpty = (text) => known.queryOf(text).isEmpty();
     expect('nothing left', [isEmpty(''), isEmpty('a&b='), isEmpty('x.doi=1'), isEmpty('title=10.5555/abc'),
         isEmpty('a=1')]
         .join(), 'true,true,true,false,false');
-    const looked = openurl.begun('genre=article');
-    looked.put('rft.issn', ['2901-0012']);  // as the index does
-    openurl.finish(looked);
-    expect('a number that was looked up', looked.first('x.issn'), '2901-0012');
-    const keys = (names) => names.map((name) => name + '=1').join('&');
-    const read = (text) => new querying.Query(text).pairs.map((pair) => pair.key).join(' ');
-    const named = ruleCases.names.filter((name) => name !== 'pid');
-    expect('keys in capitals', read(keys(named).toUpperCase()), read(keys(named)));
-    expect('all keys', read(keys(ruleCases.names)), ruleCases.names.join(' '));
+}
+
+// A request, what was found for it, and the query with which the program is asked again: what was found comes first,
+// without what the program derives, and without a format that was not sent.
+const AGAIN = [
+    ['title=Silt', {}, 'rft.jtitle=Silt&title=Silt'],
+    ['issn=29010012', {}, 'rft.issn=2901-0012&rft.issn=29010012&issn=29010012'],
+    ['rft_val_fmt=x&rft.volume=3', { 'rft.issn': ['2901-0012', '2908-0142'] },
+        'rft.issn=2901-0012&rft.issn=2908-0142&rft_val_fmt=x&rft.volume=3'],
+    ['rft.volume=3', { 'rft.atitle': ['Caf\u00e9 & <b>\r\n+'] },
+        'rft.atitle=Caf%C3%A9%20%26%20%3Cb%3E%0D%0A%2B&rft.volume=3'],
+    ['rft.volume=3', { 'x.doi': ['10.5555/a'], 'x.pmid': ['7'] },
+        'rft_id=info%3Adoi%2F10.5555%2Fa&rft_id=info%3Apmid%2F7&rft.volume=3'],
+    ['rft.au=Li;rft.au=Wei', {}, 'rft.au=Li&rft.au=Wei'], ['?rft.au=Caf%E9', {}, 'rft.au=Caf%C3%A9']
+];
+function testAgain() {
+    AGAIN.forEach((it) => {
+        const asked = known.queryOf(it[0]);
+        Object.keys(it[1]).forEach((key) => { asked.put(key, it[1][key]); });
+        expect('asked again, ' + it[0] + ' ' + JSON.stringify(it[1]), asked.textToRead(), it[2]);
+    });
+    const replaced = known.queryOf('title=Silt&isbn=9781234560102');
+    replaced.replace('rft.btitle');
+    expect('without what was replaced', replaced.textToRead().includes('rft.btitle'), false);
+    // What the program takes for no number is none, and the first one is that which it derives.
+    const numbersOf = (text) => known.queryOf(text).issns.concat(known.queryOf(text).isbns).join();
+    expect('numbers', ['rft.issn=2013-2014', 'rft.isbn=9781234560103+9781234560102', 'issn=2901-0012&eissn=2908-0142',
+        'rft.eissn=2908-0142', 'rft.isbn=0198534531&rft.eisbn=9781234560102&rft.isbn=9781234560874', 'isbn=123']
+        .map(numbersOf).join(' '),
+        ' 9781234560102,9781234560103 2901-0012,2908-0142 2908-0142 9780198534532,9781234560874,9781234560102 ');
+    const both = known.queryOf('rft.volume=3');
+    both.put('rft.eissn', ['2908-0142']);
+    both.put('rft.issn', ['2901-0012']);
+    both.put('rft.isbn', ['9781234560102']);
+    both.readNumbers();
+    expect('numbers that were found', both.issns.concat(both.isbns).join(), '2901-0012,2908-0142,9781234560102');
+    const found = known.queryOf('rft.issn=2901-0012&rft.volume=3');
+    found.put('rft.issn', ['2908-0142']);
+    found.readNumbers();
+    expect('values that were found', [found.first('rft.issn'), found.all('rft.issn'), found.issns,
+        found.has('rft.eissn')].join(), '2908-0142,2908-0142,2901-0012,2901-0012,2908-0142,false');
+    expect('what is found', [found, known.queryOf('rft.issn=2901-0012')].map((it) => it.hasFound()).join(),
+        'true,false');
+    found.further = ['0198534531', '2915-0032'];
+    const rest = 'rft_val_fmt=info%3Aofi%2Ffmt%3Akev%3Amtx%3Ajournal&rft.volume=3';
+    expect('the queries for staff', found.strictTexts().join(' '), 'x.issn=2901-0012&rft_val_fmt=info%3Aofi%2Ffmt%3Akev'
+        + '%3Amtx%3Ajournal&rft.issn=2901-0012&rft.volume=3 rft.isbn=0198534531&x.issn=2901-0012&' + rest
+        + ' rft.issn=2915-0032&x.issn=2901-0012&' + rest + ' rft.issn=ANY&x.issn=2901-0012&' + rest);
+    const long = known.queryOf('rft.volume=3');
+    long.put('rft.atitle', [repeated('a', 13970)]);
+    const cut = [long.textToRead().length];
+    [13976, 13977, 14000].forEach((length) => {
+        long.put('rft.atitle', [repeated('a', length)]);
+        cut.push(long.textToRead().length);
+    });
+    expect('a query that is too long', cut.join(), '13994,14000,13988,0');
 }
 
 // The query of a request, from the bytes of its address and of its form, in ASCII without a line end.
@@ -121,42 +133,13 @@ function testSent() {
     expect('types of a form', types.map((type) => argsOf('POST', '', 'c=d', type)).join('|'), 'c=d|c=d||||');
     expect('methods', ['POST', 'GET', 'HEAD'].map((method) => argsOf(method, 'a=b', 'c=d', form)).join('|'),
         'a=b&c=d|a=b|a=b');
+    const sought = ['q=a+b', 'x=1&q=%C3%A9%20c&q=d', 'q=100%', 'q=%e9', 'xq=a', '', 'q=%4a%', 'q=%%41%Zz'];
+    const valueOf = (args) => exchange.valueOf({ method: 'GET', rawVariables: { args: Buffer.from(args) } }, 'q');
+    expect('what a search has', sought.map(valueOf).join('|'), 'a b|\u00e9 c|100%||||J%|%A%Zz');
     const named = ['lang=de', 'a=b&lang=de', 'lang=de&a=b', 'a=b&lang=pt-BR&c=d', 'xlang=de', 'lang=d',
         'lang=de_AT', 'lang=DE'];
     expect('without the language', named.map((args) => argsOf('GET', args, undefined, '')).join('|'),
         '|a=b|a=b|a=b&c=d|xlang=de|lang=d|lang=de_AT|');
-}
-
-// A request that is too long loses the pairs whose values a rule has put under other keys, and those that a rule has
-// replaced, but not what came as `rft_id`; then pairs from its end.
-const LONG = [
-    ['sid=google', 'rfr_id=info:sid/google'], ['rft_id=info:pmid/7', 'x.pmid=7&rft_id=info:pmid/7'],
-    ['id=pmid:7', 'x.pmid=7&rft_id=info:pmid/7'],
-    ['rft_id=pmid:8&id=doi:10.5555/abc', 'x.pmid=8&rft_id=info:doi/10.5555/abc&x.doi=10.5555/abc&rft_id=pmid:8'],
-    ['url=https://e.org/10.5555/abc', 'x.doi=10.5555/abc&rft_id=info:doi/10.5555/abc'],
-    ['rft.issn=29010012', 'rft.issn=2901-0012&x.issn=2901-0012'], ['volume=3', 'rft.volume=3'], ['rft.volume=3',
-    'rft.volume=3']
-];
-function testLong() {
-    const filler = 'rft.aucorp=' + repeated('b', 70) + '&';
-    LONG.forEach((it) => {
-        const text = openurl.requestOf('rft_val_fmt=x&' + it[0] + '&' + repeated(filler, 200));
-        const sorted = (pairs) => pairs.map((pair) => decodeURIComponent(pair)).sort().join('&');
-        const kept = text.split('&').filter((pair) => pair !== 'rft_val_fmt=x' && !pair.startsWith('rft.aucorp='));
-        expect('of a long request, ' + it[0], sorted(kept), sorted(it[1].split('&')));
-    });
-}
-
-// The pairs of a request of good form come out unchanged and in order, after added ones.
-function testGoodForm() {
-    sample.forEach(function (request) {
-        const out = openurl.requestOf(request);
-        expect('good form', out.slice(-request.length - 1), '&' + request);
-        out.slice(0, -request.length - 1).split('&').forEach(function (pair) {
-            expect('added to good form: ' + pair,
-                /^(x\.(issn|eissn|isbn|doi|pmid|from|to)|rft\.(issn|isbn))=/.test(pair), true);
-        });
-    });
 }
 
 function repeated(text, times) {
@@ -165,39 +148,14 @@ function repeated(text, times) {
     return copies.join('');
 }
 
-function testLimits() {
-    const long = 'title=' + repeated('a', 7000) + '&issn=2901-0012&rft.genre=article';
-    const out = openurl.requestOf(long);
-    expect('a long title goes once',
-        out.length < 12000 && /rft\.jtitle=a{7000}&/.test(out) && !/&title=/.test(out), true);
-    expect('a long title keeps the rest', /^rft\.issn=2901-0012&.*&rft\.genre=article$/.test(out), true);
-    const tail = openurl.requestOf('rft_val_fmt=x&rft.volume=3&' + repeated('rft.au=' + repeated('b', 70) + '&', 200));
-    expect('pairs at the end go',
-        tail.length <= 12000 && tail.length > 11900 && /^rft_val_fmt=x&rft\.volume=3&/.test(tail), true);
-    expect('pairs are read up to 300', openurl.requestOf(repeated('a=1&', 400)).split('&').length, 301);
-    expect('nothing', openurl.requestOf('') + '|' + openurl.anyOf(''), '|rft.issn=ANY');
-    const hostile = ['rft.au=a\n', 'rft.issn=2901-0012\n', 'a=%0A\n', '%', '=', '&=', 'a', '%E9=%E9', repeated('%E9',
-        4000), '=' + repeated('%', 4000)];
-    hostile.concat('title=' + repeated('%E9', 2600)).forEach(function (text) {
-        const sent = openurl.requestOf(text);
-        expect('hostile: ' + text.slice(0, 20), !/[^\x21-\x7e]/.test(sent) && sent.length <= 12000, true);
-    });
-}
-
 function testMenus() {
-    const found = (replies) => program.joined(replies).map((it) => `${it.target} ${it.url} ${it.source}`).join(', ');
-    expect('menus are joined', found(['a\tx\nb\ty\n', 'b\tz\nc\tw', 'd\tv\nc\tu\n']), 'a x 0, b y 0, c w 1, d v 2');
-    expect('parts of a table', found(['b.2\tx\nb.3\ty\nc\tz\nd.1\tw\n', 'b\tv\na.12.2\tu\n.2\tt\n.e.2\ts\n']),
-        'b x 0, c z 0, d.1 w 0, a.12 u 1, .2 t 1, .e s 1');
-    expect('names of every object, joined', found(['__proto__\tx\ntoString\ty\n\tz\nw\n', '__proto__\tv\n']),
-        '__proto__ x 0, toString y 0');
     const reports = ['a\tlink 0\nb\tno row\nc\tno link\nd\tno row\n', 'a\tno row\nb\tlink 2\nc\tlink 1\nd\tno row\n'];
     expect('reports are joined', program.joinedReports(reports),
         'a\tlink 0\nb\tlink 2\nc\tlink 1\nd\tno row\n');
     const site = { groups: [{ name: 'A' }, { name: 'B', onlyWithout: 'A' }],
         targets: { a: {}, b: { group: 'B', label: 'Bee', note: 'n' }, constructor: {} } };
     const listed = function (menu) {
-        return JSON.stringify(menus.shownGroups(menus.groupsOf(program.joined([menu]), languages.siteIn(site, ''))));
+        return JSON.stringify(menus.shownGroups(menus.groupsOf(known.linksOf(menu), languages.siteIn(site, ''))));
     };
     expect('a group that another one hides', listed('b\thttp://b/\na\thttp://a/\n'),
         '[{"name":"A","links":[{"target":"a","label":"a","url":"http://a/"}]}]');
@@ -229,7 +187,7 @@ function testNotices() {
     const named = { groups: [{ name: 'A' }, { name: 'B' }], words: { held: 'NOTICE held', nothing: 'NOTICE nothing' },
         targets: { t: { group: 'A' }, other: { group: 'B' }, plain: {} } };
     NOTICES.forEach(function (it) {
-        const q = openurl.queryOf(it[0]);
+        const q = known.queryOf(it[0]);
         q.titles = [{ kind: 'j', title: 'x', numbers: [], standard: [], rows: [it[1]], related: [], pages: [] }];
         q.knowledge = 'number';
         const site = languages.siteIn(named, '');
@@ -258,8 +216,8 @@ function testRetractions() {
     const site = languages.siteIn({ groups: [{ name: 'A' }], targets: {}, words: { retracted: 'RETRACTION <' } }, '');
     RETRACTIONS.forEach(function (it) {
         ['atitle', 'rft.btitle', 'title'].forEach(function (key) {
-            const q = openurl.queryOf(key + '=' + encodeURIComponent(it[0]) + '&issn=2901-0012');
-            const groups = menus.groupsOf(program.joined(['t\thttp://t/\n']), site);
+            const q = known.queryOf(key + '=' + encodeURIComponent(it[0]) + '&issn=2901-0012');
+            const groups = menus.groupsOf(known.linksOf('t\thttp://t/\n'), site);
             const page = menus.pageOf(q, groups, site);
             expect('retracted in JSON: ' + key + '=' + it[0], menus.dataOf(q, groups, site).retracted,
                 it[1] ? true : undefined);
@@ -268,9 +226,9 @@ function testRetractions() {
             expect('the title ' + it[0], page.indexOf('<bdi>Silt</bdi>') > 0, it[1]);
         });
     });
-    const lookedUp = openurl.begun('issn=2901-0012');
-    lookedUp.put('rft.atitle', ['RETRACTED: Silt']);  // as a look-up does
-    openurl.finish(lookedUp);
+    const lookedUp = known.queryOf('issn=2901-0012');
+    lookedUp.take({ notes: { retracted: true }, pairs: [['rft.atitle', 'Silt']] });  // as after a look-up
+    lookedUp.take({ notes: { retracted: false }, pairs: [['rft.atitle', 'Silt']] });
     expect('a title that was looked up', lookedUp.first('rft.atitle') + ' ' + lookedUp.isRetracted, 'Silt true');
 }
 
@@ -332,30 +290,17 @@ const PLAIN_WORDS = {
 function testCitations() {
     const site = languages.siteIn({ words: PLAIN_WORDS }, '');
     RIS_FIELDS.forEach((it) => {
-        const q = openurl.queryOf(it[0]);
-        const lines = citation.risOf(q, openurl.kindOf(q), site).split('\r\n');
+        const q = known.queryOf(it[0]);
+        const lines = citation.risOf(q, site).split('\r\n');
         expect('fields of RIS of ' + it[0].slice(0, 60), lines.slice(1).join('|'), it[1] + '|ER  - |');
     });
     CITATIONS.forEach((it) => {
-        const html = citation.citationHtml(citation.citationOf(openurl.queryOf(it[0]), site), site);
+        const html = citation.citationHtml(citation.citationOf(known.queryOf(it[0]), site), site);
         expect('the citation of ' + it[0], html.replace(/<[^>]*>/g, ''), it[1]);
-    });
-}
-function testReferences() {
-    [[parts.OF_SOURCES, false], [parts.OF_TITLES, true]].forEach((list) => {
-        list[0].forEach((it) => {
-            const found = references.partsOf('Tides ' + it[0], list[1]);
-            const named = found === null ? [] : [found.volume, found.issue, found.pages, found.year];
-            const text = found === null ? 'none' : named.map((part) => part || '').join('|');
-            expect('the parts of ' + it[0] + (list[1] ? ' in a title' : ''), text, it[1]);
-            expect('the name before ' + it[0], found === null ? 'Tides' : found.name, 'Tides');
-        });
     });
 }
 function testValues() {
     const numbersIn = (text, kind) => numbers.numbersIn([text], kind, 2).join(' ');
-    values.DATES.forEach((it) => { expect('the date ' + it[0], dates.dateOf(it[0]), it[1]); });
-    values.DAYS.forEach((it) => { expect('the days of ' + it[0], dates.daysOf(it[0]).join(' '), it[1]); });
     values.ISSNS.forEach((it) => { expect('the ISSNs in ' + it[0], numbersIn(it[0], numbers.ISSN), it[1]); });
     values.ISBNS.forEach((it) => { expect('the ISBNs in ' + it[0], numbersIn(it[0], numbers.ISBN), it[1]); });
     values.ADDRESSES.forEach((it) => { expect('the address ' + it[0], texts.isWeb(it[0]), it[1]); });
@@ -369,22 +314,11 @@ function testValues() {
     values.STANDARD.forEach((it) => {
         expect('the number ' + it[0], numbers.standard(it[0]) + ' ' + numbers.isIssn(it[0]), it[1]);
     });
-    values.CHECKED.forEach((it) => { expect('the last digit of ' + it[0], numbers.isRight(it[0]), it[1]); });
-    const both = function (key, text, first, second) {
-        const q = openurl.queryOf('rft_val_fmt=x&rft.' + key + '=' + encodeURIComponent(text));
-        return q.first(first) + '|' + q.first(second);
-    };
-    values.VOLUMES.forEach((it) => {
-        expect('the volume ' + it[0], both('volume', it[0], 'rft.volume', 'rft.issue'), it[1]);
-    });
-    values.PAGES.forEach((it) => {
-        expect('the page of ' + it[0] + ' ' + it[1], both(it[0], it[1], 'rft.spage', 'rft.epage'), it[2]);
-    });
 }
 function testRis() {
     RIS_TYPES.forEach(function (it) {
-        const q = openurl.queryOf(it[0]);
-        const text = citation.risOf(q, openurl.kindOf(q), languages.siteIn({}, ''));
+        const q = known.queryOf(it[0]);
+        const text = citation.risOf(q, languages.siteIn({}, ''));
         expect('RIS of ' + it[0], text.split('\r\n')[0], 'TY  - ' + it[1]);
     });
 }
@@ -523,7 +457,7 @@ function testWords() {
             a: { label: { en: 'A', de: 'B' }, note: { de: 'n' } }, b: { label: { en: 'C' } }, c: { label: { fr: 'D' } }
         }
     };
-    const found = program.joined(['a\thttp://a/\nb\thttp://b/\nc\thttp://c/\n']);
+    const found = known.linksOf('a\thttp://a/\nb\thttp://b/\nc\thttp://c/\n');
     const listed = function (header) {
         const group = menus.shownGroups(menus.groupsOf(found, site(labels, header)))[0];
         return group.name + ' ' + group.label + ': '
@@ -603,12 +537,12 @@ function testReasons() {
 
 // A reply to a subrequest of nginx, which has tried three processes. The status 'cut' is that of a reply that a process
 // has not written to its end: 200, with less text than its head says.
-function lengthOf(text) { return { 'Content-Length': String(text.length) }; }
-function replyWith(status) {
-    const text = 'a\thttp://a/\n';
-    const bytes = Buffer.from(status === 'cut' ? text.slice(0, -1) : text);
-    return { status: status === 'cut' ? 200 : status, headersOut: lengthOf(text),
-        responseBuffer: bytes, variables: { upstream_addr: '127.0.0.1:3, 127.0.0.1:1, 127.0.0.1:2' } };
+function replyOf(place, args, status) {
+    const reply = known.isOfProgram(place) ? known.replyTo(args) : known.replyWith('a\thttp://a/\n');
+    reply.status = status === 'cut' ? 200 : status;
+    if (status === 'cut') reply.responseBuffer = reply.responseBuffer.slice(0, -1);
+    reply.variables.upstream_addr = '127.0.0.1:3, 127.0.0.1:1, 127.0.0.1:2';
+    return reply;
 }
 
 // A request of nginx whose subrequests get these statuses; -1 throws.
@@ -621,7 +555,7 @@ function requestWith(uri, statuses) {
             const status = statuses[this.requested++];
             this.places.push(place + ' ' + options.args);
             if (status < 0) throw new Error('no\nreply');
-            return Promise.resolve(replyWith(status));
+            return Promise.resolve(replyOf(place, options.args, status));
         },
         return: function (status, text) {
             this.replied = status + ' ' + /(<h1>|<a href="[^"]*"|.error.:...|.citation.)|$/.exec(text)[0];
@@ -718,29 +652,33 @@ async function expectReply(name, handler, request, expected) {
 }
 
 async function testRetries() {
-    await expectReply('requested again', door.json, requestWith('/find.json?', [502, 200, 200]),
-        '200 "citation", requested 3');
-    await expectReply('requested again after half a reply', door.json, requestWith('/find.json?', ['cut', 200, 200]),
-        '200 "citation", requested 3');
+    await expectReply('requested again', door.json, requestWith('/find.json?', [502, 200]),
+        '200 "citation", requested 2');
+    await expectReply('requested again after half a reply', door.json, requestWith('/find.json?', ['cut', 200]),
+        '200 "citation", requested 2');
     await expectReply('requested again in vain', door.find, requestWith('/find?', [502, 502, 200]),
+        '503 <h1>, requested 2');
+    await expectReply('half of a reply twice', door.go, requestWith('/go?', ['cut', 'cut', 200]),
         '503 <h1>, requested 2');
 }
 
 async function testReplies() {
-    const both = requestWith('/find?', [200, 200]);
-    await expectReply('both menus', door.find, both, '200 <h1>, requested 2');
-    expect('the locations of both', both.places.map((it) => it.split(' ')[0]).join(' '), '/_menu /_menu_there');
-    expect('the process of both', both.variables.openlink_process, '127.0.0.1:2');
-    await Promise.all([502, 504, 'cut'].map((status) => expectReply('both again, after ' + status, door.json,
-        requestWith('/find.json?', [200, status, 200, 200]), '200 "citation", requested 4')));
-    await expectReply('half of a reply twice', door.go, requestWith('/go?', [200, 'cut', 200, 'cut', 200]),
-        '503 <h1>, requested 4');
+    const one = requestWith('/find?', [200]);
+    await expectReply('a menu', door.find, one, '200 <h1>, requested 1');
+    expect('its location', one.places.join(), '/_menu issn=2901-0012');
+    const reports = requestWith('/report.txt', [200, 200, 200]);
+    await door.report(reports);
+    expect('the locations of reports', reports.places.map((it) => it.split(' ')[0]).join(' '),
+        '/_read /_report /_report_there');
+    expect('the process of reports', reports.variables.openlink_process, '127.0.0.1:2');
+    await Promise.all([502, 504, 'cut'].map((status) => expectReply('both reports again, after ' + status, door.report,
+        requestWith('/report.txt', [200, 200, status, 200, 200]), '200 , requested 5')));
     if (typeof njs === 'undefined') await testRetries();  // the njs command line has no timers
     await expectReply('not requested again', door.json, requestWith('/find.json', [504, 200]),
         '503 "error":503, requested 1');
-    await expectReply('no status', door.find, requestWith('/find?', [200, 0]), '503 <h1>, requested 2');
+    await expectReply('no status', door.find, requestWith('/find?', [0]), '503 <h1>, requested 1');
     await expectReply('refused', door.go, requestWith('/go?', [400, 200]), '400 <h1>, requested 1');
-    const request = requestWith('/why?', [200, 200]);
+    const request = requestWith('/why?', [200, 200, 200]);
     request.rawVariables.args = Buffer.from("au=O'Neill&issn=2901-0012");
     let page = '';
     request.return = function (status, text) { this.replied = status; page = text; };
@@ -753,13 +691,24 @@ async function testReplies() {
     const sent = listed.map(function (it, i) {
         return (i === 0 ? '/_report ' : '/_report_there ') + it.split('&#39;').join("'").split('&amp;').join('&');
     });
-    expect('the queries that were sent', sent.join(' '), request.places.join(' '));
+    expect('the queries that were sent', sent.join(' '), request.places.slice(1).join(' '));
     expect('the second one', listed[1].slice(0, 12), 'rft.issn=ANY');
-    await expectReply('no reports', staff.why, requestWith('/why?', [200, 503]), '503 <h1>, requested 2');
-    await expectReply('refused, for staff', staff.why, requestWith('/why?', [200, 400]), '400 <h1>, requested 2');
-    const broken = requestWith('/find?', [200, -1]);
-    await expectReply('an exception', door.find, broken, '503 <h1>, requested 2');
+    await expectReply('no reports', staff.why, requestWith('/why?', [200, 200, 503]), '503 <h1>, requested 3');
+    await expectReply('refused, for staff', staff.why, requestWith('/why?', [200, 200, 400]), '400 <h1>, requested 3');
+    await expectReply('no reading, for staff', staff.why, requestWith('/why?', [503]), '503 <h1>, requested 1');
+    const broken = requestWith('/find?', [-1]);
+    await expectReply('an exception', door.find, broken, '503 <h1>, requested 1');
     expect('an exception in the log', broken.variables.openlink_found, 'exception:no_reply');
+}
+// A query of 14,000 bytes is sent to the program, and none of more.
+async function testLength() {
+    const pages = [14000, 14001].map((length) => {
+        const request = requestWith('/find?', [200]);
+        request.rawVariables.args = Buffer.from('issn=2901-0012&a=' + repeated('b', length - 17));
+        return request;
+    });
+    await expectReply('14,000 bytes', door.find, pages[0], '200 <h1>, requested 1');
+    await expectReply('14,001 bytes', door.find, pages[1], '413 <h1>, requested 0');
 }
 
 // The page for staff where no target has a row, and where all have one. What is folded is open if nothing else is
@@ -768,8 +717,8 @@ async function testFolded() {
     const pages = ['no row', 'no link'].map((reason) => {
         const request = requestWith('/why?', []);
         const report = `a\t${reason}\n`;
-        request.subrequest = (place) => Promise.resolve(place.startsWith('/index/') ? { status: 204 }
-            : Object.assign(replyWith(200), { responseBuffer: Buffer.from(report), headersOut: lengthOf(report) }));
+        request.subrequest = (place, options) => Promise.resolve(place.startsWith('/index/') ? { status: 204 }
+            : known.isOfProgram(place) ? known.replyTo(options.args) : known.replyWith(report));
         request.return = function (status, text) { this.page = text; };
         return staff.why(request).then(() => request.page.split('<details open>\n<summary>').length - 1
             + ' ' + request.page.includes('<details>\n<summary>'));
@@ -800,7 +749,7 @@ async function testFaults() {
         await door.find(requests[i]);
     }
     expect('the DOI on the page of an error', requests.map((it) => it.page).join(), '503 true,400 false');
-    const asked = await program.askAll(requestWith('/find?', [200, 400, 503]), '/_menu', ['a', 'b', 'c']);
+    const asked = await program.reportsOn(requestWith('/find?', [200, 400, 503]), ['a', 'b', 'c']);
     expect('the greatest status of several', asked.status, 503);
     await expectReply('a refused report', door.report, requestWith('/report.txt', [400]), '400 <h1>, requested 1');
     await expectReply('no page with data', door.fault, requestWith('/find.jsonx', []), '503 <h1>, requested 0');
@@ -813,20 +762,16 @@ async function testFaults() {
     expect('the language of that page', failed.page, '503 de');
     delete globalThis.targets;
 }
-// Rows and editions of links. The process that has the menus does not reply to the report, and another one does.
-async function testLinks() {
-    const q = openurl.queryOf('isbn=9781234560102');
-    q.titles = [{ rows: ['a 0 1990', 'a 1 2000', 'b 0'], pages: [] }];
-    q.further = ['9781234560102', '9781234560874'].map((it) => ({ first: 'rft.isbn=' + it, numbers: [it] }));
-    const replies = ['a\thttps://a/\n', 'b\thttps://b/\n', 'c\thttps://c/\n', ''];
-    const r = { variables: {}, subrequest: (place) => {
-        const text = place.startsWith('/_menu') ? replies.shift() : place === '/_report' ? 'a\tlink 1\n' : '';
-        const reply = { responseBuffer: Buffer.from(text), headersOut: lengthOf(text) };
-        return Promise.resolve(Object.assign(replyWith(place === '/_report_there' ? 502 : 200), reply));
-    } };
-    const found = await program.menusOf(r, q);
-    const shown = found.links.map((it) => [it.target, it.row && it.row.first, it.edition].join(' '));
-    expect('rows and editions', shown.join(), 'a 2000 ,b  ,c  9781234560874');
+// Rows and editions of links: an entry of the index is that of a link by its part and row.
+function testLinks() {
+    const q = known.queryOf('isbn=9781234560102');
+    q.titles = [{ rows: ['a 0 1990', 'a 1 2000', 'b 0 1980', 'b.2 0 1970'], pages: [] }];
+    q.links = [['a', 'a', 1, 'own'], ['b', 'b.2', 0, '1234560106'], ['c', 'c', 0, '9781234560874'],
+        ['d', 'd', 2, 'any'], ['e', 'e', 0, '2901-0012']].map((it) => {
+        return { target: it[0], part: it[1], row: it[2], query: it[3], link: 'x' };
+    });
+    const shown = program.linksOf(q).map((it) => [it.target, it.url, it.row && it.row.first, it.edition].join(' '));
+    expect('rows and editions', shown.join(), 'a x 2000 ,b x 1970 ,c x  9781234560874,d x  ,e x  2901-0012');
 }
 // A library's own targets.json, whose name has no hyphen, and the folder that its site says if that file does not.
 function testLibrary() {
@@ -894,32 +839,28 @@ function testLinesAtHalves() {
     expect('lines that begin where a half ends', wronglySought(lines, sought).join(), '');
 }
 
-testCases();
 testKnown();
+testAgain();
 testSent();
-testLong();
 testLines();
 testLinesAtHalves();
-testGoodForm();
-testLimits();
 testMenus();
 testNotices();
 testRetractions();
-testReferences();
 testValues();
 testRis();
 testCitations();
 testHeaders();
-freeForms.all().concat(pageParts.all(), menuParts.all(), frameParts.all()).forEach((it) => {
+languageParts.all().concat(pageParts.all(), menuParts.all(), frameParts.all()).forEach((it) => {
     expect(it[0], it[1], it[2]);
 });
 testWords();
 testPlurals();
-testCases();
 testCommands();
 testReasons();
 testLibrary();
 testTitles();
 testHealth();
-testReplies().then(testFolded).then(testFaults).then(testLinks)
-    .then(testOldIndex).then(() => flowParts.run(expect)).then(() => { console.log(String(count)); });
+testLinks();
+testReplies().then(testLength).then(testFolded).then(testFaults).then(testOldIndex)
+    .then(() => flowParts.run(expect)).then(() => { console.log(String(count)); });

@@ -141,6 +141,10 @@ class Browsers(SiteCase):
         sent = urllib.parse.quote("https://press.example.com/doi/full/10.5555/tidal.2003.12.101?a=b#c", "")
         data = json.loads(self.site.get(f"/find.json?url={sent}").text)
         self.expect("the DOI", data["citation"].get("doi"), "10.5555/tidal.2003.12.101")
+        for length, doi in ((2000, "10.5555/abc"), (2001, None)):
+            address = "https://e.org/".ljust(length - len("/10.5555/abc"), "a") + "/10.5555/abc"
+            data = json.loads(self.site.get(f"/find.json?url={address}").text)
+            self.expect(f"an address of {length} bytes", data["citation"].get("doi"), doi)
         page = self.site.get("/find?url=https%3A%2F%2Fpress.example.com%2Farticle")
         self.tidy("a page without a number", page.text)
         self.expect("the form", (page.status, page.text.count('<form action="/find"')), (200, 1))

@@ -8,20 +8,24 @@ from typing import Any
 
 from fixtures.nginx_site import Site
 from fixtures.site_case import SiteCase
-from fixtures.stand_in_processes import FOR_ANY
+from fixtures.stand_in_processes import ASKED_AGAIN
 from fixtures.stand_in_processes import HEAD
-from fixtures.stand_in_processes import LINE
+from fixtures.stand_in_processes import LINK
 from fixtures.stand_in_processes import QUERY
-from fixtures.stand_in_processes import WHOLE
 from fixtures.stand_in_processes import in_place
+from fixtures.stand_in_processes import menu
+from fixtures.stand_in_processes import reply_with
+from fixtures.stand_in_processes import whole
 
+TEXT = menu(LINK)
+WHOLE = reply_with(TEXT)
 CUT_SHORT = {
-    "the head alone": HEAD.format(len(LINE)),
+    "the head alone": HEAD.format(len(TEXT)),
     "half of the text": WHOLE[:-20],
     "all but the last byte": WHOLE[:-1],
     "half of the head": WHOLE[:40],
     "nothing": "",
-    "the text without a head": LINE,
+    "the text without a head": TEXT,
     "another server": "HTTP/1.1 200 OK\r\nContent-Type: text/html\r\nConnection: close\r\n\r\n<h1>It works!</h1>\n",
 }
 
@@ -53,13 +57,13 @@ class CutShort(SiteCase):
             for which, is_first in (("first", True), ("second", False)):
 
                 def reply_to(request: str) -> str:
-                    return text if (FOR_ANY not in request) == is_first else WHOLE
+                    return text if (ASKED_AGAIN not in request) == is_first else whole(request)
 
                 with in_place(self.site.ports, [reply_to] * 2):
                     self.expect(f"{name}, for the {which} query", statuses(self.site), down)
 
     def test_whole(self) -> None:
-        with in_place(self.site.ports, [lambda _: WHOLE] * 2):
+        with in_place(self.site.ports, [whole] * 2):
             got, data = statuses(self.site)
         links = [link["url"] for group in data["groups"] for link in group["links"]]
         self.expect("whole replies", (got, links), ([200, 302, 200, 200, 200], ["https://press.example.com/12"]))
@@ -70,7 +74,7 @@ class CutShort(SiteCase):
         def first_cut_short(request: str) -> str:
             is_new = request not in seen
             seen.add(request)
-            return WHOLE[:-1] if is_new else WHOLE
+            return whole(request)[: -1 if is_new else None]
 
         with in_place(self.site.ports, [first_cut_short] * 2):
             reply = self.site.get(f"/find.json?{QUERY}")

@@ -96,10 +96,11 @@ class WhatTheProgramGets(SiteCase):
         query = "rft.genre=article&issn=3006-1962&atitle=x"
         echoed = f"{ECHO}?{TARGET_KEY}"
         self.expect("a key of another page", echoed in self.site.get(f"/find.json?{query}&target={TARGET_KEY}").text)
-        for start in ("", "%74arget=b&", "target=c&"):
+        # The program decodes keys, and the front door does not: an escaped one is a key of another page.
+        for start, found in (("", "none"), ("target=c&", "none"), ("%74arget=b&", "?b")):
             reply = self.site.get(f"/go?target=echo&{start}{query}&target={TARGET_KEY}")
             got = reply.status, reply.headers["Location"]
-            self.expect(f"{start}: no key of the program", got, (302, f"{ECHO}none"))
+            self.expect(f"{start}: the keys of the program", got, (302, f"{ECHO}{found}"))
 
     def test_first(self) -> None:
         query = "rft.genre=article&issn=3006-1962&atitle=x&first=1"

@@ -300,10 +300,10 @@ class Lookups(SiteWithLookups):
         self.expect("PMC", named, expected)
         self.expect("its links", self.targets("id=pmc:7000001"), f"{FULL_TEXT} doi-resolver pubmed web-search")
         self.expect("asked once", self.services.asked["pmc:7000001"], 1)
-        for query in ("id=arXiv:2101.00001", "id=doi:10.48550/arXiv.2101.00001v2"):
+        for query, version in (("id=arXiv:2101.00001", ""), ("id=doi:10.48550/arXiv.2101.00001v2", "v2")):
             data = self.data(query)["citation"]
             named = [data.get(name) for name in ("title", "author", "year", "doi")]
-            expected = ["Tides on other moons", "Smith, Jane", "2021", "10.48550/arXiv.2101.00001"]
+            expected = ["Tides on other moons", "Smith, Jane", "2021", f"10.48550/arXiv.2101.00001{version}"]
             self.expect(query, named, expected)
         author = self.data("id=arXiv:2101.00003")["citation"].get("author")
         self.expect("an author without a family name", author, "Tide Collaboration")

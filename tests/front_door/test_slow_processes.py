@@ -6,8 +6,8 @@ from pathlib import Path
 
 from fixtures.site_case import SiteCase
 from fixtures.stand_in_processes import QUERY
-from fixtures.stand_in_processes import WHOLE
 from fixtures.stand_in_processes import in_place
+from fixtures.stand_in_processes import whole
 from openlink_update.site import front_door
 from openlink_update.site import probes
 
@@ -37,7 +37,7 @@ class SlowProcesses(SiteCase):
             doors.start()
             self.expect("who may read and enter its folder", oct(trial.stat().st_mode), "0o40755")
             for seconds, expected in ((0, ["tidal-press"]), (SECONDS, f"status 503 for /find.json?{QUERY}")):
-                with in_place(site.ports, [lambda _: WHOLE] * 2, seconds):
+                with in_place(site.ports, [whole] * 2, seconds):
                     for name, address in (("readers", f"http://127.0.0.1:{site.port}"), ("probes", door)):
                         self.expect(f"{name}, of processes that take {seconds} s", links_at(address), expected)
 

@@ -1,6 +1,6 @@
-"""The processor time that the front door takes in njs for a request, and for the header Accept-Language, as a multiple
-of what a peer takes in the same run. The peer splits, decodes, encodes and joins the pairs of a usual request with
-JavaScript's own functions. On a slow or busy machine both take longer, and their ratio stays."""
+"""The processor time that the front door takes in njs for the reading of a request, and for the header Accept-Language,
+as a multiple of what a peer takes in the same run. The peer splits, decodes, encodes and joins the pairs of a usual
+request with JavaScript's own functions. On a slow or busy machine both take longer, and their ratio stays."""
 from __future__ import annotations
 
 import os
@@ -10,31 +10,39 @@ import tempfile
 
 from fixtures import needs
 from fixtures.cases import Case
-from front_door.test_rules import write_modules
+from fixtures.readings import write_modules
 
 TRIES = 9
 SECONDS = 20  # of processor time, after which a script that does not end is killed
 SCRIPT = """import languages from './languages.js';
-import openurl from './openurl.js';
-import sample from './sample.js';
-// All but the usual request have 8 KB, and so have the headers.
-const requests = {
-    usual: sample[0],
-    long: (sample[0] + '&rft.description=' + 'word+and%2C+'.repeat(700)).slice(0, 8192),
-    many: 'rft.issn=1234-567&'.repeat(455),
-    latin: 'atitle=%E9&'.repeat(740),
-    braces: ('rft.au=' + '{a}'.repeat(660) + '&').repeat(4),
-    accents: ('rft.au=' + '\\\\"o'.repeat(660) + '&').repeat(4),
-    formulas: ('rft.au=' + '$a{'.repeat(660) + '&').repeat(4),
-    remarks: 'rft.atitle=' + '(retracted '.repeat(740),
-    pasted: ('title=' + '10.5555/a)'.repeat(95) + '&').repeat(8),
-    lines: ('rft.source=' + '10.5555/%0A'.repeat(43) + '&').repeat(16),
-    brackets: ('rft_id=' + ')'.repeat(490) + '&').repeat(16),
-    numbers: ('rft.source=' + '1(1) '.repeat(98) + '&').repeat(16),
-    volumes: ('rft.volume=' + '1 Suppl '.repeat(25) + '&').repeat(38),
-    pages: ('rft.spage=' + '1-'.repeat(100) + '&').repeat(38),
-    digits: 'rft.date=' + '%D9%A1'.repeat(1360)
+import reading from './reading.js';
+const USUAL = 'ctx_ver=Z39.88-2004&rft_val_fmt=info%3Aofi%2Ffmt%3Akev%3Amtx%3Ajournal&rfr_id=info%3Asid%2Fexample.org'
+    + '&rft.genre=article&rft.atitle=Storm+surges+and+the+growth+of+eelgrass&rft.jtitle=Annals+of+Tidal+Studies'
+    + '&rft.issn=2901-0012&rft.eissn=2908-0142&rft.date=2003-05-01&rft.volume=12&rft.issue=3&rft.spage=101'
+    + '&rft.epage=118&rft.aulast=Smith&rft.aufirst=Jane&rft_id=info%3Adoi%2F10.5555%2Ftidal.2003';
+const pairs = USUAL.split('&').map((pair) => pair.split('=').map((it) => decodeURIComponent(it.split('+').join(' '))));
+function pairsOf(key, value, count) { return Array(count).fill(0).map(() => [key, value]); }
+// The replies of the program to a usual request, and to others of 8 KB, as it reads them.
+const readings = {
+    usual: pairs, long: pairs.concat([['rft.description', 'word and, '.repeat(900)]]),
+    many: pairsOf('rft.issn', '1234-567', 300), other: pairsOf('a', 'b', 300),
+    latin: [['rft.atitle', '\\xe9'.repeat(1300)]], marks: [['rft.atitle', '%&+'.repeat(1000)]],
+    issns: pairsOf('rft.issn', '2901-0012 '.repeat(20), 40),
+    isbns: [['x.isbn', '9781234560102']].concat(pairsOf('rft.isbn', '9781234560102 '.repeat(14), 40)),
+    digits: [['x.isbn', '9781234560102']].concat(pairsOf('rft.isbn', '1'.repeat(200), 40)),
+    identifiers: pairsOf('rft_id', 'https://pmc.ncbi.nlm.nih.gov/', 270)
 };
+Object.keys(readings).forEach((name) => {
+    const notes = { left_out: 0, retracted: false };
+    readings[name] = JSON.stringify({ links: [], notes, pairs: readings[name] });
+});
+// What the front door does with a reply, if something else is found.
+function read(text) {
+    const q = new reading.Reading(USUAL);
+    q.take(JSON.parse(text));
+    q.pmc();
+    return q.textToRead() + q.strictTexts().join(' ');
+}
 const headers = {
     commas: ','.repeat(8192),
     ranges: 'x-1-2-3-4-5-6;q=0.001,'.repeat(370),
@@ -44,40 +52,35 @@ const headers = {
 };
 const offered = 'en de fr es pt-BR zh-Hant ar he pl cs'.split(' ');
 function written(part) { return encodeURIComponent(decodeURIComponent(part.split('+').join(' '))); }
-function peer() { return requests.usual.split('&').map((pair) => pair.split('=').map(written).join('=')).join('&'); }
+function peer() { return USUAL.split('&').map((pair) => pair.split('=').map(written).join('=')).join('&'); }
 for (let i = 0; i < COUNT; i++) CALL;
 """
 # For each: how often a script calls it, so that no script takes long, and how many calls of the peer may at most take
-# as long as one of it. When these limits were set, it was 3, 7, 15 and 40, then 56, 97, 31, 6, 15, 37, 90, 17, 7, 5 and
-# 18, and 0.9, 5, 0.3, 0.3 and 1.4. A limit of 200 is 27 ms where the peer takes 0.14 ms.
+# as long as one of it. When these limits were set, it was 1.8, 5, 15, 19, 5, 4, 4, 20, 7 and 20, and for the headers
+# 1.7, 6, 0.4, 0.5 and 2.6. A limit of 40 is 2.4 ms where the peer takes 0.06 ms.
 REQUESTS: dict[str, tuple[int, float]] = {
-    "usual": (200, 5),
-    "long": (100, 12),
+    "usual": (200, 4),
+    "long": (100, 10),
     "many": (40, 30),
-    "latin": (15, 76),
-    "braces": (10, 110),
-    "accents": (10, 190),
-    "formulas": (10, 70),
-    "remarks": (10, 15),
-    "pasted": (10, 30),
-    "lines": (10, 75),
-    "brackets": (10, 180),
-    "numbers": (10, 35),
-    "volumes": (10, 15),
-    "pages": (10, 15),
-    "digits": (10, 40),
+    "other": (40, 38),
+    "latin": (15, 10),
+    "marks": (15, 9),
+    "issns": (15, 10),
+    "isbns": (15, 40),
+    "digits": (15, 15),
+    "identifiers": (15, 40),
 }
 HEADERS: dict[str, tuple[int, float]] = {
-    "commas": (400, 3),
-    "ranges": (100, 8),
-    "hyphens": (3000, 0.5),
-    "spaces": (3000, 0.5),
-    "stars": (300, 4),
+    "commas": (400, 4),
+    "ranges": (100, 16),
+    "hyphens": (3000, 1),
+    "spaces": (3000, 1),
+    "stars": (300, 6),
 }
 CALLS = {
     "nothing": ("0", 0),
     "peer": ("peer()", 500),
-    **{name: (f"openurl.requestOf(requests.{name})", count) for name, (count, _) in REQUESTS.items()},
+    **{name: (f"read(readings.{name})", count) for name, (count, _) in REQUESTS.items()},
     **{name: (f"languages.chosen(headers.{name}, offered)", count) for name, (count, _) in HEADERS.items()},
 }
 
@@ -105,7 +108,7 @@ def costs_of(least: dict[str, float]) -> dict[str, float]:
 
 @needs.command("njs")
 class Speed(Case):
-    """No request and no header costs more than its limit."""
+    """No reading and no header costs more than its limit."""
 
     def test_costs(self) -> None:
         """Each costs at most what it may. The least time of each script counts, since other processes on the machine
@@ -127,7 +130,7 @@ class Speed(Case):
                 names = ["nothing", "peer", *(name for name in costs if costs[name] > most[name])]
                 if len(names) == 2:
                     break
-        self.expect("requests and headers", len(costs), 20)
+        self.expect("readings and headers", len(costs), 15)
         for name, cost in costs.items():
             self.expect(
                 f"{name} costs {cost:.2f} times what the peer does, and {most[name]} are allowed", cost <= most[name]

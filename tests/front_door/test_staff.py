@@ -63,8 +63,11 @@ TITLES = [
     ">x",
     "\x00",
 ]
-# What the front door sends for those that have markup or are encoded twice.
-READ = {"%27": "'", "%2527": "%27", "<script>alert(1)</script>": "alert(1)", "&amp;&lt;": "&<"}
+# What the program reads in those that have markup or control characters, or are encoded twice.
+READ = {
+    "%27": "'", "a\nb": "a b", "a\r\nb": "a b", "\x01\x1b[31m\x7f": "[31m", "\x00": "",
+    "<script>alert(1)</script>": "alert(1)", "&amp;&lt;": "&<",
+}  # fmt: skip
 
 
 def page_parts(text: str) -> tuple[list[str], dict[str, list[str]], dict[str, list[int]], dict[str, str]]:
@@ -219,7 +222,7 @@ class Staff(SiteCase):
                         for key, value in parse_qsl(argument, keep_blank_values=True, errors="strict")
                         if key == "rft.atitle"
                     ]
-                    # A title without a letter has no value; the front door leaves its pair out.
+                    # A title without a letter has no value, and its pair does not count.
                     expected = READ.get(title, title)
                     self.expect(f"{name}: the title {title!r}", got[:1], [expected] if expected.strip() else [])
 
@@ -362,7 +365,7 @@ class Staff(SiteCase):
             )
         body = ("atitle=" + "%C3%A9" * 1300 + "&" + ARTICLE).encode()[:8192]
         reply = opened(
-            "a form", address_in(self.site.get("/find?sid=form&rft.note=" + "a" * 7000, "POST", body, FORM).text)
+            "a form", address_in(self.site.get("/find?sid=form&rft.note=" + "a" * 5700, "POST", body, FORM).text)
         )
         self.expect("staff see a form", (reply.status, "rft.issn=ANY" in reply.text), (200, True))
         self.expect("a redirect's page has the link", address_in(self.site.get(f"/go?{ARTICLE}").text) is not None)

@@ -95,6 +95,13 @@ class Titles(TitlesCase):
             self.data("title=A+history+of+harbours")["citation"],
             {"title": "A History of Harbours", "isbn": "9781234560102"},
         )
+        for title in ("978-1-234-56010-2", "ISBN:+9781234560102", "Harbours+ISBN+9781234560102"):
+            self.expect(
+                f"an ISBN in the field of a title, {title}",
+                self.data(f"title={title}")["citation"],
+                {"title": "A History of Harbours", "isbn": "9781234560102"},
+            )
+        self.expect("an unknown one", self.data("title=9780198534532")["citation"].get("isbn"), None)
         for second in (
             "jtitle=Ann+Tidal+Stud&title=Annals+of+Tidal+Studies",
             "stitle=Annals+of+Tidal+Studies&jtitle=x",

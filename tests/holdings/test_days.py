@@ -2,14 +2,11 @@
 from __future__ import annotations
 
 import datetime
-import json
 import os
-import shutil
-import subprocess
-import tempfile
 from typing import Any
 
 from fixtures import needs
+from fixtures import readings
 from fixtures.cases import Case
 from fixtures.made_versions import HEADER
 from fixtures.made_versions import Weeks
@@ -77,30 +74,13 @@ class Days(Case):
                 version.__exit__()
         self.expect("cases", len(cases()) >= 40)
 
-    @needs.command("njs")
+    @needs.program()
     def test_requests(self) -> None:
-        """The front door gives each date of the cases the days that they have."""
-        if not shutil.which("njs"):
-            return
-        dates = sorted({(date, start, end) for *_, date, start, end, _ in cases() if date})
-        with tempfile.TemporaryDirectory() as folder:
-            for name in os.listdir("front_door"):
-                if name.endswith(".js"):
-                    shutil.copy(f"front_door/{name}", folder)
-            with open(f"{folder}/days.js", "w", encoding="utf-8") as file:
-                file.write(
-                    "import openurl from './openurl.js';\nglobalThis.fold = { letters: {}, entities: {} };\n"
-                    f"{json.dumps([date for date, _, _ in dates])}.forEach(function (date) {{\n"
-                    "    console.log(openurl.requestOf('rft_val_fmt=x&rft.date=' + date));\n});\n"
-                )
-            done = subprocess.run(["njs", "-p", folder, f"{folder}/days.js"], capture_output=True, text=True)
-        found = [dict(pair.split("=") for pair in line.split("&")) for line in done.stdout.splitlines()]
-        self.expect(
-            "the days of requests",
-            [(it.get("x.from"), it.get("x.to")) for it in found],
-            [(start, end) for _, start, end in dates],
-        )
-        self.expect("njs", done.stderr, "")
+        """The program gives each date of the cases the days that they have."""
+        with readings.service() as port:
+            for date, start, end in sorted({(date, start, end) for *_, date, start, end, _ in cases() if date}):
+                pairs = dict(readings.reading_of(port, f"rft_val_fmt=x&rft.date={date}")["pairs"])
+                self.expect(f"the days of {date}", (pairs.get("x.from"), pairs.get("x.to")), (start, end))
 
     @needs.program()
     def test_columns(self) -> None:

@@ -63,10 +63,10 @@ class ServeCase(Case):
 @needs.program()
 @needs.nginx()
 class SampleLibrary(ServeCase):
-    """examples/library/serve, for three connections: the menu takes one, the reader's page two."""
+    """examples/library/serve, for two connections: the menu takes one, and so does the reader's page."""
 
     def test_both_addresses(self) -> None:
-        service = self.start("examples/library/serve", PROGRAM, "0", "3")
+        service = self.start("examples/library/serve", PROGRAM, "0", "2")
         assert service.stdout
         offers = [service.stdout.readline().rstrip("\n") for _ in range(2)]
         self.expect("what is offered", [re.sub(r" http://.*", "", it) for it in offers], ["open", "for readers"])

@@ -8,7 +8,7 @@ import tempfile
 from pathlib import Path
 from typing import Any
 
-from front_door.test_rules import write_modules
+from fixtures.readings import write_modules
 
 _HERE = Path(__file__).parent
 _AT_ONCE = 1000  # njs frees no memory before its end

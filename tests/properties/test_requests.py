@@ -1,4 +1,4 @@
-"""Requests as the front door reads them, in njs: twice is once, and no key passes that must not."""
+"""Requests as the program reads them for the front door: twice is once, and no key passes that must not."""
 from __future__ import annotations
 
 import re
@@ -6,7 +6,7 @@ import urllib.parse
 from typing import Any
 
 from fixtures import needs
-from properties import njs
+from fixtures import readings
 from properties.property_case import PropertyCase
 from properties.property_case import cases_of
 from properties.property_case import strategies as st
@@ -20,11 +20,10 @@ COLUMNS = """publication_title print_identifier online_identifier date_first_iss
     title_id embargo_info coverage_depth notes publisher_name publication_type date_monograph_published_print
     date_monograph_published_online monograph_volume monograph_edition first_editor parent_publication_title_id
     preceding_publication_title_id access_type coverage_from coverage_to""".split()
-# What the front door itself adds; a request's own have no effect.
-ADDED = {"x.issn", "x.eissn", "x.isbn", "x.from", "x.to", "x.doi", "x.pmid", "x.pmc", "x.oclc"}
-ROWS = {"rft.issn", "rft.eissn", "rft.isbn"}  # the keys that find rows, of which ANY takes the place
+# What a reading itself adds; a request's own have no effect.
+ADDED = {"x.issn", "x.eissn", "x.isbn", "x.from", "x.to", "x.doi", "x.doi_encoded", "x.pmid", "x.oclc"}
 NUMBERS = {"rft.issn", "rft.eissn", "rft.isbn", "issn", "eissn", "isbn"}
-MOST_BYTES, MOST_PAIRS, USUAL = 12_000, 300, 3_000
+MOST_BYTES, MOST_PAIRS = 14_000, 300
 VALUES = r"""2901-0012 29010012 2901-001X 0000-0000 9781234560102 0306406152 ANY a-n-y 12 53(2) Vol.+53 136+Suppl+1 Pt+8
     101-118 2344-55 e123 S12-20 xii-xx 12,+13 p.+101 N.PAG ARTN+e0123456 2901-0012 2013 2013-08 2013/8/1 25/12/2013
     1/2/2013 Aug+2013 Winter+2012/2013 2012;12(3):45-67 12(3),+45-67 Storm+surges Tides+%26+Storms Tides+&+Storms
@@ -72,33 +71,39 @@ def _requests() -> Any:
     return st.one_of(short, short, short, short, short, long).map(lambda it: it[1].join(it[0] * it[2]))
 
 
-def pairs_of(query: str) -> list[tuple[str, str]]:
-    pairs = [pair.partition("=") for pair in query.split("&") if pair]
-    return [(urllib.parse.unquote(key), urllib.parse.unquote_plus(value)) for key, _, value in pairs]
-
-
-def passed(query: str) -> list[tuple[str, str]]:
-    """The pairs that must not be in a query for the program."""
+def passed(pairs: list[list[str]]) -> list[list[str]]:
+    """The pairs that must not be in a reading."""
     return [
-        (key, value)
-        for key, value in pairs_of(query)
+        [key, value]
+        for key, value in pairs
         if key in COLUMNS
         or (key.startswith("x.") and key not in ADDED)
         or (key in NUMBERS and re.fullmatch(r"[- ]*a[- ]*n[- ]*y[- ]*", value, re.I))
     ]
 
 
+def again(pairs: list[list[str]]) -> str:
+    """The query with which the front door asks again."""
+    return urllib.parse.urlencode([(key, value) for key, value in pairs if not key.startswith("x.")])
+
+
 @needs.hypothesis()
-@needs.command("njs")
+@needs.program()
 class Requests(PropertyCase):
     requests: list[str]
-    read: list[list[str]]
+    read: list[list[list[str]]]
+    once: list[list[list[str]]]
+    twice: list[list[list[str]]]
 
     @classmethod
     def setUpClass(cls) -> None:
         super().setUpClass()
-        cls.requests = cases_of(_requests())
-        cls.read = njs.results_of("requests.js", cls.requests)
+        cls.requests = [request[:MOST_BYTES] for request in cases_of(_requests())]
+        with readings.service() as port:
+            found = [readings.reading_of(port, request) for request in cls.requests]
+            cls.read = [it["pairs"] for it in found]
+            cls.once = [pairs for pairs in cls.read if len(pairs) <= MOST_PAIRS and len(again(pairs)) <= MOST_BYTES]
+            cls.twice = [readings.reading_of(port, again(pairs))["pairs"] for pairs in cls.once]
 
     def setUp(self) -> None:
         super().setUp()
@@ -106,32 +111,12 @@ class Requests(PropertyCase):
         self.expect_cases(len(self.requests))
 
     def test_twice_is_once(self) -> None:
-        """Of a request of that many pairs that some are left out, the second reading leaves out others."""
-        usual = [
-            (args, *it[:2])
-            for args, it in zip(self.requests, self.read)
-            if len(args) < USUAL and it[0].count("&") < MOST_PAIRS
-        ]
-        faults = [it for it in usual if sorted(it[1].split("&")) != sorted(it[2].split("&"))]
+        """A request that is asked again, since nothing else was found, is read as it was."""
+        faults = [(one, two) for one, two in zip(self.once, self.twice) if one != two]
         self.expect_none("read twice", faults)
-        self.expect(f"{len(usual)} are not long", len(usual) > len(self.requests) // 2)
+        self.expect(f"{len(self.once)} are not long", len(self.once) > len(self.requests) // 2)
 
     def test_no_key_passes_that_must_not(self) -> None:
-        faults = [(args, passed(it[0])) for args, it in zip(self.requests, self.read) if passed(it[0])]
-        self.expect_none("passed", faults)
-        of_any = [
-            it[2]
-            for it in self.read
-            if passed(it[2]) != [("rft.issn", "ANY")] or sum(key in ROWS for key, _ in pairs_of(it[2])) != 1
-        ]
-        self.expect_none("passed for targets without a table", of_any)
-        many = sum("x.issn" in it[0] for it in self.read)
+        self.expect_none("passed", [(args, passed(it)) for args, it in zip(self.requests, self.read) if passed(it)])
+        many = sum(any(key == "x.issn" for key, _ in it) for it in self.read)
         self.expect(f"{many} with a number", many > len(self.read) // 20)
-
-    def test_lengths(self) -> None:
-        """None is longer than what the program reads, and the second reading adds nothing to the first."""
-        self.expect_none("long", [it[0] for it in self.read if max(map(len, it)) > MOST_BYTES])
-        longer = [(args, *it[:2]) for args, it in zip(self.requests, self.read) if len(it[1]) > len(it[0])]
-        self.expect_none("longer the second time", longer)
-        longest = max(map(len, self.requests))
-        self.expect(f"a request of {longest} characters", longest > MOST_BYTES)

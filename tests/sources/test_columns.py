@@ -1,6 +1,6 @@
-"""The columns of holdings tables: in front_door/query.js, which drops them from requests, and in the update, which
-finds headers by them, they are those of the crate standard_names, in their order; the last of these, which the update
-adds, are those in its module for them; and so is each list of them in a script or an example."""
+"""The columns of holdings tables: in the update, which finds headers by them, they are those of the crate
+standard_names, in their order; the last of these, which the update adds, are those in its module for them, and the
+reading of a request drops all of them; and so is each list of them in a script or an example."""
 from __future__ import annotations
 
 import os
@@ -13,13 +13,13 @@ from fixtures.cases import Case
 
 HEADERS = "update/openlink_update/received/column_names.py"
 CRATE = "crates/standard_names/src/columns.rt"
-FRONT_DOOR = "front_door/query.js"
+READING = "crates/openurl_reading/src/counting.rt"
 UPDATE = "update/openlink_update/tables/coverage.py"
-# The column that it adds where rules name it.
+# The column that it adds where rules name it, which requests may not have either.
 PAGES = "update/openlink_update/rules/pages.py"
 FOLDERS = ("benches", "examples", "front_door", "packaging", "tests", "update")
 # Each of these has a list of all columns somewhere.
-WITH_LISTS = (("front_door", "update"), ("tests",), ("examples",))
+WITH_LISTS = (("update",), ("tests",), ("examples",))
 # A list with more names of columns than this is meant to have all of them.
 MOST_OF_A_PART = 20
 # The keys of a request may leave these out.
@@ -44,17 +44,13 @@ def columns(top: str) -> tuple[list[str], list[str]]:
 
 def faults_of_columns(top: str) -> list[str]:
     expected, last = columns(top)
-    listed = part(top, FRONT_DOOR, r"\bconst COLUMNS = ' ' \+ \((.*?)\) \+ ' ';")
+    dropped = quoted(part(top, READING, r"\bis_one_of\(known_columns\(\), key\)(.*?)\n"))
     added = quoted(part(top, UPDATE, r"\b_COLUMNS = \((.*?)\)"))
     page = quoted(part(top, PAGES, r"\nCOLUMN, NO_PAGE = (.*?)\n"))[:1]
     same = {
         f"the last columns of {CRATE}, and those that {UPDATE} adds": (last, added),
         HEADERS: (quoted(part(top, HEADERS, r"\nCOLUMNS = \((.*?)\n\)")), expected),
-        FRONT_DOOR: ("".join(re.findall(r"'([^']*)'", listed)).split(" "), expected),
-        f"those that {FRONT_DOOR} adds": (
-            part(top, FRONT_DOOR, r"\bconst ADDED_COLUMNS = ' (.*?) ';").split(" "),
-            [*added, *page],
-        ),
+        f"those that {READING} drops beside these": (dropped, page),
     }
     found = [
         f"{what}: {sorted({*got} ^ {*wanted}) or 'another order'}"
@@ -108,7 +104,7 @@ class Columns(Case):
 
 # What is changed in a copy of a file.
 SPOILT = [
-    (FRONT_DOOR, "parent_publication_title_id", "parent_title_id"),
+    (READING, '== "title_page"', '== "page"'),
     (HEADERS, '"notes"', '"note"'),
     (CRATE, '"embargo_info"', '"embargo"'),
     (UPDATE, 'COLUMNS = ("', 'COLUMNS = ("other", "'),
@@ -122,7 +118,7 @@ class SpoiltColumns(Case):
         room = tempfile.TemporaryDirectory()
         self.addCleanup(room.cleanup)
         self.top = room.name
-        for path in (HEADERS, CRATE, FRONT_DOOR, UPDATE, PAGES):
+        for path in (HEADERS, CRATE, READING, UPDATE, PAGES):
             os.makedirs(os.path.dirname(f"{self.top}/{path}"), exist_ok=True)
             shutil.copy(path, f"{self.top}/{path}")
         for folder in FOLDERS:

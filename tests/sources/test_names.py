@@ -29,7 +29,7 @@ GLOBALS = set(
     """.split()
 )
 BUILT_IN = {"fs", "crypto"}
-MADE = {"sample", "fold"}  # modules that the tests of the front door write
+MADE = {"fold", "readings"}  # modules that the tests of the front door write
 IMPORT = re.compile(r"import (\w+) from '?(?:\./)?(\w+)\.js'?")
 # A file, whose name no other one has, a text in it, what takes its place, and what is found then.
 SPOILT = (

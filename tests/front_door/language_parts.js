@@ -1,77 +1,7 @@
-// The cases of free forms: references, volumes and pages, identifiers, remarks, and languages. Each is its name, what
-// the modules give, and what was expected.
-import addresses from './addresses.js';
-import identifying from './identifiers.js';
+// The cases of languages, their texts and the sites that have them. Each is its name, what the modules give, and what
+// was expected.
 import languages from './languages.js';
-import openurl from './openurl.js';
-import references from './references.js';
-import retractions from './retractions.js';
-import identifierCases from './identifier_cases.js';
 import languageCases from './language_cases.js';
-import referenceCases from './reference_cases.js';
-import remarkCases from './remark_cases.js';
-import volumeCases from './volume_cases.js';
-
-const NAMES = ['name', 'volume', 'issue', 'pages', 'year'];
-
-function ofReferences() {
-    const read = (text, isTitle) => {
-        const parts = references.partsOf(text, isTitle);
-        return parts === null ? 'none' : NAMES.map((name) => parts[name] || '').join('|');
-    };
-    return referenceCases.OF_SOURCES.map((it) => ['the reference ' + it[0], read(it[0], false), it[1]])
-        .concat(referenceCases.OF_TITLES.map((it) => ['in a title, ' + it[0], read(it[0], true), it[1]]));
-}
-
-function ofVolumes() {
-    const read = (pairs, first, second) => {
-        const given = pairs.filter((it) => it[1] !== '');
-        const q = openurl.queryOf('rft_val_fmt=x&' + given.map((it) => 'rft.' + it[0] + '=' + encodeURIComponent(it[1]))
-            .join('&'));
-        return q.first(first) + '|' + q.first(second);
-    };
-    const counts = (pairs) => read(pairs, 'rft.volume', 'rft.issue');
-    const pages = (pairs) => read(pairs, 'rft.spage', 'rft.epage');
-    return volumeCases.COUNTS.map((it) => ['the ' + it[0] + ' ' + it[1], counts([it]), it[2]])
-        .concat(volumeCases.BOTH.map((it) => {
-            return ['the volume ' + it[0] + ', issue ' + it[1], counts([['volume', it[0]], ['issue', it[1]]]), it[2]];
-        }), volumeCases.PAGES.map((it) => ['the page of ' + it[0] + ' ' + it[1], pages([it]), it[2]]),
-        volumeCases.TOGETHER.map((it) => {
-            const pairs = ['spage', 'epage', 'pages', 'artnum'].map((key, i) => [key, it[i]]);
-            return ['the pages of ' + it.slice(0, 4).join(), pages(pairs), it[4]];
-        }));
-}
-
-// The kind of an identifier, the key and the beginning of the URI of which it is known, and the number.
-const KINDS = {
-    doi: ['x.doi', 'info:doi/'], pmid: ['x.pmid', 'info:pmid/'], oclc: ['x.oclc', 'info:oclcnum/'],
-    issn: ['rft.issn', 'urn:ISSN:'], isbn: ['rft.isbn', 'urn:ISBN:'],
-    pmc: ['pmc', 'https://pmc.ncbi.nlm.nih.gov/articles/PMC'], arxiv: ['arxiv', 'info:doi/']
-};
-function kindAndNumber(it) {
-    if (it === null) return 'none';
-    const kind = Object.keys(KINDS).find((one) => KINDS[one][0] === it[0]);
-    const isUri = it[2] === KINDS[kind][1] + it[1] + (kind === 'pmc' ? '/' : '');
-    return kind + ' ' + (kind === 'arxiv' ? it[1].replace('10.48550/arXiv.', '') : it[1]) + (isUri ? '' : ' ' + it[2]);
-}
-function pastedIn(title) {
-    const it = identifying.pastedIn(title);
-    return it === null ? 'none' : it.found.map(kindAndNumber).join(', ') + '|' + it.rest;
-}
-function ofIdentifiers() {
-    return identifierCases.IDENTIFIERS.map((it) => {
-        const found = kindAndNumber(identifying.identifierIn(it[0], it[1]));
-        return ['the identifier ' + it[0] + ' under ' + it[1], found, it[2]];
-    }).concat(identifierCases.PASTED.map((it) => {
-        return ['pasted, ' + it[0], pastedIn(it[0]), it[1] === 'none' ? 'none' : it[1] + '|' + it[2]];
-    }), identifierCases.PAGES.map((it) => {
-        return ['the page ' + it[0], kindAndNumber(addresses.identifierIn(it[0])), it[1]];
-    }));
-}
-
-function ofRemarks() {
-    return remarkCases.REMARKS.map((it) => ['without a remark, ' + it[0], retractions.withoutRemark(it[0]), it[1]]);
-}
 
 function directionOf(language) {
     const name = 'words_' + language.split('-').join('_');
@@ -161,6 +91,4 @@ function ofLanguages() {
         ofSites());
 }
 
-function all() { return ofReferences().concat(ofVolumes(), ofIdentifiers(), ofRemarks(), ofLanguages()); }
-
-export default { all };
+export default { all: ofLanguages };
